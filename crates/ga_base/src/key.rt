@@ -1,0 +1,34 @@
+use crate::{Listing, Panel, Text};
+
+/// What lines are counted under: a panel's entry on a day.
+///
+/// Keys are ordered by their fields, in this order.
+#[derive(Debug, PartialEq, Eq, PartialOrd, Ord, Hash, Clone, Drop)]
+pub struct Key {
+    /// The panel.
+    pub panel: Panel,
+    /// The day, `10000 * year + 100 * month + day`.
+    pub date: u32,
+    /// The group in a panel with groups, else empty.
+    pub parent: Text,
+    /// The entry's data, as the host; empty for a group itself.
+    pub label: Text,
+    /// The method in a panel of requests, else empty.
+    pub method: Text,
+    /// The protocol in a panel of requests, else empty.
+    pub protocol: Text,
+}
+
+/// A list of keys.
+pub type Keys = Listing<Key>;
+
+/// Requests with the same host, date and agent are one visitor.
+#[derive(Debug, PartialEq, Eq, PartialOrd, Ord, Hash, Clone, Drop)]
+pub struct Visitor {
+    /// The client's address.
+    pub host: Text,
+    /// The day, `10000 * year + 100 * month + day`.
+    pub date: u32,
+    /// The user agent.
+    pub agent: Text,
+}
