@@ -1,0 +1,10 @@
+use Rattle.std.proofs.Common.{ap, ◌∙◌}
+use Rattle.std.specs.Option.{is_none}
+use Rattle.ga_ports.proofs.Contents.{bytes_at-place_of, is_none-place_of, grown-at, grown-absent, moved-at, moved-absent, same-at}
+use Rattle.ga_ports.proofs.mem_files.find.Goals as goal
+
+pub returns-clause-absent : goal.returns-clause-absent
+returns-clause-absent c = ap is_none c.first.ensures ∙ is_none-place_of c.args.name.now c.args.contents.now
+
+pub returns-clause-bytes : goal.returns-clause-bytes
+returns-clause-bytes c = rw c.first.ensures (bytes_at-place_of c.args.name.now c.args.contents.now)

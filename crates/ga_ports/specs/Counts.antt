@@ -1,0 +1,15 @@
+-- Counts of a form, each of which stands still at its last value, and the calls that are listed to fail.
+use Rattle.std.specs.Prelude.{ℕ, ◌+◌, ◌-◌, ◌^◌, ◌≤◌, ◌==◌, Bool, List, max, min}
+use Rattle.std.specs.List.{list_any}
+
+-- the count after n more: it stops at its last value
+abbrev pub raised : ℕ → ℕ → ℕ
+raised count n = max count (min (count + n) (2 ^ 64 - 1))
+
+-- the count is greater than before, or stands at its last value
+abbrev pub Rose : ℕ → ℕ → Type 0
+Rose before now = min (before + 1) (2 ^ 64 - 1) ≤ now
+
+-- the call after so many calls is listed to fail
+abbrev pub is_due : List ℕ → ℕ → Bool
+is_due listed calls = list_any (λ call. call == raised calls 1) listed

@@ -1,0 +1,21 @@
+//! The outside: traits by which a run reads files and writes its report, and forms of them in memory.
+//!
+//! Contracts see a form as one plain record (`specs/Files.antt`, `specs/Outs.antt`), and each call says the whole
+//! new record. Start with `Files` and `Outs`; `MemFiles` and `MemOuts` tell their contents and which calls fail.
+#![tactic(auto)]
+
+mod file_counts;
+mod files;
+mod listed;
+mod mem_files;
+mod mem_outs;
+mod outs;
+mod sink;
+mod target_counts;
+
+pub use file_counts::{FileCounts, is_short};
+pub use files::{Failed, Files};
+pub use mem_files::MemFiles;
+pub use mem_outs::MemOuts;
+pub use outs::{Outs, To};
+pub use target_counts::TargetCounts;

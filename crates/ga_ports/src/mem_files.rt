@@ -1,0 +1,219 @@
+ghost use Rattle.std.specs.Prelude.{◌≡◌, ◌≤◌, ◌<◌, OnOk, OnErr, IfSome, is_none, length};
+ghost use Rattle.std.specs.Option.{ForSome};
+ghost use Rattle.ga_ports.specs.Contents.{pairs, bytes_at, place_of};
+ghost use Rattle.ga_ports.specs.Files.{AreBytesAt, content_of};
+ghost use Rattle.ga_ports.specs.MemFiles.{no_files, after_growth, after_renaming, after_listing, grown, renamed};
+
+use crate::listed::is_due;
+use crate::{Failed, FileCounts, Files, is_short};
+use ga_base::{NoMemory, Text};
+use std::alloc::Global;
+use std::marker::Model;
+
+/// One file in memory.
+#[derive(Debug, Drop)]
+struct Content {
+    name: Text,
+    bytes: Vec<u8>,
+}
+
+/// Files in memory, whose contents are told, with a list of the calls that are to fail.
+#[derive(Debug, Drop)]
+pub struct MemFiles {
+    alloc: Global,
+    contents: Vec<Content>,
+    /// The place of the open file in `contents`.
+    current: Option<usize>,
+    measured: Option<u64>,
+    counts: FileCounts,
+    failing: Vec<u64>,
+}
+
+impl Model for MemFiles {
+    ghost use Rattle.std.specs.Prelude.{◌<◌, is_some, Some, vec_len};
+    ghost use Rattle.std.specs.Option.{ForSome};
+    ghost use Rattle.ga_ports.specs.Files.{FilesView};
+    ghost use Rattle.ga_ports.specs.Contents.{pairs, bytes_at};
+
+    ghost Value = { FilesView };
+
+    ghost view = { λ m. record {
+      contents = Some (pairs m.contents.items);
+      listed = Some m.failing.items;
+      is_open = is_some m.current;
+      bytes = bytes_at m.current (pairs m.contents.items);
+      measured = m.measured;
+      counts = m.counts;
+    } };
+
+    ghost invariant = { λ m. ForSome m.current (λ i. i < vec_len m.contents) };
+}
+
+impl MemFiles {
+    /// No files, none of whose calls is to fail.
+    pub fn new(alloc: Global) -> MemFiles
+        ensures { result ≡ no_files }
+    {
+        MemFiles {
+            alloc,
+            contents: Vec::new(alloc),
+            current: None,
+            measured: None,
+            counts: FileCounts::ZERO,
+            failing: Vec::new(alloc),
+        }
+    }
+
+    /// Appends bytes to the file of this name, which is made where it isn't there. The open file is let go.
+    /// After an `Err` the files are as they were.
+    pub fn grow(&mut self, name: &Text, bytes: &[u8]) -> Result<(), NoMemory>
+        ensures ok { OnOk result (self.new ≡ after_growth name.now bytes.now self.old) }
+        ensures err { OnErr result (self.new ≡ self.old) }
+    {
+        append(self.alloc, &mut self.contents, name, bytes)?;
+        self.current = None;
+        self.measured = None;
+        Ok(())
+    }
+
+    /// Changes the name of a file, where `from` is there and `to` isn't. The open file is let go.
+    /// After an `Err` the files are as they were.
+    pub fn rename(&mut self, from: &Text, to: &Text) -> Result<(), NoMemory>
+        ensures ok { OnOk result (self.new ≡ after_renaming from.now to.now self.old) }
+        ensures err { OnErr result (self.new ≡ self.old) }
+    {
+        let name = to.clone()?;
+        change_name(&mut self.contents, from, name);
+        self.current = None;
+        self.measured = None;
+        Ok(())
+    }
+
+    /// Lists a call that is to fail, counted from 1 over all calls of `Files` since the form was made.
+    /// After an `Err` the list is as it was.
+    pub fn fail_at(&mut self, call: u64) -> Result<(), NoMemory>
+        ensures ok { OnOk result (self.new ≡ after_listing call self.old) }
+        ensures err { OnErr result (self.new ≡ self.old) }
+    {
+        self.failing.push(call)?;
+        Ok(())
+    }
+
+    /// The number of bytes handed out so far.
+    pub fn bytes_given(&self) -> u64
+        ensures { result ≡ self.now.counts.given }
+    {
+        self.counts.given
+    }
+}
+
+impl Files for MemFiles {
+    ghost view = { λ m. m };
+
+    fn open(&mut self, name: &Text) -> Result<(), Failed> {
+        let found = find(&self.contents, name);
+        let fails = is_due(&self.failing, self.counts.calls) || found.is_none();
+        self.current = None;
+        self.measured = None;
+        self.counts.ask(found.is_none());
+        if fails {
+            self.counts.fail();
+            return Err(Failed);
+        }
+        self.counts.call();
+        self.current = found;
+        Ok(())
+    }
+
+    fn size(&mut self) -> Result<u64, Failed> {
+        if is_due(&self.failing, self.counts.calls) {
+            self.counts.fail();
+            return Err(Failed);
+        }
+        self.counts.call();
+        let size = open_bytes(&self.contents, self.current).len() as u64;
+        self.measured = Some(size);
+        Ok(size)
+    }
+
+    fn read_at(&mut self, at: u64, into: &mut [u8]) -> Result<usize, Failed> {
+        if is_due(&self.failing, self.counts.calls) {
+            self.counts.fail();
+            return Err(Failed);
+        }
+        self.counts.call();
+        let count = copy_from(open_bytes(&self.contents, self.current), at, into);
+        let short = is_short(self.measured, at, into.len(), count);
+        self.counts.give(short, at, count);
+        Ok(count)
+    }
+}
+
+/// The place of the first file of this name.
+fn find(contents: &[Content], name: &Text) -> Option<usize>
+    ensures place { result ≡ place_of name.now contents.now }
+    ensures absent { is_none result ≡ is_none (content_of name.now (pairs contents.now)) }
+    ensures bytes { bytes_at result (pairs contents.now) ≡ content_of name.now (pairs contents.now) }
+    ensures within { ForSome result (λ place. place < length contents.now) }
+{
+    first(contents, name)
+}
+
+fn first(contents: &[Content], name: &Text) -> Option<usize>
+    ensures { result ≡ place_of name.now contents.now }
+{
+    contents.iter().position(|content| content.name == *name)
+}
+
+/// Appends to the file of this name, or adds it.
+fn append(
+    alloc: Global,
+    contents: &mut Vec<Content>,
+    name: &Text,
+    bytes: &[u8],
+) -> Result<(), NoMemory>
+    ensures ok { OnOk result (pairs contents.new.items ≡ grown name.now bytes.now (pairs contents.old.items)) }
+    ensures err { OnErr result (pairs contents.new.items ≡ pairs contents.old.items) }
+{
+    if let Some(place) = find(contents, name) {
+        contents[place].bytes.extend_from_slice(bytes)?;
+        return Ok(());
+    }
+    let name = name.clone()?;
+    let bytes = Vec::from_slice(alloc, bytes)?;
+    contents.push(Content { name, bytes })?;
+    Ok(())
+}
+
+/// Changes the first name `from`, where there is one and no `to`.
+fn change_name(contents: &mut Vec<Content>, from: &Text, to: Text)
+    ensures { pairs contents.new.items ≡ renamed from.now to (pairs contents.old.items) }
+{
+    if find(contents, &to).is_some() {
+        return;
+    }
+    if let Some(place) = find(contents, from) {
+        contents[place].name = to;
+    }
+}
+
+/// The bytes of the open file; none where nothing is open.
+fn open_bytes(contents: &[Content], current: Option<usize>) -> &[u8]
+    ensures { IfSome (bytes_at current (pairs contents.now)) (λ bytes. result.now ≡ bytes) }
+{
+    match current {
+        Some(place) if place < contents.len() => &contents[place].bytes,
+        _ => &[],
+    }
+}
+
+/// Copies as many bytes as fit from a place on, and answers how many.
+fn copy_from(bytes: &[u8], at: u64, into: &mut [u8]) -> usize
+    ensures bytes { AreBytesAt at result into.new bytes.now }
+    ensures fits { result ≤ length into.old }
+{
+    let start = bytes.len().min(at as usize);
+    let count = into.len().min(bytes.len() - start);
+    into[..count].copy_from_slice(&bytes[start..start + count]);
+    count
+}

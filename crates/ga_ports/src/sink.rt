@@ -1,0 +1,59 @@
+ghost use Rattle.std.specs.Prelude.{◌≡◌, ℕ, length};
+ghost use Rattle.ga_ports.specs.Outs as outs;
+ghost use Rattle.ga_ports.specs.MemOuts.{TakesFront, empty_target, sink_view};
+
+use crate::{Failed, TargetCounts};
+use std::alloc::Global;
+
+/// One target in memory.
+#[derive(Debug, Drop)]
+pub struct Sink {
+    pub bytes: Vec<u8>,
+    pub counts: TargetCounts,
+    /// How many bytes it still takes, where it has a room.
+    pub room: Option<u64>,
+}
+
+impl Sink {
+    /// A target that holds nothing and has no room set.
+    pub fn new(alloc: Global) -> Sink
+        ensures { sink_view result ≡ empty_target }
+    {
+        Sink {
+            bytes: Vec::new(alloc),
+            counts: TargetCounts::ZERO,
+            room: None,
+        }
+    }
+
+    /// Takes the front of the piece that fits, where the call isn't due to fail and something of the room is left.
+    /// Want of memory is counted in `starved`.
+    pub fn take(&mut self, due: bool, starved: &mut u64, piece: &[u8]) -> Result<usize, Failed>
+        ensures { TakesFront due piece.now (sink_view self.old) (sink_view self.new) starved.old starved.new result }
+    {
+        if due || self.room == Some(0) {
+            self.counts.fail();
+            return Err(Failed);
+        }
+        let count = fitting(self.room, piece.len());
+        if self.bytes.extend_from_slice(&piece[..count]).is_err() {
+            self.counts.fail();
+            *starved = starved.saturating_add(1);
+            return Err(Failed);
+        }
+        self.counts.take(count);
+        self.room = self.room.map(|room| room.saturating_sub(count as u64));
+        Ok(count)
+    }
+}
+
+/// How many of so many bytes fit in a room.
+fn fitting(room: Option<u64>, count: usize) -> usize
+    ensures { result ≡ outs.fitting room count }
+{
+    match room {
+        None => count,
+        Some(room) if room < count as u64 => room as usize,
+        Some(_) => count,
+    }
+}
