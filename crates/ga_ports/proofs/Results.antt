@@ -8,3 +8,15 @@ on_err (Err e) p = p
 pub if_some-along : {A : Type 0} (P : A → Type 0) → (o : Option A) (x : A) → IfSome o (λ y. x ≡ y) → P x → IfSome o P
 if_some-along P None x e p = tt
 if_some-along P (Some y) x e p = subst P e p
+
+pub if_some-all : {A : Type 0} (P : A → Type 0) → (o : Option A) → ((x : A) → P x) → IfSome o P
+if_some-all P None all = tt
+if_some-all P (Some x) all = all x
+
+pub if_some-map : {A : Type 0} (P Q : A → Type 0) → (o : Option A) → ((x : A) → P x → Q x) → IfSome o P → IfSome o Q
+if_some-map P Q None step p = tt
+if_some-map P Q (Some x) step p = step x p
+
+pub if_some-both : {A : Type 0} (P Q R : A → Type 0) → (o : Option A) → ((x : A) → P x → Q x → R x) → IfSome o P → IfSome o Q → IfSome o R
+if_some-both P Q R None step p q = tt
+if_some-both P Q R (Some x) step p q = step x p q

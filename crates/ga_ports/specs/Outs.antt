@@ -76,7 +76,7 @@ after_failure to starved v = record (with_target to (fails_once (target to v)) (
 
 pub record Writes {E : Type 0} (to : To) (piece : List ℕ) (old new : OutsView) (result : Result ℕ E) : Type 0 where
   pub ok : IfOk result (λ n. (n ≤ length piece) × (0 < length piece → 0 < n) × (new ≡ after to (take n piece) old))
-  pub failed : OnErr result (new ≡ after_failure to new.starved old)
+  pub failed : OnErr result ((new ≡ after_failure to new.starved old) × (old.starved ≤ new.starved))
 
 -- the view after a file was made, which is empty
 abbrev pub after_making : List ℕ → OutsView → OutsView
@@ -89,7 +89,7 @@ after_making name v = record (calls_once v) {
 
 pub record Creates {E : Type 0} (name : List ℕ) (old new : OutsView) (result : Result (Unit {0}) E) : Type 0 where
   pub ok : OnOk result (new ≡ after_making name old)
-  pub failed : OnErr result (new ≡ record (after_failure File new.starved old) { made = raised old.made 1 })
+  pub failed : OnErr result ((new ≡ record (after_failure File new.starved old) { made = raised old.made 1 }) × (old.starved ≤ new.starved))
 
 -- a call fails where it is bound to, and else for want of memory alone, which is counted
 pub record FailsExactly {A E : Type 0} (bound : Bool) (old new : OutsView) (result : Result A E) : Type 0 where

@@ -1,0 +1,6 @@
+pub mod Items
+pub mod Calendar
+pub mod Spelling
+pub mod Grammar
+pub mod Reading
+pub mod Compile

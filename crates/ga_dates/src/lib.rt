@@ -1,0 +1,25 @@
+//! Date and time formats of log lines. `compile_date` and `compile_time` make one of a text such as `%d/%b/%Y`; `read_date`,
+//! `read_time` and `read_both` read what it spells, and take no memory.
+//!
+//! Start with `DateFormat`, which contracts see as the list of its items. `specs/Grammar.antt` says which items a format's
+//! text stands for and where its fault is, `specs/Spelling.antt` which texts the items spell, and `specs/Calendar.antt` which
+//! days there are. `proofs/OneFormat.antt` shows that a text is at most one format, or has at most one fault.
+#![tactic(auto)]
+
+mod calendar;
+mod compile;
+mod directive;
+mod format;
+mod item;
+mod kind;
+mod number;
+mod parts;
+mod read;
+#[cfg(test)]
+mod tests;
+
+pub use format::{DEFAULT_DATE, DEFAULT_TIME, DateFormat, TimeFormat, compile_date, compile_time};
+pub use item::{Item, Part};
+pub use kind::Kind;
+pub use parts::Parts;
+pub use read::{read_both, read_date, read_time};

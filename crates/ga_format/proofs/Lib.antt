@@ -1,0 +1,6 @@
+mod UnitLemmas
+mod RowLemmas
+mod Reading
+mod Faults
+mod Answering
+mod EveryText

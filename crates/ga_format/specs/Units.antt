@@ -1,0 +1,72 @@
+-- The grammar of a format text: it is a row of units, one behind the other.
+use Rattle.std.specs.Prelude.{◌≡◌, ◌≢◌, ◌==◌, ℕ, Bool, true, false, if◌then◌else◌, List, [], ◌∷◌, ◌++◌, map, codes, ◌⊎◌}
+use Rattle.std.specs.List.{list_any}
+use Rattle.ga_base.specs.declared.formats.FormatItem.{FormatItem}
+use Rattle.ga_base.specs.declared.formats.FormatItem.TheVariants.{Literal, Skip, Field, Forwarded}
+
+-- a unit of a format text, as the user writes it
+pub data FormatUnit : Type 0 where
+  Plain : ℕ → FormatUnit  -- a byte that stands for itself
+  Tab : FormatUnit  -- `\t`
+  Specifier : ℕ → FormatUnit  -- `%x`: a percent sign and a letter
+  ForwardedFor : List ℕ → FormatUnit  -- `~h{C}` with the bytes C
+
+-- the bytes that spell a unit
+abbrev pub written : FormatUnit → List ℕ
+written (Plain byte) = byte ∷ []
+written Tab = codes "\\t"
+written (Specifier letter) = codes "%" ++ (letter ∷ [])
+written (ForwardedFor separators) = codes "~h{" ++ (separators ++ codes "}")
+
+-- the item that a unit gives: `\t` is a literal tab, `%~` passes white space over, any other letter names a field
+abbrev pub item_of : FormatUnit → FormatItem
+item_of (Plain byte) = Literal byte
+item_of Tab = Literal 9
+item_of (Specifier letter) = if letter == 126 then Skip else Field letter
+item_of (ForwardedFor separators) = Forwarded separators
+
+abbrev pub items_of : List FormatUnit → List FormatItem
+items_of = map item_of
+
+-- whether the byte is among these
+abbrev pub has : ℕ → List ℕ → Bool
+has byte bytes = list_any (λ b. b == byte) bytes
+
+-- the letters that may follow a percent sign
+abbrev pub letters : List ℕ
+letters =
+    codes "xtd"  -- date and time, time, date
+    ++ codes "veC"  -- virtual host, remote user, cache status
+    ++ codes "h"  -- client address
+    ++ codes "rmUqH"  -- request line, method, URL path, query string, protocol
+    ++ codes "sbRu"  -- status, size, referrer, user agent
+    ++ codes "KM"  -- TLS settings, MIME type
+    ++ codes "DTL"  -- microseconds, seconds with decimals, milliseconds with decimals
+    ++ codes "^~"  -- a field that is ignored, white space that is passed over
+
+-- the text has these bytes at its front
+abbrev pub StartsWith : List ℕ → List ℕ → Type 0
+StartsWith text front = (rest : List ℕ) × (text ≡ front ++ rest)
+
+-- Whether this is a unit of the grammar where these bytes come after it. A byte stands for itself only where no other
+-- unit's beginning stands. C has a byte, and runs to the first `}` (125).
+abbrev pub IsUnit : FormatUnit → List ℕ → Type 0
+IsUnit (Plain byte) after = ¬ StartsWith (byte ∷ after) (codes "%") × ¬ StartsWith (byte ∷ after) (codes "\\t") × ¬ StartsWith (byte ∷ after) (codes "~h{")
+IsUnit Tab after = Unit {0}
+IsUnit (Specifier letter) after = has letter letters ≡ true
+IsUnit (ForwardedFor separators) after = (separators ≢ []) × (has 125 separators ≡ false)
+
+-- the text begins with this unit, and these bytes come after it
+pub record Begins (unit : FormatUnit) (text after : List ℕ) : Type 0 where
+  pub spelled : text ≡ written unit ++ after
+  pub is_unit : IsUnit unit after
+
+-- the text begins with this row of units, and these bytes come after it
+abbrev pub IsRow : List FormatUnit → List ℕ → List ℕ → Type 0
+IsRow [] text after = text ≡ after
+IsRow (unit ∷ units) text after = (more : List ℕ) × Begins unit text more × IsRow units more after
+
+-- the text begins with a `%` or a `~h{` that begins no unit
+pub record IsUnknown (text : List ℕ) : Type 0 where
+  pub begun : StartsWith text (codes "%") ⊎ StartsWith text (codes "~h{")
+  pub none : (unit : FormatUnit) (after : List ℕ) → Begins unit text after → ⊥

@@ -1,0 +1,6 @@
+mod FitLemmas
+mod FreeLemmas
+pub mod LineLemmas
+mod PlaceLemmas
+pub mod ReadLemmas
+mod SizeLemmas

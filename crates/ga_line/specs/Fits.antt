@@ -1,0 +1,64 @@
+-- When a line fits the items of a log format, and which texts its fields then have: cases on the items,
+-- in their order, each on a suffix of the line. The items are those of GoAccess's log formats; that a
+-- backslash hides a double quote is our own rule.
+use Rattle.std.specs.Prelude.{◌≡◌, ◌≢◌, ℕ, ◌⊎◌, ◌==◌, Bool, false, ◌&&◌, ◌||◌, nat_le, List, [], ◌∷◌, ◌++◌, Option, Some, None, fold, if◌then◌else◌}
+use Rattle.std.specs.List.{AllPass}
+use Rattle.ga_base.specs.declared.formats.FormatItem.{FormatItem}
+use Rattle.ga_base.specs.declared.formats.FormatItem.TheVariants.{Literal, Skip, Field, Forwarded}
+
+abbrev pub double_quote : ℕ
+double_quote = 34
+
+abbrev pub backslash : ℕ
+backslash = 92
+
+-- A text in which no field ends that ends at the byte `stop`: it is made of bytes other than `stop`. Where
+-- `stop` is the double quote, a backslash stands only together with the byte after it, which may be any.
+pub data IsFree (stop : ℕ) : List ℕ → Type 0 where
+  nothing : IsFree stop []
+  byte : {b : ℕ} {text : List ℕ} → b ≢ stop → (stop ≡ double_quote → b ≢ backslash) → IsFree stop text → IsFree stop (b ∷ text)
+  pair : {a b : ℕ} {text : List ℕ} → stop ≡ double_quote → a ≡ backslash → IsFree stop text → IsFree stop (a ∷ b ∷ text)
+
+-- the field that begins `rest` has this text, and `after` follows the first place at which it can end
+pub record EndsAt (stop : ℕ) (rest text after : List ℕ) : Type 0 where
+  pub split : rest ≡ text ++ stop ∷ after
+  pub first : IsFree stop text
+
+-- the field that begins `rest` ends nowhere before the line does
+abbrev pub NeverEnds : ℕ → List ℕ → Type 0
+NeverEnds stop rest = (text after : List ℕ) → EndsAt stop rest text after → ⊥
+
+-- white space: the bytes 9 to 13, and the blank
+abbrev pub is_space : ℕ → Bool
+is_space b = (nat_le 9 b && nat_le b 13) || b == 32
+
+-- `after` is what the longest run of white space leaves of `rest`
+pub record SkipsSpace (rest after : List ℕ) : Type 0 where
+  pub run : (space : List ℕ) × (rest ≡ space ++ after) × AllPass is_space space
+  pub longest : (b : ℕ) (more : List ℕ) → after ≡ b ∷ more → is_space b ≡ false
+
+-- a field of a line: its letter and its text
+abbrev pub Part : Type 0
+Part = ℕ × List ℕ
+
+-- A line that goes on with `rest` fits the items, and its fields are `parts`, in the items' order. A field
+-- that no literal byte follows has the whole rest. So has one whose literal byte doesn't come, and no item
+-- after it is asked for. What follows the last item is passed over. The forwarded host isn't read yet.
+abbrev pub Fits : List FormatItem → List ℕ → List Part → Type 0
+Fits [] rest parts = parts ≡ []
+Fits (Literal b ∷ items) rest parts = (after : List ℕ) × (rest ≡ b ∷ after) × Fits items after parts
+Fits (Skip ∷ items) rest parts = (after : List ℕ) × SkipsSpace rest after × Fits items after parts
+Fits (Field letter ∷ Literal stop ∷ items) rest parts =
+    (NeverEnds stop rest × (parts ≡ (letter, rest) ∷ []))
+    ⊎ ((text after : List ℕ) × (later : List Part) × EndsAt stop rest text after × (parts ≡ (letter, text) ∷ later) × Fits items after later)
+Fits (Field letter ∷ items) rest parts = parts ≡ (letter, rest) ∷ []
+Fits (Forwarded separators ∷ items) rest parts = ⊥
+
+-- what is known of the field with a letter after one more field
+abbrev pub noted : ℕ → Option (List ℕ) → Part → Option (List ℕ)
+noted letter found part = if part.0 == letter then Some part.1 else found
+
+-- the text of the field with a letter, None where the line ended before it: a letter stands once in a
+-- format, but for the one of fields that are ignored
+abbrev pub field : ℕ → List Part → Option (List ℕ)
+field letter parts = fold (noted letter) None parts

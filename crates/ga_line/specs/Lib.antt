@@ -1,0 +1,5 @@
+pub mod Fits
+pub mod Fitting
+pub mod Lines
+pub mod Records
+pub mod Valid

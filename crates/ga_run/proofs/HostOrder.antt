@@ -1,0 +1,104 @@
+-- From tallies to the sorted rows of hosts.
+use Rattle.std.proofs.Common.{◌≡◌, ◌≢◌, ℕ, ◌+◌, ◌<◌, ◌≤◌, ◌==◌, Bool, true, false, cond, ◌&&◌, ◌||◌, List, [], ◌∷◌, ◌++◌, length, map, refl, ap, sym, ◌∙◌, subst, Option, Some, None, arith, suc, zero, nat_lt, add-zero, zero-add, get_or, Ordering}
+use Rattle.std.specs.Prelude.{sum_by, count_by, All, slice_get, slice_index_or}
+use Rattle.std.specs.Option.{is_some}
+use Rattle.std.specs.List.{IsDistinct, AllByRecursion}
+use Rattle.std.specs.List.Sorted.{IsPermutation, IsSortedBy, IsSorted}
+use Rattle.std.specs.Str.{bytes_eq}
+use Rattle.std.specs.HashMap as hash
+use Rattle.std.specs.HashMap.{HashMap}
+use Rattle.std.specs.Map.{lookup, keys_of}
+use Rattle.std.proofs.lemmas.Bool.Decides.{nat_tests, Decides-eqb}
+use Rattle.std.proofs.lemmas.Cmp.{nat_list_eq_equiv}
+use Rattle.std.proofs.lemmas.List.Elements.{All-map}
+use Rattle.std.proofs.lemmas.List.Sorted.{sum_by-IsPermutation, All-permutation}
+use Rattle.std.proofs.lemmas.List.Sums.{sum_by-cons}
+use Rattle.std.specs.Ordering.{nat_cmp, is_lt, ordering_then}
+use Rattle.std.specs.declared.cmp.Ordering.TheVariants.{Less, Equal, Greater}
+use Rattle.std.specs.Cmp.Lexicographic.{slice_cmp}
+use Rattle.std.proofs.lemmas.Map.Entries.{hash_map_get_place}
+use Rattle.std.proofs.lemmas.Option.{slice_get-get_or}
+use Rattle.std.proofs.lemmas.Slice.Eq.{bytes_eq-Decides}
+use Rattle.ga_base.specs.declared.record.Record.{Record}
+use Rattle.ga_run.specs.Hosts.{hits_of, bytes_of, comes_before, AreHostRows}
+use Rattle.ga_run.specs.Tallies.{tally_of, row_of, IsTallied}
+use Rattle.ga_run.specs.declared.hosts.Tally.{Tally}
+use Rattle.ga_run.specs.declared.host_row.HostRow.{HostRow}
+
+abbrev named : List ℕ → HostRow → Bool
+named host row = bytes_eq row.host host
+
+count-cons : (p : HostRow → Bool) (x : HostRow) (xs : List HostRow) → count_by p (x ∷ xs) ≡ cond (p x) 1 0 + count_by p xs
+count-cons p x xs = sum_by-cons (λ (y : HostRow). cond (p y) 1 0) x xs
+
+-- where no key is the host, no row has it
+none-named : (host key : List ℕ) (es : List (List ℕ × Tally)) → key ≡ host → AllByRecursion (λ other. bytes_eq key other ≡ false) (keys_of es)
+    → count_by (named host) (map row_of es) ≡ 0
+none-named host key [] same h = refl
+none-named host key (e ∷ es) same h =
+    let rest : count_by (named host) (map row_of es) ≡ 0 = none-named host key es same h.1 in
+    let not_here : bytes_eq e.0 host ≡ false = nat_list_eq_equiv.symm e.0 host ∙ ap (λ (k : List ℕ). bytes_eq k e.0) (sym same) ∙ h.0 in
+    count-cons (named host) (row_of e) (map row_of es) ∙ rw (not_here, rest) refl
+
+once-by : (host : List ℕ) (e : List ℕ × Tally) (es : List (List ℕ × Tally)) → IsDistinct bytes_eq (keys_of (e ∷ es)) → (b : Bool) → bytes_eq host e.0 ≡ b
+    → count_by (named host) (map row_of es) ≡ cond (is_some (lookup (bytes_eq host) es)) 1 0
+    → count_by (named host) (map row_of (e ∷ es)) ≡ cond (is_some (lookup (bytes_eq host) (e ∷ es))) 1 0
+unfolding IsDistinct
+once-by host e es d true here rest =
+    let same : host ≡ e.0 = (bytes_eq-Decides host e.0).0 here in
+    let there : bytes_eq e.0 host ≡ true = nat_list_eq_equiv.symm e.0 host ∙ here in
+    let others : count_by (named host) (map row_of es) ≡ 0 = none-named host e.0 es (sym same) d.0 in
+    count-cons (named host) (row_of e) (map row_of es) ∙ rw (there, others, here) refl
+once-by host e es d false here rest =
+    let there : bytes_eq e.0 host ≡ false = nat_list_eq_equiv.symm e.0 host ∙ here in
+    count-cons (named host) (row_of e) (map row_of es) ∙ rw (there, here) (zero-add _ ∙ rest)
+
+-- each host that has an entry has one row
+once-entries : (host : List ℕ) (es : List (List ℕ × Tally)) → IsDistinct bytes_eq (keys_of es)
+    → count_by (named host) (map row_of es) ≡ cond (is_some (lookup (bytes_eq host) es)) 1 0
+unfolding IsDistinct
+once-entries host [] d = refl
+once-entries host (e ∷ es) d = once-by host e es d (bytes_eq host e.0) refl (once-entries host es d.1)
+
+order-by : (b e : Bool) (o r : Ordering) → is_lt (ordering_then (cond b Less (cond e Equal Greater)) (ordering_then o r)) ≡ false → (b || (e && is_lt o)) ≡ false
+order-by true e o r h = cc
+order-by false true Less r h = cc
+order-by false true Equal r h = refl
+order-by false true Greater r h = refl
+order-by false false o r h = refl
+
+eq-comm : (a b : ℕ) → (a == b) ≡ (b == a)
+eq-comm a b = grind (arith, nat_tests)
+
+-- a row that isn't less than the one before it doesn't come before it
+pub not_before : (x y : HostRow) (r : Ordering) → is_lt (ordering_then (nat_cmp x.hits.0 y.hits.0) (ordering_then (slice_cmp nat_cmp y.host x.host) r)) ≡ false
+    → comes_before y x ≡ false
+not_before x y r h =
+    ap (λ (e : Bool). nat_lt x.hits.0 y.hits.0 || (e && is_lt (slice_cmp nat_cmp y.host x.host))) (eq-comm y.hits.0 x.hits.0)
+    ∙ order-by (nat_lt x.hits.0 y.hits.0) (x.hits.0 == y.hits.0) (slice_cmp nat_cmp y.host x.host) r h
+
+once-tally : (t : Bool) (x : Tally) → cond {A = ℕ} (is_some (cond t None (Some x))) 1 0 ≡ cond t 0 1
+once-tally true x = refl
+once-tally false x = refl
+
+-- the row of an entry says what is counted for its host
+abbrev says : List Record → HostRow → Type 0
+says recs row = (row.hits.0 ≡ hits_of row.host recs) × (row.bytes ≡ bytes_of row.host recs)
+
+says-by : (t : Bool) (x y : Tally) → Some x ≡ cond t None (Some y) → (x.hits ≡ y.hits) × (x.bytes ≡ y.bytes)
+says-by true x y e = cc
+says-by false x y e = let same : x ≡ y = cc in (ap (λ (t : Tally). t.hits) same, ap (λ (t : Tally). t.bytes) same)
+
+-- the tallies' rows, sorted
+pub rows-are : {S : Type 0} → (recs : List Record) (hosts : HashMap (List ℕ) Tally S) (sorted : List HostRow) → IsTallied recs hosts
+    → IsPermutation (map row_of hosts.entries) sorted → IsSortedBy comes_before sorted → AreHostRows recs sorted
+rows-are recs hosts sorted tallied moved ordered = record {
+  once = λ host.
+      sum_by-IsPermutation (λ (row : HostRow). cond (named host row) 1 0) (map row_of hosts.entries) sorted moved ∙ once-entries host hosts.entries tallied.unique
+      ∙ ap (λ (o : Option Tally). cond (is_some o) 1 0) (tallied.tallies host) ∙ once-tally (hits_of host recs == 0) _;
+  sums = All-permutation (says recs) (map row_of hosts.entries) sorted moved (All-map (says recs) row_of hosts.entries (λ k d below.
+      let e = get_or hosts.entries k d in
+      let there : hash.get bytes_eq hosts e.0 ≡ Some e.1 = hash_map_get_place nat_list_eq_equiv hosts k e.0 e.1 tallied.unique (slice_get-get_or hosts.entries k d below) in
+      says-by (hits_of e.0 recs == 0) e.1 _ (sym there ∙ tallied.tallies e.0)));
+  ordered = ordered;
+}

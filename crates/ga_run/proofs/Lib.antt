@@ -1,0 +1,6 @@
+pub mod HostOrder
+pub mod LogReads
+pub mod RowTexts
+pub mod Runs
+pub mod Takes
+pub mod TallySteps

@@ -1,0 +1,21 @@
+-- What one more row does to the text of rows.
+use Rattle.std.proofs.Common.{[], ◌++◌, ◌∷◌, ◌≡◌, ◌≤◌, ◌<◌, ◌+◌, ◌∙◌, ap, sym, refl, append_assoc, append-nil, List, ℕ, suc, drop, length, get_or, subst, arith}
+use Rattle.std.proofs.Math.Seq.{drop-cons}
+use Rattle.std.proofs.lemmas.List.{drop_all}
+use Rattle.csv.specs.Writing.{row_text, default_writer}
+use Rattle.ga_run.specs.Report.{rows_text, row_fields}
+use Rattle.ga_run.specs.declared.host_row.HostRow.{HostRow}
+
+pub rows_text-step : (id : ℕ) (rows : List HostRow) (row : HostRow) (text whole : List ℕ) → id < length rows → row ≡ get_or rows id row
+    → text ++ rows_text id (drop id rows) ≡ whole
+    → (text ++ row_text default_writer (row_fields id row)) ++ rows_text (id + 1) (drop (id + 1) rows) ≡ whole
+rows_text-step id rows row text whole h at e =
+    let next : id + 1 ≡ suc id = omega arith in
+    let split : drop id rows ≡ row ∷ drop (suc id) rows = drop-cons rows id row h ∙ ap (λ (r : HostRow). r ∷ drop (suc id) rows) (sym at) in
+    ap (λ (n : ℕ). (text ++ row_text default_writer (row_fields id row)) ++ rows_text n (drop n rows)) next
+    ∙ append_assoc text (row_text default_writer (row_fields id row)) (rows_text (suc id) (drop (suc id) rows))
+    ∙ ap (λ (rs : List HostRow). text ++ rows_text id rs) (sym split) ∙ e
+
+pub rows_text-done : (id : ℕ) (rows : List HostRow) (text whole : List ℕ) → length rows ≤ id → text ++ rows_text id (drop id rows) ≡ whole → text ≡ whole
+rows_text-done id rows text whole h e =
+    sym (append-nil text) ∙ ap (λ (rs : List HostRow). text ++ rows_text id rs) (sym (drop_all id rows h)) ∙ e

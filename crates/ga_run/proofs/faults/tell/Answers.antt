@@ -1,0 +1,14 @@
+use Rattle.ga_run.proofs.faults.tell.Goals as goal
+
+pub returns-in-FileFault-clause-line : goal.returns-in-FileFault-clause-line
+returns-in-FileFault-clause-line g c = rw c.in-FileFault.is c.say-in-FileFault.ensures.line
+
+pub returns-in-FileShort-clause-line : goal.returns-in-FileShort-clause-line
+returns-in-FileShort-clause-line g c = rw (c.in-FileShort.is, ← c.format.ensures.text, ← c.as_bytes-at.ensures.value) c.say-in-FileShort.ensures.line
+
+pub returns-in-OutFault-clause-line : goal.returns-in-OutFault-clause-line
+returns-in-OutFault-clause-line g c =
+    rw (c.in-OutFault.is, ← c.format-in-OutFault.ensures.text, ← c.as_bytes-at-in-OutFault.ensures.value, ← c.target_name-target.ensures) c.say-in-OutFault.ensures.line
+
+pub returns-in-NoMemory-clause-line : goal.returns-in-NoMemory-clause-line
+returns-in-NoMemory-clause-line g c = rw c.in-NoMemory.is c.say-in-NoMemory.ensures.line

@@ -1,0 +1,31 @@
+-- The report as text: what `csv` writes for the header row and a row for each host.
+use Rattle.std.specs.Prelude.{◌≡◌, ℕ, List, [], ◌∷◌, ◌++◌, Option, Some, codes, decimal, Vec, false, suc}
+use Rattle.std.specs.Global.{Global}
+use Rattle.csv.specs.Writing.{row_text, default_writer, text_written, writer_setup, fields_written, has_written}
+use Rattle.csv.specs.declared.writer.Writer.{Writer}
+use Rattle.ga_run.specs.declared.host_row.HostRow.{HostRow}
+
+abbrev pub header_fields : List (List ℕ)
+header_fields =
+    codes "id" ∷ codes "parent_id" ∷ codes "panel" ∷ codes "hits" ∷ codes "hits%" ∷ codes "visitors" ∷ codes "visitors%" ∷ codes "bytes" ∷ codes "bytes%"
+    ∷ codes "avgts" ∷ codes "cumts" ∷ codes "maxts" ∷ codes "method" ∷ codes "protocol" ∷ codes "data" ∷ []
+
+-- the fields of a host's row with this id
+abbrev pub row_fields : ℕ → HostRow → List (List ℕ)
+row_fields id row =
+    decimal id ∷ [] ∷ codes "hosts" ∷ decimal row.hits.0 ∷ [] ∷ [] ∷ [] ∷ decimal row.bytes ∷ [] ∷ [] ∷ [] ∷ [] ∷ [] ∷ [] ∷ row.host ∷ []
+
+-- the rows, whose ids rise from the first one's
+abbrev pub rows_text : ℕ → List HostRow → List ℕ
+rows_text id [] = []
+rows_text id (row ∷ rows) = row_text default_writer (row_fields id row) ++ rows_text (suc id) rows
+
+abbrev pub text_of : List HostRow → List ℕ
+text_of rows = row_text default_writer header_fields ++ rows_text 0 rows
+
+-- a writer with the defaults of `csv` has written this text, which ends with a row
+pub record HasWritten (text : List ℕ) (writer : Writer (Vec ℕ Global)) : Type 0 where
+  pub setup : writer_setup writer ≡ default_writer
+  pub fields : fields_written writer ≡ 0
+  pub clean : has_written writer ≡ false
+  pub text_is : text_written (λ v. Some v.items) writer ≡ Some text

@@ -1,0 +1,148 @@
+-- What one run of goaccess is: over the words, plain views of the files and the targets before and after, and the status.
+use Rattle.std.specs.Prelude.{◌≡◌, ◌≢◌, ℕ, ◌<◌, ◌≤◌, ◌⊎◌, ◌↔◌, false, true, List, [], ◌∷◌, length, Some, None, IfSome, codes}
+use Rattle.ga_ports.specs.Counts.{Rose}
+use Rattle.ga_ports.specs.Files.{FilesView, told, is_absent}
+use Rattle.ga_ports.specs.Outs.{OutsView, TargetView, takes, is_full}
+use Rattle.ga_ports.specs.declared.outs.To.{To}
+use Rattle.ga_ports.specs.declared.outs.To.TheVariants.{Stdout}
+use Rattle.ga_run.specs.Hosts.{AreRowsOf}
+use Rattle.ga_run.specs.Printing.{ChangesOnly, Stops, TakesOrStops}
+use Rattle.ga_run.specs.Reading.{AsksOnce}
+use Rattle.ga_run.specs.Report.{text_of}
+use Rattle.ga_run.specs.Statuses.{fault_line}
+use Rattle.ga_run.specs.declared.host_row.HostRow.{HostRow}
+use Rattle.ga_run.specs.declared.status.Input.{Input}
+use Rattle.ga_run.specs.declared.status.Input.TheVariants.{Log}
+use Rattle.ga_run.specs.declared.status.Status.{Status}
+use Rattle.ga_run.specs.declared.status.Status.TheVariants.{Done, Unbuilt, FileFault, FileShort, OutFault, NoMemory}
+
+-- the byte with which an option begins
+abbrev pub dash : ℕ
+dash = 45
+
+-- a word names a log where it isn't empty and doesn't begin with a dash
+pub record IsLogName (name : List ℕ) : Type 0 where
+  pub some : name ≢ []
+  pub no_option : (rest : List ℕ) → name ≢ dash ∷ rest
+
+-- the words are `-o`, `csv` and this name of a log
+pub record NameLog (words : List (List ℕ)) (name : List ℕ) : Type 0 where
+  pub form : words ≡ codes "-o" ∷ codes "csv" ∷ name ∷ []
+  pub is_log : IsLogName name
+
+-- the words name no log
+abbrev pub NameNone : List (List ℕ) → Type 0
+NameNone words = (name : List ℕ) → ¬ NameLog words name
+
+-- the text is the report of a log
+pub record IsReportOf (log text : List ℕ) : Type 0 where
+  pub rows : List HostRow
+  pub rows_are : AreRowsOf log rows
+  pub written : text ≡ text_of rows
+
+-- a log that is the told content of the name, where it is told, and its report
+pub record Reports (name : List ℕ) (files : FilesView) (size : ℕ) (text : List ℕ) : Type 0 where
+  pub log : List ℕ
+  pub is_content : IfSome (told name files.contents) (λ bytes. log ≡ bytes)
+  pub whole : length log ≡ size
+  pub is_report : IsReportOf log text
+
+-- the log was read to the size answered in this call, no call on it failed or fell short, and its report was taken
+pub record Finishes (name : List ℕ) (files files' : FilesView) (outs outs' : OutsView) : Type 0 where
+  pub size : ℕ
+  pub measured : files'.measured ≡ Some size
+  pub text : List ℕ
+  pub report : Reports name files size text
+  pub printed : outs'.stdout ≡ takes text outs.stdout
+  pub faults : files'.counts.faults ≡ files.counts.faults
+  pub shorts : files'.counts.shorts ≡ files.counts.shorts
+
+-- a call on the log failed; where it is known to be absent, its name isn't there
+pub record FailsLog (name : List ℕ) (files files' : FilesView) (file : Input) : Type 0 where
+  pub file_is : file ≡ Log 0
+  pub rose : Rose files.counts.faults files'.counts.faults
+  pub absent : files.counts.absent < files'.counts.absent → is_absent name files.contents ≡ true
+
+-- the log, which doesn't tell its content, gave no byte at a place below its size
+pub record FallsShort (name : List ℕ) (files files' : FilesView) (file : Input) (at : ℕ) : Type 0 where
+  pub file_is : file ≡ Log 0
+  pub rose : Rose files.counts.shorts files'.counts.shorts
+  pub place : files'.counts.short_at ≡ at
+  pub untold : told name files.contents ≡ None
+
+-- standard output took the front of the report up to a place, and failed there
+pub record StopsPrinting (name : List ℕ) (files files' : FilesView) (outs outs' : OutsView) (to : To) (at : ℕ) : Type 0 where
+  pub target_is : to ≡ Stdout
+  pub rose : Rose outs.stdout.faults outs'.stdout.faults
+  pub size : ℕ
+  pub measured : files'.measured ≡ Some size
+  pub text : List ℕ
+  pub report : Reports name files size text
+  pub stops : Stops at text outs.stdout outs'.stdout
+
+-- no count of the files or of standard output rose
+pub record NothingRose (files files' : FilesView) (outs outs' : OutsView) : Type 0 where
+  pub faults : ¬ Rose files.counts.faults files'.counts.faults
+  pub shorts : ¬ Rose files.counts.shorts files'.counts.shorts
+  pub output : ¬ Rose outs.stdout.faults outs'.stdout.faults
+
+-- the forms tell that nothing can fail: no call is listed to, the log is there, standard output has room left, and no
+-- call of the targets found no memory
+pub record NothingCanFail (name : List ℕ) (files files' : FilesView) (outs outs' : OutsView) : Type 0 where
+  pub files_listed : files.listed ≡ Some []
+  pub present : told name files.contents ≢ None
+  pub outs_listed : outs.listed ≡ Some []
+  pub room : is_full outs'.stdout.room ≡ false
+  pub fed : ¬ Rose outs.starved outs'.starved
+
+-- the run over one log of this name
+pub record RunsLog (name : List ℕ) (files files' : FilesView) (outs outs' : OutsView) (status : Status) : Type 0 where
+  -- the log is asked for once, and no more of it is handed out than its size
+  pub asks : AsksOnce name files files'
+  -- what each status says
+  pub done : status ≡ Done → Finishes name files files' outs outs'
+  pub file_fault : (file : Input) → status ≡ FileFault file → FailsLog name files files' file
+  pub file_short : (file : Input) (at : ℕ) → status ≡ FileShort file at → FallsShort name files files' file at
+  pub out_fault : (to : To) (at : ℕ) → status ≡ OutFault to at → StopsPrinting name files files' outs outs' to at
+  -- where nothing failed the run is done, or memory ran out
+  pub complete : NothingRose files files' outs outs' → (status ≡ Done) ⊎ (status ≡ NoMemory)
+  -- and so where it is told that nothing can fail
+  pub sure : NothingCanFail name files files' outs outs' → (status ≡ Done) ⊎ (status ≡ NoMemory)
+
+-- how the run over a log ended, before its fault line is written
+abbrev pub Ends : List ℕ → FilesView → FilesView → OutsView → OutsView → Status → Type 0
+Ends name files files' outs outs' Done = Finishes name files files' outs outs'
+Ends name files files' outs outs' Unbuilt = ⊥
+Ends name files files' outs outs' (FileFault file) = FailsLog name files files' file × (outs' ≡ outs) × ¬ NothingCanFail name files files' outs outs'
+Ends name files files' outs outs' (FileShort file at) = FallsShort name files files' file at × (outs' ≡ outs)
+Ends name files files' outs outs' (OutFault to at) = StopsPrinting name files files' outs outs' to at × ¬ NothingCanFail name files files' outs outs'
+Ends name files files' outs outs' NoMemory = outs' ≡ outs
+
+pub record EndsLog (name : List ℕ) (files files' : FilesView) (outs outs' : OutsView) (status : Status) : Type 0 where
+  pub asks : AsksOnce name files files'
+  pub ends : Ends name files files' outs outs' status
+  pub others : ChangesOnly Stdout outs outs'
+
+-- the log was read, and this is its report
+pub record Readies (name : List ℕ) (old new : FilesView) (text : List ℕ) : Type 0 where
+  pub asks : AsksOnce name old new
+  pub size : ℕ
+  pub measured : new.measured ≡ Some size
+  pub report : Reports name old size text
+  pub faults : new.counts.faults ≡ old.counts.faults
+  pub shorts : new.counts.shorts ≡ old.counts.shorts
+
+pub record IsRun (words : List (List ℕ)) (files files' : FilesView) (outs outs' : OutsView) (status : Status) : Type 0 where
+  -- the words are refused exactly where they name no log, and then no file is asked for
+  pub unbuilt : (status ≡ Unbuilt) ↔ NameNone words
+  pub untouched : NameNone words → files' ≡ files
+  -- else the run is over the log that they name
+  pub runs : (name : List ℕ) → NameLog words name → RunsLog name files files' outs outs' status
+  -- after a refusal nothing was written to the report's target
+  pub refused : status ≢ Done → ((to : To) (at : ℕ) → status ≢ OutFault to at) → outs'.stdout ≡ outs.stdout
+  -- the fault line, or a proper front of it where standard error failed
+  pub line : (name : List ℕ) → (NameNone words ⊎ NameLog words name) → TakesOrStops (fault_line name status) outs.stderr outs'.stderr
+  -- nothing is said where the run is done
+  pub quiet : status ≡ Done → outs'.stderr ≡ outs.stderr
+  -- nothing else changes
+  pub others : outs' ≡ record outs { stdout = outs'.stdout; stderr = outs'.stderr; calls = outs'.calls; starved = outs'.starved }

@@ -1,0 +1,21 @@
+//! One run of goaccess: from the words of the command line to the report.
+//!
+//! Start with `goaccess_run`, the call that the program makes. What it does is one record, `IsRun` of `specs/Run.antt`,
+//! over plain views of the files and the targets.
+#![tactic(auto)]
+
+mod faults;
+mod host_row;
+mod hosts;
+mod printing;
+mod reading;
+mod run;
+mod status;
+#[cfg(test)]
+mod tests;
+mod text;
+mod words;
+
+pub use printing::print;
+pub use run::goaccess_run;
+pub use status::{Input, Status};

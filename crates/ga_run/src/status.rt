@@ -1,0 +1,43 @@
+ghost use Rattle.std.specs.Prelude.{◌≡◌};
+ghost use Rattle.ga_run.specs.Statuses.{code_of};
+
+use ga_ports::To;
+
+/// A file that a run reads.
+#[derive(Clone, Copy, Debug, PartialEq, Eq)]
+pub enum Input {
+    /// The log at this place in the list of logs, from 0.
+    Log(u64),
+}
+
+/// How a run ended.
+#[derive(Clone, Copy, Debug, PartialEq, Eq)]
+pub enum Status {
+    /// The log was read to its size and all bytes of the report were taken.
+    Done,
+    /// The words are of no form that is built.
+    Unbuilt,
+    /// A call on this file failed.
+    FileFault { file: Input },
+    /// This file gave no byte at a place below its size.
+    FileShort { file: Input, at: u64 },
+    /// The report's target failed after it took so many bytes of the report.
+    OutFault { to: To, at: u64 },
+    /// Want of memory.
+    NoMemory,
+}
+
+impl Status {
+    /// The exit status of the program (own profile).
+    pub fn code(&self) -> u8
+        ensures { result ≡ code_of self.now }
+    {
+        match self {
+            Status::Done => 0,
+            Status::Unbuilt => 1,
+            Status::FileFault { .. } | Status::FileShort { .. } => 2,
+            Status::OutFault { .. } => 4,
+            Status::NoMemory => 7,
+        }
+    }
+}

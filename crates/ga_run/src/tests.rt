@@ -1,0 +1,235 @@
+use crate::{Input, Status, goaccess_run};
+use ga_base::{NoMemory, Text, Texts};
+use ga_ports::{Failed, FileCounts, Files, MemFiles, MemOuts, To, is_short};
+
+mod sample;
+
+use std::alloc::Global;
+use std::process::Abort;
+use std::test::Fail;
+
+const HEADER: &str =
+    "id,parent_id,panel,hits,hits%,visitors,visitors%,bytes,bytes%,avgts,cumts,maxts,method,protocol,data\n";
+
+const THREE_LINES: &str = "\
+192.0.2.1 - - [01/Jan/2024:00:00:00 +0000] \"GET /a HTTP/1.1\" 200 10
+192.0.2.1 - - [01/Jan/2024:00:00:00 +0000] \"GET /b HTTP/1.1\" 200 5
+198.51.100.4 - - [01/Jan/2024:00:00:00 +0000] \"GET /c HTTP/1.1\" 200 -
+";
+
+const TWO_HOSTS: &str = "\
+id,parent_id,panel,hits,hits%,visitors,visitors%,bytes,bytes%,avgts,cumts,maxts,method,protocol,data
+0,,hosts,2,,,,15,,,,,,,192.0.2.1
+1,,hosts,1,,,,0,,,,,,,198.51.100.4
+";
+
+/// A log in memory, what may fail, and what a run over it does.
+#[derive(Clone, Copy)]
+struct Case {
+    words: &'static [&'static str],
+    log: &'static str,
+    /// The call of the files that fails.
+    file_call: Option<u64>,
+    /// How many bytes standard output and standard error take.
+    rooms: (Option<u64>, Option<u64>),
+    status: Status,
+    stdout: &'static str,
+    stderr: &'static str,
+}
+
+/// A line that ends in CR LF, a comment, an empty line, lines that fail, a size with more behind it, the greatest size
+/// and one more, a host that CSV quotes, and a last line with no end.
+const ODD_LINES: &str = "\
+a - - [d:t z] \"r\" 200 7\r
+# note
+
+nothing fits
+b - - [d:t z] \"r\" 200 5 more
+b - - [d:t z] \"\" 200 5
+ - - [d:t z] \"r\" 200 5
+c,d - - [d:t z] \"r\" 200 1000000000000000000
+c,d - - [d:t z] \"r\" 200 1000000000000000001
+a - - [d:t z] \"r\\\"s\" 200 3";
+
+const ODD_HOSTS: &str = "\
+id,parent_id,panel,hits,hits%,visitors,visitors%,bytes,bytes%,avgts,cumts,maxts,method,protocol,data
+0,,hosts,2,,,,10,,,,,,,a
+1,,hosts,1,,,,0,,,,,,,b
+2,,hosts,1,,,,1000000000000000000,,,,,,,\"c,d\"
+";
+
+const LOG_WORDS: &[&str] = &["-o", "csv", "a.log"];
+
+const READ_FAULT: Status = Status::FileFault {
+    file: Input::Log(0),
+};
+
+const PLAIN: Case = Case {
+    words: LOG_WORDS,
+    log: THREE_LINES,
+    file_call: None,
+    rooms: (None, None),
+    status: Status::Done,
+    stdout: TWO_HOSTS,
+    stderr: "",
+};
+
+fn words_of(alloc: Global, words: &[&str]) -> Result<Texts, NoMemory> {
+    let mut texts = Texts::new(alloc);
+    for word in words {
+        texts.push(Text::of(alloc, word)?)?;
+    }
+    Ok(texts)
+}
+
+/// Runs a case over the file `a.log`, and compares all that it does.
+fn check<R: Abort + AllocGlobal>(rt: &R, case: &Case) -> Result<(), Fail> {
+    let alloc = rt.alloc();
+    let mut files = MemFiles::new(alloc);
+    files.grow(&Text::of(alloc, "a.log")?, case.log.as_bytes())?;
+    if let Some(call) = case.file_call {
+        files.fail_at(call)?;
+    }
+    let mut outs = MemOuts::new(alloc);
+    if let Some(room) = case.rooms.0 {
+        outs.set_room(To::Stdout, room);
+    }
+    if let Some(room) = case.rooms.1 {
+        outs.set_room(To::Stderr, room);
+    }
+    let words = words_of(alloc, case.words)?;
+    let status = goaccess_run(alloc, words.items(), &mut files, &mut outs);
+    assert_eq!(rt; status, case.status);
+    assert_eq!(rt; outs.taken(To::Stdout), case.stdout.as_bytes());
+    assert_eq!(rt; outs.taken(To::Stderr), case.stderr.as_bytes());
+    assert_eq!(rt; outs.taken(To::File), b"".as_slice());
+    Ok(())
+}
+
+#[test]
+fn runs_end_as_their_causes_say(rt: HostRuntime) -> Result<(), Fail> {
+    let cases = [
+        PLAIN,
+        Case {
+            log: ODD_LINES,
+            stdout: ODD_HOSTS,
+            ..PLAIN
+        },
+        Case {
+            log: sample::LOG,
+            stdout: sample::REPORT,
+            ..PLAIN
+        },
+        Case {
+            log: "",
+            stdout: HEADER,
+            ..PLAIN
+        },
+        Case {
+            rooms: (Some(20), None),
+            status: Status::OutFault {
+                to: To::Stdout,
+                at: 20,
+            },
+            stdout: "id,parent_id,panel,h",
+            stderr: "goaccess: standard output: write failed after 20 bytes\n",
+            ..PLAIN
+        },
+        Case {
+            words: &["-o", "csv", "b.log"],
+            status: READ_FAULT,
+            stdout: "",
+            stderr: "goaccess: b.log: read failed\n",
+            ..PLAIN
+        },
+        Case {
+            file_call: Some(3),
+            status: READ_FAULT,
+            stdout: "",
+            stderr: "goaccess: a.log: read failed\n",
+            ..PLAIN
+        },
+        Case {
+            words: &["-o", "json", "a.log"],
+            rooms: (None, Some(12)),
+            status: Status::Unbuilt,
+            stdout: "",
+            stderr: "goaccess: no",
+            ..PLAIN
+        },
+    ];
+    for case in &cases {
+        check(&rt, case)?;
+    }
+    Ok(())
+}
+
+/// A log whose size is more than it gives, and which tells nothing of what it holds.
+#[derive(Drop)]
+struct ShortLog {
+    is_open: bool,
+    measured: Option<u64>,
+    counts: FileCounts,
+}
+
+impl Files for ShortLog {
+    ghost use Rattle.std.specs.Prelude.{None};
+
+    ghost view = { λ s. record {
+      contents = None;
+      listed = None;
+      is_open = s.is_open;
+      bytes = None;
+      measured = s.measured;
+      counts = s.counts;
+    } };
+
+    fn open(&mut self, _name: &Text) -> Result<(), Failed> {
+        self.is_open = true;
+        self.measured = None;
+        self.counts.call();
+        self.counts.ask(false);
+        Ok(())
+    }
+
+    fn size(&mut self) -> Result<u64, Failed> {
+        self.measured = Some(100);
+        self.counts.call();
+        Ok(100)
+    }
+
+    fn read_at(&mut self, at: u64, into: &mut [u8]) -> Result<usize, Failed> {
+        let count = if at < 68 { into.len().min(68) } else { 0 };
+        let short = is_short(self.measured, at, into.len(), count);
+        self.counts.call();
+        self.counts.give(short, at, count);
+        Ok(count)
+    }
+}
+
+#[test]
+fn a_log_that_gives_less_than_its_size_is_short(rt: HostRuntime) -> Result<(), Fail> {
+    let alloc = rt.alloc();
+    let mut files = ShortLog {
+        is_open: false,
+        measured: None,
+        counts: FileCounts::ZERO,
+    };
+    let mut outs = MemOuts::new(alloc);
+    let words = words_of(alloc, LOG_WORDS)?;
+    let status = goaccess_run(alloc, words.items(), &mut files, &mut outs);
+    assert_eq!(rt;
+        status,
+        Status::FileShort {
+            file: Input::Log(0),
+            at: 68
+        }
+    );
+    assert_eq!(rt; status.code(), 2);
+    assert_eq!(rt; outs.taken(To::Stdout), b"".as_slice());
+    assert_eq!(rt;
+        outs.taken(To::Stderr),
+        b"goaccess: a.log: short at 68\n".as_slice()
+    );
+    Ok(())
+}

@@ -1,0 +1,74 @@
+ghost use Rattle.std.specs.Prelude.{◌≡◌};
+ghost use Rattle.goaccess.specs.Answers.{answer_to, Shows};
+
+use ga_base::Text;
+use ga_ports::{Outs, To};
+use ga_run::print;
+
+/// What the program answers of itself.
+#[derive(Clone, Copy, Debug, PartialEq, Eq)]
+pub enum Answer {
+    /// How it is used.
+    Help,
+    /// Which version it is.
+    Version,
+}
+
+/// How the program is used.
+const HELP: &[u8] = b"\
+goaccess: hits and bytes of each host in a web log, as CSV
+
+Usage:
+  goaccess -o csv LOG
+  goaccess --help | --version
+
+  -o csv      writes the report as CSV to standard output; no default
+  LOG         a log in the common format, '%h %^[%d:%t %^] \"%r\" %s %b';
+              its name isn't empty and doesn't begin with a dash
+  --help      shows this text
+  --version   shows the version
+
+Exit status: 0 done, 1 words of another form, 2 the log can't be read,
+4 the report can't be written, 7 no memory. With any but 0 one line on
+standard error says why.
+
+Example:
+  goaccess -o csv access.log
+";
+
+/// The version, as `--version` shows it.
+const VERSION: &[u8] = b"goaccess 0.1.0\n";
+
+/// The exit status of an answer that was shown.
+const SHOWN: u8 = 0;
+
+/// The exit status where standard output failed.
+const OUT_FAULT: u8 = 4;
+
+/// The answer that one word, `--help` or `--version`, asks for.
+pub fn answer_to(words: &[Text]) -> Option<Answer>
+    ensures { result ≡ answer_to words.now }
+{
+    let [word] = words else {
+        return None;
+    };
+    match word.as_str() {
+        "--help" => Some(Answer::Help),
+        "--version" => Some(Answer::Version),
+        _ => None,
+    }
+}
+
+/// Writes an answer to standard output, and gives the exit status.
+pub fn show<O: Outs>(outs: &mut O, answer: Answer) -> u8
+    ensures shows { Shows answer (O.view outs.old) (O.view outs.new) result }
+{
+    let text = match answer {
+        Answer::Help => HELP,
+        Answer::Version => VERSION,
+    };
+    match print(outs, To::Stdout, text) {
+        Ok(()) => SHOWN,
+        Err(_) => OUT_FAULT,
+    }
+}

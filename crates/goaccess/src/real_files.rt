@@ -1,0 +1,100 @@
+use ga_base::Text;
+use ga_ports::{Failed, FileCounts, Files, is_short};
+use std::fs::{self, File};
+use std::os::unix::fs::FileExt;
+use std::{io, rt};
+
+/// The files of the system. They tell no content; each failure is counted.
+///
+/// Only a regular file is opened: a folder or a pipe has no size that says how much there is to read.
+#[derive(Drop)]
+pub struct RealFiles<'a, R: rt::Files<File = File>> {
+    rt: &'a R,
+    file: Option<File>,
+    measured: Option<u64>,
+    counts: FileCounts,
+}
+
+impl<'a, R: rt::Files<File = File>> RealFiles<'a, R> {
+    /// The files of this runtime, none of them open.
+    pub fn new(rt: &'a R) -> RealFiles<'a, R> {
+        RealFiles {
+            rt,
+            file: None,
+            measured: None,
+            counts: FileCounts::ZERO,
+        }
+    }
+}
+
+impl<'a, R: rt::Files<File = File>> Files for RealFiles<'a, R> {
+    ghost use Rattle.std.specs.Prelude.{None, is_some};
+
+    ghost view = { λ f. record {
+      contents = None;
+      listed = None;
+      is_open = is_some f.file;
+      bytes = None;
+      measured = f.measured;
+      counts = f.counts;
+    } };
+
+    fn open(&mut self, name: &Text) -> Result<(), Failed> {
+        self.file = None;
+        self.measured = None;
+        self.counts.ask(false);
+        match open_regular(self.rt, name.as_str()) {
+            Ok(file) => {
+                self.counts.call();
+                self.file = Some(file);
+                Ok(())
+            }
+            Err(_) => {
+                self.counts.fail();
+                Err(Failed)
+            }
+        }
+    }
+
+    fn size(&mut self) -> Result<u64, Failed> {
+        match self.file.as_ref().map(|file| file.metadata()) {
+            Some(Ok(metadata)) => {
+                let size = metadata.len();
+                self.counts.call();
+                self.measured = Some(size);
+                Ok(size)
+            }
+            _ => {
+                self.counts.fail();
+                Err(Failed)
+            }
+        }
+    }
+
+    fn read_at(&mut self, at: u64, into: &mut [u8]) -> Result<usize, Failed> {
+        let Some(file) = &self.file else {
+            self.counts.fail();
+            return Err(Failed);
+        };
+        match file.read_at(into, at) {
+            Ok(count) => {
+                let short = is_short(self.measured, at, into.len(), count);
+                self.counts.call();
+                self.counts.give(short, at, count);
+                Ok(count)
+            }
+            Err(_) => {
+                self.counts.fail();
+                Err(Failed)
+            }
+        }
+    }
+}
+
+/// Opens a file that has a size.
+fn open_regular<R: rt::Files<File = File>>(rt: &R, path: &str) -> io::Result<File> {
+    if !fs::metadata(rt, path)?.is_file() {
+        return Err(io::Error::from(io::ErrorKind::InvalidInput));
+    }
+    fs::open(rt, path)
+}

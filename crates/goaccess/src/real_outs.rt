@@ -1,0 +1,108 @@
+ghost use Rattle.std.specs.Prelude.{◌≡◌, ◌≤◌, ◌<◌, ℕ, length, IfOk, OnErr};
+ghost use Rattle.ga_ports.specs.Counts.{raised};
+
+use ga_base::Text;
+use ga_ports::{Failed, Outs, TargetCounts, To};
+use std::io::{self, Write};
+use std::{fs, rt};
+
+/// Standard output, standard error and the report's file. They tell no content; each failure is counted, and a write
+/// that takes nothing of a piece that isn't empty is one.
+#[derive(Drop)]
+pub struct RealOuts<'a, R: rt::Files, P: Print, E: Print> {
+    rt: &'a R,
+    output: &'a P,
+    errors: &'a E,
+    report: Option<R::File>,
+    stdout: TargetCounts,
+    stderr: TargetCounts,
+    file: TargetCounts,
+    made: u64,
+    calls: u64,
+}
+
+impl<'a, R: rt::Files, P: Print, E: Print> RealOuts<'a, R, P, E> {
+    /// Targets that took nothing yet.
+    pub fn new(rt: &'a R, output: &'a P, errors: &'a E) -> RealOuts<'a, R, P, E> {
+        RealOuts {
+            rt,
+            output,
+            errors,
+            report: None,
+            stdout: TargetCounts::ZERO,
+            stderr: TargetCounts::ZERO,
+            file: TargetCounts::ZERO,
+            made: 0,
+            calls: 0,
+        }
+    }
+}
+
+impl<'a, R: rt::Files, P: Print, E: Print> Outs for RealOuts<'a, R, P, E> {
+    ghost use Rattle.std.specs.Prelude.{None, is_some};
+    ghost use Rattle.goaccess.specs.Targets.{target_view};
+
+    ghost view = { λ o. record {
+      stdout = target_view o.stdout;
+      stderr = target_view o.stderr;
+      file = target_view o.file;
+      is_made = is_some o.report;
+      made = o.made;
+      name = None;
+      listed = None;
+      calls = o.calls;
+      starved = 0;
+    } };
+
+    fn create(&mut self, name: &Text) -> Result<(), Failed> {
+        self.calls = self.calls.saturating_add(1);
+        self.made = self.made.saturating_add(1);
+        match fs::create(self.rt, name.as_str()) {
+            Ok(file) => {
+                self.report = Some(file);
+                Ok(())
+            }
+            Err(_) => {
+                self.file.fail();
+                Err(Failed)
+            }
+        }
+    }
+
+    fn write(&mut self, to: To, piece: &[u8]) -> Result<usize, Failed> {
+        self.calls = self.calls.saturating_add(1);
+        match to {
+            To::Stdout => settle(&mut self.stdout, piece, self.output.write_some(piece)),
+            To::Stderr => settle(&mut self.stderr, piece, self.errors.write_some(piece)),
+            To::File => match &mut self.report {
+                Some(file) => settle(&mut self.file, piece, file.write(piece)),
+                None => {
+                    self.file.fail();
+                    Err(Failed)
+                }
+            },
+        }
+    }
+}
+
+/// Counts a write that was tried.
+fn settle(
+    counts: &mut TargetCounts,
+    piece: &[u8],
+    tried: io::Result<usize>,
+) -> Result<usize, Failed>
+    requires { IfOk tried (λ count. count ≤ length piece.now) }
+    ensures ok { IfOk result (λ count. (count ≤ length piece.now) × (0 < length piece.now → 0 < count) × (counts.new ≡ record counts.old { taken = raised counts.old.taken count })) }
+    ensures failed { OnErr result (counts.new ≡ record counts.old { faults = raised counts.old.faults 1 }) }
+{
+    match tried {
+        Ok(count) if count > 0 || piece.is_empty() => {
+            counts.take(count);
+            Ok(count)
+        }
+        _ => {
+            counts.fail();
+            Err(Failed)
+        }
+    }
+}
