@@ -1,3 +1,5 @@
+pub mod BoundLemmas
+mod DateLemmas
 mod FitLemmas
 mod FreeLemmas
 pub mod LineLemmas

@@ -8,55 +8,91 @@ use Rattle.ga_base.specs.declared.formats.FormatItem.{FormatItem}
 use Rattle.ga_base.specs.declared.formats.FormatItem.TheVariants.{Literal, Skip, Field, Forwarded}
 use Rattle.ga_base.specs.declared.record.TheConstants.{MAX_LINE}
 use Rattle.ga_base.specs.declared.record.Line.TheVariants.{Skipped, Failed, Good}
+use Rattle.ga_base.specs.declared.record.Record.{Record}
+use Rattle.ga_dates.specs.declared.item.Item.{Item}
+use Rattle.ga_dates.specs.declared.kind.Kind.TheVariants.{Date}
+use Rattle.ga_dates.specs.Items.{IsComplete}
 use Rattle.ga_line.specs.declared.values.Values.{Values}
 use Rattle.ga_line.specs.Fits.{Part, Fits, SkipsSpace, is_space}
 use Rattle.ga_line.specs.Fitting.{FitsWith, no_texts}
-use Rattle.ga_line.specs.Records.{FieldTexts, HasTexts, IsMissing, IsRefused, no_host, no_date, no_request, too_large, Fails, too_long, misfit, refused, SaysOneThing, common_items, texts_of, size_value, record_of, utf8_text}
+use Rattle.std.specs.Str.Lossy.{utf8_lossy}
+use Rattle.ga_line.specs.Records.{FieldTexts, HasTexts, HasDate, HasStatus, IsMissing, IsPassedOver, IsRefused, no_host, no_date, no_request, bad_date, bad_status, too_large, Fails, too_long, misfit, refused, IsRecordOf, IsLineOf, SaysOneThing, common_items, texts_of, size_value, record_of, utf8_text}
 use Rattle.ga_line.specs.Valid.{HasValues, IsValid}
+use Rattle.ga_line.proofs.DateLemmas.{date-unique}
 use Rattle.ga_line.proofs.FreeLemmas.{EndsAt-unique}
 
-pub has-values : (texts : FieldTexts) (values : Values) → ¬ IsMissing texts.host → ¬ IsMissing texts.date → ¬ IsMissing texts.request
-    → texts.host ≡ Some values.host.now → texts.request ≡ Some values.url.now → size_value texts.size ≡ values.bytes → values.bytes ≤ BIG → HasValues texts values
-has-values texts values host date request host-is url-is bytes-is within = record {
+pub has-values : (dates : List Item) (texts : FieldTexts) (values : Values) → ¬ IsMissing texts.host → ¬ IsMissing texts.date → ¬ IsMissing texts.request
+    → texts.host ≡ Some values.host.now → HasDate dates texts.date values.date → texts.request ≡ Some values.url.now → HasStatus texts.status values.status
+    → size_value texts.size ≡ values.bytes → values.bytes ≤ BIG → HasValues dates texts values
+has-values dates texts values host date request host-is date-is url-is status-is bytes-is within = record {
   accepted = accepted;
   host = host-is;
+  date = date-is;
   url = url-is;
+  status = status-is;
   bytes = bytes-is;
 }
   where
-    accepted : ¬ IsRefused texts
+    accepted : ¬ IsRefused dates texts
     accepted (no_host missing) = host missing
     accepted (no_date missing) = date missing
     accepted (no_request missing) = request missing
+    accepted (bad_date none) = none values.date date-is
+    accepted (bad_status none) = none values.status status-is
     accepted (too_large above) = omega arith
 
-module _ (line : List ℕ) where
-  pub fails-misfit : FitsWith common_items line no_texts None → Fails line
+module _ (dates : List Item) (line : List ℕ) where
+  pub fails-misfit : FitsWith common_items line no_texts None → Fails dates line
   fails-misfit none = misfit none
 
   module _ (found : FieldTexts) (fits : FitsWith common_items line no_texts (Some found)) where
     has : HasTexts line found
     has = (fits found).1 refl
 
-    fails-refused : IsRefused found → Fails line
+    fails-refused : IsRefused dates found → Fails dates line
     fails-refused r = refused found has r
 
-    valid : (values : Values) → length line ≤ MAX_LINE → HasValues found values → IsValid line values
+    valid : (values : Values) → length line ≤ MAX_LINE → HasValues dates found values → IsValid dates line values
     valid values short h = record { accepted = accepted; fits = (found, has, h) }
       where
-        accepted : ¬ Fails line
+        accepted : ¬ Fails dates line
         accepted (too_long long) = omega arith
         accepted (misfit none) = none found has
-        accepted (refused texts given r) = h.accepted (subst IsRefused ((fits texts).0 given) r)
+        accepted (refused texts given r) = h.accepted (subst (IsRefused dates) ((fits texts).0 given) r)
 
     -- the same of whatever the values are
-    pub all-valid : (r : Option Values) → length line ≤ MAX_LINE → IfSome r (HasValues found) → IfSome r (IsValid line)
+    pub all-valid : (r : Option Values) → length line ≤ MAX_LINE → IfSome r (HasValues dates found) → IfSome r (IsValid dates line)
     all-valid None short h = tt
     all-valid (Some values) short h = valid values short h
 
-    pub all-refused : (r : Option Values) → IfNone r (IsRefused found) → IfNone r (Fails line)
+    pub all-refused : (r : Option Values) → IfNone r (IsRefused dates found) → IfNone r (Fails dates line)
     all-refused None h = fails-refused h
     all-refused (Some values) h = tt
+
+record-same : {host host' url url' : List ℕ} {date date' status status' bytes bytes' : ℕ} → host ≡ host' → date ≡ date' → url ≡ url' → status ≡ status' → bytes ≡ bytes'
+    → record_of host date url status bytes ≡ record_of host' date' url' status' bytes'
+record-same a b c d e = cc
+
+-- the record that is made of the values is what the line says
+pub says-record : (dates : List Item) (line : List ℕ) (values : Values) (rec : Record) → ¬ IsPassedOver line → IsValid dates line values
+    → rec ≡ record_of (utf8_lossy values.host.now) values.date (utf8_lossy values.url.now) values.status values.bytes → IsLineOf dates line (Good rec)
+says-record dates line values rec read valid is =
+    let texts = valid.fits.0 in
+    let h = valid.fits.2 in
+    let date : rec.date ≡ values.date = ap (λ (r : Record). r.date) is in
+    let status : rec.status ≡ values.status = ap (λ (r : Record). r.status) is in (
+      read,
+      valid.accepted,
+      (
+        texts,
+        valid.fits.1,
+        record {
+          date = subst (HasDate dates texts.date) (sym date) h.date;
+          status = subst (HasStatus texts.status) (sym status) h.status;
+          values = is ∙ record-same (ap utf8_text (sym h.host)) (sym date) (ap utf8_text (sym h.url)) (sym status) (sym h.bytes);
+        },
+      ),
+    )
 
 tail : (x y : ℕ) (xs ys : List ℕ) → x ∷ xs ≡ y ∷ ys → xs ≡ ys
 tail x y xs ys e = cc
@@ -108,16 +144,30 @@ HasTexts-unique : (line : List ℕ) (texts texts' : FieldTexts) → HasTexts lin
 HasTexts-unique line texts texts' one two =
     one.2 ∙ ap texts_of (Fits-unique common_items line one.0 two.0 one.1 two.1) ∙ sym two.2
 
+HasDate-unique : (dates : List Item) → IsComplete Date dates → (text : Option (List ℕ)) (date date' : ℕ) → HasDate dates text date → HasDate dates text date' → date ≡ date'
+HasDate-unique dates whole None date date' one two = absurd one
+HasDate-unique dates whole (Some text) date date' one two = date-unique dates whole text date date' one two
+
+HasStatus-unique : (text : Option (List ℕ)) (status status' : ℕ) → HasStatus text status → HasStatus text status' → status ≡ status'
+HasStatus-unique None status status' one two = one ∙ sym two
+HasStatus-unique (Some text) status status' one two = one.value ∙ sym two.value
+
+IsRecordOf-unique : (dates : List Item) → IsComplete Date dates → (texts : FieldTexts) (rec rec' : Record) → IsRecordOf dates texts rec → IsRecordOf dates texts rec' → rec ≡ rec'
+IsRecordOf-unique dates whole texts rec rec' one two =
+    one.values
+    ∙ record-same refl (HasDate-unique dates whole texts.date rec.date rec'.date one.date two.date) refl (HasStatus-unique texts.status rec.status rec'.status one.status two.status) refl
+    ∙ sym two.values
+
 -- a line says one thing
-pub IsLineOf-unique : (line : List ℕ) → SaysOneThing line
-IsLineOf-unique line Skipped Skipped a b = refl
-IsLineOf-unique line Skipped Failed a b = absurd (b.0 a)
-IsLineOf-unique line Skipped (Good rec) a b = absurd (b.0 a)
-IsLineOf-unique line Failed Skipped a b = absurd (a.0 b)
-IsLineOf-unique line Failed Failed a b = refl
-IsLineOf-unique line Failed (Good rec) a b = absurd (b.1 a.1)
-IsLineOf-unique line (Good rec) Skipped a b = absurd (a.0 b)
-IsLineOf-unique line (Good rec) Failed a b = absurd (a.1 b.1)
-IsLineOf-unique line (Good rec) (Good rec') a b =
+pub IsLineOf-unique : (dates : List Item) (line : List ℕ) → IsComplete Date dates → SaysOneThing dates line
+IsLineOf-unique dates line whole Skipped Skipped a b = refl
+IsLineOf-unique dates line whole Skipped Failed a b = absurd (b.0 a)
+IsLineOf-unique dates line whole Skipped (Good rec) a b = absurd (b.0 a)
+IsLineOf-unique dates line whole Failed Skipped a b = absurd (a.0 b)
+IsLineOf-unique dates line whole Failed Failed a b = refl
+IsLineOf-unique dates line whole Failed (Good rec) a b = absurd (b.1 a.1)
+IsLineOf-unique dates line whole (Good rec) Skipped a b = absurd (a.0 b)
+IsLineOf-unique dates line whole (Good rec) Failed a b = absurd (a.1 b.1)
+IsLineOf-unique dates line whole (Good rec) (Good rec') a b =
     let same = HasTexts-unique line a.2.0 b.2.0 a.2.1 b.2.1 in
-    ap Good (a.2.2 ∙ ap (λ (t : FieldTexts). record_of (utf8_text t.host) (utf8_text t.request) (size_value t.size)) same ∙ sym b.2.2)
+    ap Good (IsRecordOf-unique dates whole b.2.0 rec rec' (subst (λ (t : FieldTexts). IsRecordOf dates t rec) same a.2.2) b.2.2)

@@ -5,7 +5,7 @@ use Rattle.ga_base.specs.declared.formats.FormatItem.TheVariants.{Literal as Lit
 use Rattle.ga_line.specs.declared.steps.Step.{Step}
 use Rattle.ga_line.specs.declared.steps.Step.TheVariants.{Literal, FieldUpTo, FieldToEnd}
 use Rattle.ga_line.specs.Fits.{Part, Fits, noted}
-use Rattle.ga_line.specs.Records.{FieldTexts, host_letter, date_letter, request_letter, size_letter}
+use Rattle.ga_line.specs.Records.{FieldTexts, host_letter, date_letter, request_letter, status_letter, size_letter}
 
 -- the items that steps stand for: after a field that has the rest of the line, no step is taken
 abbrev pub items_of : List Step → List FormatItem
@@ -16,7 +16,7 @@ items_of (FieldToEnd letter ∷ steps) = Field letter ∷ []
 
 -- no field was read yet
 abbrev pub no_texts : FieldTexts
-no_texts = record { host = None; date = None; request = None; size = None }
+no_texts = record { host = None; date = None; request = None; status = None; size = None }
 
 -- the texts after these fields more
 abbrev pub texts_after : FieldTexts → List Part → FieldTexts
@@ -24,6 +24,7 @@ texts_after texts parts = record {
   host = fold (noted host_letter) texts.host parts;
   date = fold (noted date_letter) texts.date parts;
   request = fold (noted request_letter) texts.request parts;
+  status = fold (noted status_letter) texts.status parts;
   size = fold (noted size_letter) texts.size parts;
 }
 

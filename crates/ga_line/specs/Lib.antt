@@ -1,3 +1,4 @@
+pub mod Bounds
 pub mod Fits
 pub mod Fitting
 pub mod Lines

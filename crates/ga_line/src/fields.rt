@@ -5,7 +5,9 @@ ghost use Rattle.ga_line.specs.Records.{IsRefused, IsMissing};
 ghost use Rattle.ga_line.specs.Valid.{HasValues};
 
 use crate::sizes::size_in;
+use crate::status::status_in;
 use crate::values::Values;
+use ga_dates::{DateFormat, read_date};
 use std::marker::Model;
 
 /// The texts of a line's fields that are read. `None` is a field that the line ended before.
@@ -14,6 +16,7 @@ pub(crate) struct Fields<'a> {
     host: Option<&'a [u8]>,
     date: Option<&'a [u8]>,
     request: Option<&'a [u8]>,
+    status: Option<&'a [u8]>,
     size: Option<&'a [u8]>,
 }
 
@@ -23,7 +26,7 @@ impl<'a> Model for Fields<'a> {
 
     ghost Value = { FieldTexts };
 
-    ghost view = { λ f. record { host = option_copied f.host; date = option_copied f.date; request = option_copied f.request; size = option_copied f.size } };
+    ghost view = { λ f. record { host = option_copied f.host; date = option_copied f.date; request = option_copied f.request; status = option_copied f.status; size = option_copied f.size } };
 }
 
 impl<'a> Fields<'a> {
@@ -35,6 +38,7 @@ impl<'a> Fields<'a> {
             host: None,
             date: None,
             request: None,
+            status: None,
             size: None,
         }
     }
@@ -47,25 +51,36 @@ impl<'a> Fields<'a> {
             b'h' => self.host = Some(text),
             b'd' => self.date = Some(text),
             b'r' => self.request = Some(text),
+            b's' => self.status = Some(text),
             b'b' => self.size = Some(text),
             _ => {}
         }
     }
 
-    /// What the fields say. `None` where they are refused: a part that every line has to give is absent or
-    /// empty, or the size is above `BIG`.
-    pub fn values(&self) -> Option<Values<'a>>
-        ensures found { IfSome result (HasValues self.now) }
-        ensures refused { IfNone result (IsRefused self.now) }
+    /// What the fields say, with dates in this format. `None` where they are refused: a part that every line has
+    /// to give is absent or empty, the date isn't spelt, the status is no status code, or the size is above `BIG`.
+    pub fn values(&self, dates: &DateFormat) -> Option<Values<'a>>
+        ensures found { IfSome result (HasValues dates.now self.now) }
+        ensures refused { IfNone result (IsRefused dates.now self.now) }
     {
         let host = present(self.host)?;
-        present(self.date)?;
+        let date = read_date(dates, present(self.date)?)?;
         let url = present(self.request)?;
+        let status = match self.status {
+            None => 0,
+            Some(text) => status_in(text)?,
+        };
         let bytes = match self.size {
             None => 0,
             Some(text) => size_in(text)?,
         };
-        Some(Values { host, url, bytes })
+        Some(Values {
+            host,
+            date,
+            url,
+            status,
+            bytes,
+        })
     }
 }
 

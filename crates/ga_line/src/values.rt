@@ -10,25 +10,29 @@ use std::alloc::Global;
 pub(crate) struct Values<'a> {
     /// The client's address.
     pub host: &'a [u8],
+    /// The day, `10000 * year + 100 * month + day`.
+    pub date: u32,
     /// The URL that was asked for.
     pub url: &'a [u8],
+    /// The status code, 100 to 599, or 0.
+    pub status: u32,
     /// The size of the answer in bytes.
     pub bytes: u64,
 }
 
 impl<'a> Values<'a> {
-    /// The record with these values, and with the fields that aren't read yet 0, `None` or empty.
+    /// The record with these values, and with the fields that aren't read yet `None` or empty.
     pub fn record(self, alloc: Global) -> Result<Record, NoMemory>
-        ensures { IfOk result (λ rec. rec ≡ record_of (utf8_lossy self.entry.host.now) (utf8_lossy self.entry.url.now) self.entry.bytes) }
+        ensures { IfOk result (λ rec. rec ≡ record_of (utf8_lossy self.entry.host.now) self.entry.date (utf8_lossy self.entry.url.now) self.entry.status self.entry.bytes) }
     {
         Ok(Record {
             host: Text::from_utf8_lossy(alloc, self.host)?,
-            date: 0,
+            date: self.date,
             minute: None,
             method: Text::new(alloc),
             protocol: Text::new(alloc),
             url: Text::from_utf8_lossy(alloc, self.url)?,
-            status: 0,
+            status: self.status,
             bytes: self.bytes,
             micros: None,
             referrer: Text::new(alloc),

@@ -19,17 +19,17 @@ use Rattle.std.specs.Cmp.Lexicographic.{slice_cmp}
 use Rattle.std.proofs.lemmas.Map.Entries.{hash_map_get_place}
 use Rattle.std.proofs.lemmas.Option.{slice_get-get_or}
 use Rattle.std.proofs.lemmas.Slice.Eq.{bytes_eq-Decides}
-use Rattle.ga_base.specs.declared.record.Record.{Record}
-use Rattle.ga_run.specs.Hosts.{hits_of, bytes_of, comes_before, AreHostRows}
-use Rattle.ga_run.specs.Tallies.{tally_of, row_of, IsTallied}
+use Rattle.ga_summary.specs.Rows.{Row}
+use Rattle.ga_run.specs.Hosts.{of_host, comes_before, Sums, AreHostRows}
+use Rattle.ga_run.specs.Tallies.{tally_in, tally_of, row_of, IsTallied}
 use Rattle.ga_run.specs.declared.hosts.Tally.{Tally}
-use Rattle.ga_run.specs.declared.host_row.HostRow.{HostRow}
+use Rattle.ga_run.specs.declared.panel_row.PanelRow.{PanelRow}
 
-abbrev named : List ℕ → HostRow → Bool
-named host row = bytes_eq row.host host
+abbrev named : List ℕ → PanelRow → Bool
+named host row = bytes_eq row.label host
 
-count-cons : (p : HostRow → Bool) (x : HostRow) (xs : List HostRow) → count_by p (x ∷ xs) ≡ cond (p x) 1 0 + count_by p xs
-count-cons p x xs = sum_by-cons (λ (y : HostRow). cond (p y) 1 0) x xs
+count-cons : (p : PanelRow → Bool) (x : PanelRow) (xs : List PanelRow) → count_by p (x ∷ xs) ≡ cond (p x) 1 0 + count_by p xs
+count-cons p x xs = sum_by-cons (λ (y : PanelRow). cond (p y) 1 0) x xs
 
 -- where no key is the host, no row has it
 none-named : (host key : List ℕ) (es : List (List ℕ × Tally)) → key ≡ host → AllByRecursion (λ other. bytes_eq key other ≡ false) (keys_of es)
@@ -71,34 +71,32 @@ eq-comm : (a b : ℕ) → (a == b) ≡ (b == a)
 eq-comm a b = grind (arith, nat_tests)
 
 -- a row that isn't less than the one before it doesn't come before it
-pub not_before : (x y : HostRow) (r : Ordering) → is_lt (ordering_then (nat_cmp x.hits.0 y.hits.0) (ordering_then (slice_cmp nat_cmp y.host x.host) r)) ≡ false
+pub not_before : (x y : PanelRow) (r : Ordering) → is_lt (ordering_then (nat_cmp x.hits.0 y.hits.0) (ordering_then (slice_cmp nat_cmp y.label x.label) r)) ≡ false
     → comes_before y x ≡ false
 not_before x y r h =
-    ap (λ (e : Bool). nat_lt x.hits.0 y.hits.0 || (e && is_lt (slice_cmp nat_cmp y.host x.host))) (eq-comm y.hits.0 x.hits.0)
-    ∙ order-by (nat_lt x.hits.0 y.hits.0) (x.hits.0 == y.hits.0) (slice_cmp nat_cmp y.host x.host) r h
+    ap (λ (e : Bool). nat_lt x.hits.0 y.hits.0 || (e && is_lt (slice_cmp nat_cmp y.label x.label))) (eq-comm y.hits.0 x.hits.0)
+    ∙ order-by (nat_lt x.hits.0 y.hits.0) (x.hits.0 == y.hits.0) (slice_cmp nat_cmp y.label x.label) r h
 
 once-tally : (t : Bool) (x : Tally) → cond {A = ℕ} (is_some (cond t None (Some x))) 1 0 ≡ cond t 0 1
 once-tally true x = refl
 once-tally false x = refl
 
--- the row of an entry says what is counted for its host
-abbrev says : List Record → HostRow → Type 0
-says recs row = (row.hits.0 ≡ hits_of row.host recs) × (row.bytes ≡ bytes_of row.host recs)
-
-says-by : (t : Bool) (x y : Tally) → Some x ≡ cond t None (Some y) → (x.hits ≡ y.hits) × (x.bytes ≡ y.bytes)
-says-by true x y e = cc
-says-by false x y e = let same : x ≡ y = cc in (ap (λ (t : Tally). t.hits) same, ap (λ (t : Tally). t.bytes) same)
+sums-by : (b : Bool) (rows : List Row) (host : List ℕ) (t : Tally) → Some t ≡ cond b None (Some (tally_in (of_host host rows))) → Sums rows (row_of (host, t))
+sums-by true rows host t e = cc
+sums-by false rows host t e =
+    let same : t ≡ tally_in (of_host host rows) = cc in
+    record { hits = ap (λ (x : Tally). x.hits) same; visitors = ap (λ (x : Tally). x.visitors) same; bytes = ap (λ (x : Tally). x.bytes) same }
 
 -- the tallies' rows, sorted
-pub rows-are : {S : Type 0} → (recs : List Record) (hosts : HashMap (List ℕ) Tally S) (sorted : List HostRow) → IsTallied recs hosts
-    → IsPermutation (map row_of hosts.entries) sorted → IsSortedBy comes_before sorted → AreHostRows recs sorted
-rows-are recs hosts sorted tallied moved ordered = record {
+pub rows-are : {S : Type 0} → (rows : List Row) (hosts : HashMap (List ℕ) Tally S) (sorted : List PanelRow) → IsTallied rows hosts
+    → IsPermutation (map row_of hosts.entries) sorted → IsSortedBy comes_before sorted → AreHostRows rows sorted
+rows-are rows hosts sorted tallied moved ordered = record {
   once = λ host.
-      sum_by-IsPermutation (λ (row : HostRow). cond (named host row) 1 0) (map row_of hosts.entries) sorted moved ∙ once-entries host hosts.entries tallied.unique
-      ∙ ap (λ (o : Option Tally). cond (is_some o) 1 0) (tallied.tallies host) ∙ once-tally (hits_of host recs == 0) _;
-  sums = All-permutation (says recs) (map row_of hosts.entries) sorted moved (All-map (says recs) row_of hosts.entries (λ k d below.
+      sum_by-IsPermutation (λ (row : PanelRow). cond (named host row) 1 0) (map row_of hosts.entries) sorted moved ∙ once-entries host hosts.entries tallied.unique
+      ∙ ap (λ (o : Option Tally). cond (is_some o) 1 0) (tallied.tallies host) ∙ once-tally (length (of_host host rows) == 0) _;
+  sums = All-permutation (Sums rows) (map row_of hosts.entries) sorted moved (All-map (Sums rows) row_of hosts.entries (λ k d below.
       let e = get_or hosts.entries k d in
       let there : hash.get bytes_eq hosts e.0 ≡ Some e.1 = hash_map_get_place nat_list_eq_equiv hosts k e.0 e.1 tallied.unique (slice_get-get_or hosts.entries k d below) in
-      says-by (hits_of e.0 recs == 0) e.1 _ (sym there ∙ tallied.tallies e.0)));
+      sums-by (length (of_host e.0 rows) == 0) rows e.0 e.1 (sym there ∙ tallied.tallies e.0)));
   ordered = ordered;
 }

@@ -1,3 +1,5 @@
+pub mod CountSteps
+pub mod DaySteps
 pub mod HostOrder
 pub mod LogReads
 pub mod RowTexts

@@ -6,11 +6,11 @@ use Rattle.ga_ports.specs.Outs.{OutsView, TargetView, is_full, takes}
 use Rattle.ga_ports.specs.declared.outs.To.{To}
 use Rattle.ga_ports.specs.declared.outs.To.TheVariants.{Stdout, Stderr}
 use Rattle.ga_run.specs.Printing.{ChangesOnly, Stops, TakesOrStops}
-use Rattle.ga_run.specs.Run.{NameLog, NameNone, Finishes, StopsPrinting, NothingRose, NothingCanFail, Ends, EndsLog, RunsLog, IsRun}
+use Rattle.ga_run.specs.Run.{NameLog, NameNone, Finishes, StopsPrinting, NothingRose, NothingCanFail, NoneFull, Ends, EndsLog, RunsLog, IsRun}
 use Rattle.ga_run.specs.Statuses.{fault_line}
 use Rattle.ga_run.specs.declared.status.Input.{Input}
 use Rattle.ga_run.specs.declared.status.Status.{Status}
-use Rattle.ga_run.specs.declared.status.Status.TheVariants.{Done, Unbuilt, FileFault, FileShort, OutFault, NoMemory}
+use Rattle.ga_run.specs.declared.status.Status.TheVariants.{Done, Unbuilt, FileFault, FileShort, OutFault, CounterFull, NoMemory}
 use Rattle.ga_run.proofs.Takes.{takes-nil}
 
 finishes-after : (name : List ℕ) (files files' : FilesView) (outs mid outs' : OutsView) → outs'.stdout ≡ mid.stdout → Finishes name files files' outs mid
@@ -52,23 +52,25 @@ nothing-before name files files' outs mid outs' same more h = record {
 }
 
 complete-by : (name : List ℕ) (files files' : FilesView) (outs mid outs' : OutsView) (status : Status) → outs'.stdout ≡ mid.stdout
-    → Ends name files files' outs mid status → NothingRose files files' outs outs' → (status ≡ Done) ⊎ (status ≡ NoMemory)
-complete-by name files files' outs mid outs' Done same ends nothing = inl refl
-complete-by name files files' outs mid outs' Unbuilt same ends nothing = absurd ends
-complete-by name files files' outs mid outs' (FileFault file) same ends nothing = absurd (nothing.faults ends.0.rose)
-complete-by name files files' outs mid outs' (FileShort file at) same ends nothing = absurd (nothing.shorts ends.0.rose)
-complete-by name files files' outs mid outs' (OutFault to at) same ends nothing =
+    → Ends name files files' outs mid status → NothingRose files files' outs outs' → NoneFull status → (status ≡ Done) ⊎ (status ≡ NoMemory)
+complete-by name files files' outs mid outs' Done same ends nothing none = inl refl
+complete-by name files files' outs mid outs' Unbuilt same ends nothing none = absurd ends
+complete-by name files files' outs mid outs' (FileFault file) same ends nothing none = absurd (nothing.faults ends.0.rose)
+complete-by name files files' outs mid outs' (FileShort file at) same ends nothing none = absurd (nothing.shorts ends.0.rose)
+complete-by name files files' outs mid outs' (OutFault to at) same ends nothing none =
     absurd (nothing.output (subst (λ (t : TargetView). Rose outs.stdout.faults t.faults) (sym same) ends.0.rose))
-complete-by name files files' outs mid outs' NoMemory same ends nothing = inr refl
+complete-by name files files' outs mid outs' (CounterFull which total) same ends nothing none = absurd (none which total refl)
+complete-by name files files' outs mid outs' NoMemory same ends nothing none = inr refl
 
 sure-by : (name : List ℕ) (files files' : FilesView) (outs mid : OutsView) (status : Status) → Ends name files files' outs mid status
-    → NothingCanFail name files files' outs mid → (status ≡ Done) ⊎ (status ≡ NoMemory)
-sure-by name files files' outs mid Done ends nothing = inl refl
-sure-by name files files' outs mid Unbuilt ends nothing = absurd ends
-sure-by name files files' outs mid (FileFault file) ends nothing = absurd (ends.2 nothing)
-sure-by name files files' outs mid (FileShort file at) ends nothing = absurd (nothing.present ends.0.untold)
-sure-by name files files' outs mid (OutFault to at) ends nothing = absurd (ends.1 nothing)
-sure-by name files files' outs mid NoMemory ends nothing = inr refl
+    → NothingCanFail name files files' outs mid → NoneFull status → (status ≡ Done) ⊎ (status ≡ NoMemory)
+sure-by name files files' outs mid Done ends nothing none = inl refl
+sure-by name files files' outs mid Unbuilt ends nothing none = absurd ends
+sure-by name files files' outs mid (FileFault file) ends nothing none = absurd (ends.2 nothing)
+sure-by name files files' outs mid (FileShort file at) ends nothing none = absurd (nothing.present ends.0.untold)
+sure-by name files files' outs mid (OutFault to at) ends nothing none = absurd (ends.1 nothing)
+sure-by name files files' outs mid (CounterFull which total) ends nothing none = absurd (none which total refl)
+sure-by name files files' outs mid NoMemory ends nothing none = inr refl
 
 refused-by : (name : List ℕ) (files files' : FilesView) (outs mid : OutsView) (status : Status) → Ends name files files' outs mid status → status ≢ Done
     → ((to : To) (at : ℕ) → status ≢ OutFault to at) → mid.stdout ≡ outs.stdout
@@ -77,6 +79,7 @@ refused-by name files files' outs mid Unbuilt ends undone none = absurd ends
 refused-by name files files' outs mid (FileFault file) ends undone none = ap (λ (v : OutsView). v.stdout) ends.1
 refused-by name files files' outs mid (FileShort file at) ends undone none = ap (λ (v : OutsView). v.stdout) ends.1
 refused-by name files files' outs mid (OutFault to at) ends undone none = absurd (none to at refl)
+refused-by name files files' outs mid (CounterFull which total) ends undone none = ap (λ (v : OutsView). v.stdout) ends.1
 refused-by name files files' outs mid NoMemory ends undone none = ap (λ (v : OutsView). v.stdout) ends
 
 -- no byte of an empty line stops
@@ -106,8 +109,9 @@ run-of words name files files' outs mid outs' status named ended line changed mo
             file_fault = λ file e. (subst (λ (s : Status). Ends name files files' outs mid s) e ended.ends).0;
             file_short = λ file at e. (subst (λ (s : Status). Ends name files files' outs mid s) e ended.ends).0;
             out_fault = λ to at e. stops-after name files files' outs mid outs' to at same (subst (λ (s : Status). Ends name files files' outs mid s) e ended.ends).0;
-            complete = λ nothing. complete-by name files files' outs mid outs' status same ended.ends nothing;
-            sure = λ nothing. sure-by name files files' outs mid status ended.ends (nothing-before name files files' outs mid outs' same more nothing);
+            counter_full = λ which total e. (subst (λ (s : Status). Ends name files files' outs mid s) e ended.ends).0;
+            complete = λ nothing none. complete-by name files files' outs mid outs' status same ended.ends nothing none;
+            sure = λ nothing none. sure-by name files files' outs mid status ended.ends (nothing-before name files files' outs mid outs' same more nothing) none;
           });
       refused = λ undone none. same ∙ refused-by name files files' outs mid status ended.ends undone none;
       line = λ other which. elim which [

@@ -1,56 +1,55 @@
--- The rows of the hosts panel: for each host of a log's records how many there are, and the sum of their sizes.
-use Rattle.std.specs.Prelude.{◌≡◌, ℕ, ◌+◌, ◌<◌, ◌==◌, ◌&&◌, ◌||◌, Bool, true, nat_lt, List, [], ◌∷◌, if◌then◌else◌, filter, length, sum_by, count_by, All}
-use Rattle.std.specs.List.{filter_map}
+-- The rows of the panels of a summary: one for each day, and one for each host over all days.
+use Rattle.std.specs.Prelude.{◌≡◌, ℕ, ◌==◌, ◌&&◌, ◌||◌, Bool, nat_lt, List, if◌then◌else◌, filter, length, map, reverse, sum_by, count_by, All}
 use Rattle.std.specs.List.Sorted.{IsSortedBy}
 use Rattle.std.specs.Str.{bytes_eq}
 use Rattle.std.specs.Ordering.{nat_cmp, is_lt}
 use Rattle.std.specs.Cmp.Lexicographic.{slice_cmp}
-use Rattle.std.specs.Prelude.{Option, Some, None}
-use Rattle.ga_base.specs.declared.record.Record.{Record}
-use Rattle.ga_base.specs.declared.record.Line.{Line}
-use Rattle.ga_base.specs.declared.record.Line.TheVariants.{Skipped, Failed, Good}
-use Rattle.ga_line.specs.Lines.{lines}
-use Rattle.ga_line.specs.Records.{IsLineOf}
-use Rattle.ga_run.specs.declared.host_row.HostRow.{HostRow}
+use Rattle.ga_base.specs.declared.panel.Panel.{Panel}
+use Rattle.ga_base.specs.declared.panel.Panel.TheVariants.{Visitors, Hosts}
+use Rattle.ga_summary.specs.Rows.{Row}
+use Rattle.ga_summary.specs.Sound.{is_same_panel}
+use Rattle.ga_run.specs.declared.panel_row.PanelRow.{PanelRow}
 
--- each line says what stands at its place
-abbrev pub Say : List (List ℕ) → List Line → Type 0
-Say [] [] = Unit {0}
-Say [] (said ∷ more) = ⊥
-Say (line ∷ lines) [] = ⊥
-Say (line ∷ lines) (said ∷ more) = IsLineOf line said × Say lines more
+abbrev pub is_of : Panel → Row → Bool
+is_of panel row = is_same_panel row.key.panel panel
 
--- the records among what lines say
-abbrev pub record_in : Line → Option Record
-record_in Skipped = None
-record_in Failed = None
-record_in (Good rec) = Some rec
+-- the row of a day in the report
+abbrev pub day_row : Row → PanelRow
+day_row row = record { hits = record { 0 = row.sums.hits }; label = row.key.label; visitors = length row.names; bytes = row.sums.bytes }
 
-abbrev pub records_in : List Line → List Record
-records_in said = filter_map record_in said
+-- a summary's rows rise by their days, so that the report's, by day falling, are these from the last to the first
+abbrev pub day_rows : List Row → List PanelRow
+day_rows rows = reverse (map day_row (filter (is_of Visitors) rows))
 
--- the records of one host
-abbrev pub of_host : List ℕ → List Record → List Record
-of_host host recs = filter (λ rec. bytes_eq rec.host host) recs
+-- the rows of one host, one for each day
+abbrev pub is_of_host : List ℕ → Row → Bool
+is_of_host host row = is_of Hosts row && bytes_eq row.key.label host
 
-abbrev pub hits_of : List ℕ → List Record → ℕ
-hits_of host recs = length (of_host host recs)
+abbrev pub of_host : List ℕ → List Row → List Row
+of_host host rows = filter (is_of_host host) rows
 
-abbrev pub bytes_of : List ℕ → List Record → ℕ
-bytes_of host recs = sum_by (λ rec. rec.bytes) (of_host host recs)
+abbrev pub hits_of : List Row → ℕ
+hits_of rows = sum_by (λ row. row.sums.hits) rows
+
+abbrev pub bytes_of : List Row → ℕ
+bytes_of rows = sum_by (λ row. row.sums.bytes) rows
+
+-- a visitor is one of a day, so that those of several days are different
+abbrev pub visitors_of : List Row → ℕ
+visitors_of rows = sum_by (λ row. length row.names) rows
 
 -- rows stand by hits falling, then by the host's bytes rising
-abbrev pub comes_before : HostRow → HostRow → Bool
-comes_before a b = nat_lt b.hits.0 a.hits.0 || ((a.hits.0 == b.hits.0) && is_lt (slice_cmp nat_cmp a.host b.host))
+abbrev pub comes_before : PanelRow → PanelRow → Bool
+comes_before a b = nat_lt b.hits.0 a.hits.0 || ((a.hits.0 == b.hits.0) && is_lt (slice_cmp nat_cmp a.label b.label))
 
-pub record AreHostRows (recs : List Record) (rows : List HostRow) : Type 0 where
-  -- a host stands in one row where it has a record, and else in none
-  pub once : (host : List ℕ) → count_by (λ row. bytes_eq row.host host) rows ≡ (if hits_of host recs == 0 then 0 else 1)
-  pub sums : All (λ row. (row.hits.0 ≡ hits_of row.host recs) × (row.bytes ≡ bytes_of row.host recs)) rows
-  pub ordered : IsSortedBy comes_before rows
+-- a row has what all rows of its host have together
+pub record Sums (rows : List Row) (row : PanelRow) : Type 0 where
+  pub hits : row.hits.0 ≡ hits_of (of_host row.label rows)
+  pub visitors : row.visitors ≡ visitors_of (of_host row.label rows)
+  pub bytes : row.bytes ≡ bytes_of (of_host row.label rows)
 
--- the rows of a log: its lines say this, and these are the rows of the records among it
-pub record AreRowsOf (log : List ℕ) (rows : List HostRow) : Type 0 where
-  pub said : List Line
-  pub reads : Say (lines log true) said
-  pub rows_are : AreHostRows (records_in said) rows
+pub record AreHostRows (rows : List Row) (hosts : List PanelRow) : Type 0 where
+  -- a host stands in one row where the summary has it, and else in none
+  pub once : (host : List ℕ) → count_by (λ row. bytes_eq row.label host) hosts ≡ (if length (of_host host rows) == 0 then 0 else 1)
+  pub sums : All (Sums rows) hosts
+  pub ordered : IsSortedBy comes_before hosts

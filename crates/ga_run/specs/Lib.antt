@@ -1,3 +1,4 @@
+pub mod Counting
 pub mod Hosts
 pub mod Printing
 pub mod Reading

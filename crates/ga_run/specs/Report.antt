@@ -1,27 +1,27 @@
--- The report as text: what `csv` writes for the header row and a row for each host.
+-- The report as text: what `csv` writes for the header row, a row for each day, and a row for each host.
 use Rattle.std.specs.Prelude.{◌≡◌, ℕ, List, [], ◌∷◌, ◌++◌, Option, Some, codes, decimal, Vec, false, suc}
 use Rattle.std.specs.Global.{Global}
 use Rattle.csv.specs.Writing.{row_text, default_writer, text_written, writer_setup, fields_written, has_written}
 use Rattle.csv.specs.declared.writer.Writer.{Writer}
-use Rattle.ga_run.specs.declared.host_row.HostRow.{HostRow}
+use Rattle.ga_run.specs.declared.panel_row.PanelRow.{PanelRow}
 
 abbrev pub header_fields : List (List ℕ)
 header_fields =
     codes "id" ∷ codes "parent_id" ∷ codes "panel" ∷ codes "hits" ∷ codes "hits%" ∷ codes "visitors" ∷ codes "visitors%" ∷ codes "bytes" ∷ codes "bytes%"
     ∷ codes "avgts" ∷ codes "cumts" ∷ codes "maxts" ∷ codes "method" ∷ codes "protocol" ∷ codes "data" ∷ []
 
--- the fields of a host's row with this id
-abbrev pub row_fields : ℕ → HostRow → List (List ℕ)
-row_fields id row =
-    decimal id ∷ [] ∷ codes "hosts" ∷ decimal row.hits.0 ∷ [] ∷ [] ∷ [] ∷ decimal row.bytes ∷ [] ∷ [] ∷ [] ∷ [] ∷ [] ∷ [] ∷ row.host ∷ []
+-- the fields of a panel's row with this id
+abbrev pub row_fields : List ℕ → ℕ → PanelRow → List (List ℕ)
+row_fields panel id row =
+    decimal id ∷ [] ∷ panel ∷ decimal row.hits.0 ∷ [] ∷ decimal row.visitors ∷ [] ∷ decimal row.bytes ∷ [] ∷ [] ∷ [] ∷ [] ∷ [] ∷ [] ∷ row.label ∷ []
 
--- the rows, whose ids rise from the first one's
-abbrev pub rows_text : ℕ → List HostRow → List ℕ
-rows_text id [] = []
-rows_text id (row ∷ rows) = row_text default_writer (row_fields id row) ++ rows_text (suc id) rows
+-- the rows of a panel, whose ids rise from the first one's
+abbrev pub rows_text : List ℕ → ℕ → List PanelRow → List ℕ
+rows_text panel id [] = []
+rows_text panel id (row ∷ rows) = row_text default_writer (row_fields panel id row) ++ rows_text panel (suc id) rows
 
-abbrev pub text_of : List HostRow → List ℕ
-text_of rows = row_text default_writer header_fields ++ rows_text 0 rows
+abbrev pub text_of : List PanelRow → List PanelRow → List ℕ
+text_of days hosts = (row_text default_writer header_fields ++ rows_text (codes "visitors") 0 days) ++ rows_text (codes "hosts") 0 hosts
 
 -- a writer with the defaults of `csv` has written this text, which ends with a row
 pub record HasWritten (text : List ℕ) (writer : Writer (Vec ℕ Global)) : Type 0 where

@@ -5,16 +5,19 @@ use Rattle.ga_ports.specs.Files.{FilesView, told, is_absent}
 use Rattle.ga_ports.specs.Outs.{OutsView, TargetView, takes, is_full}
 use Rattle.ga_ports.specs.declared.outs.To.{To}
 use Rattle.ga_ports.specs.declared.outs.To.TheVariants.{Stdout}
-use Rattle.ga_run.specs.Hosts.{AreRowsOf}
+use Rattle.ga_base.specs.declared.counts.Counter.{Counter}
+use Rattle.ga_summary.specs.Rows.{SummaryValue}
+use Rattle.ga_run.specs.Counting.{CountsLog, FillsCounter}
+use Rattle.ga_run.specs.Hosts.{AreHostRows, day_rows}
 use Rattle.ga_run.specs.Printing.{ChangesOnly, Stops, TakesOrStops}
 use Rattle.ga_run.specs.Reading.{AsksOnce}
 use Rattle.ga_run.specs.Report.{text_of}
 use Rattle.ga_run.specs.Statuses.{fault_line}
-use Rattle.ga_run.specs.declared.host_row.HostRow.{HostRow}
+use Rattle.ga_run.specs.declared.panel_row.PanelRow.{PanelRow}
 use Rattle.ga_run.specs.declared.status.Input.{Input}
 use Rattle.ga_run.specs.declared.status.Input.TheVariants.{Log}
 use Rattle.ga_run.specs.declared.status.Status.{Status}
-use Rattle.ga_run.specs.declared.status.Status.TheVariants.{Done, Unbuilt, FileFault, FileShort, OutFault, NoMemory}
+use Rattle.ga_run.specs.declared.status.Status.TheVariants.{Done, Unbuilt, FileFault, FileShort, OutFault, CounterFull, NoMemory}
 
 -- the byte with which an option begins
 abbrev pub dash : ℕ
@@ -36,9 +39,11 @@ NameNone words = (name : List ℕ) → ¬ NameLog words name
 
 -- the text is the report of a log
 pub record IsReportOf (log text : List ℕ) : Type 0 where
-  pub rows : List HostRow
-  pub rows_are : AreRowsOf log rows
-  pub written : text ≡ text_of rows
+  pub sum : SummaryValue
+  pub counts : CountsLog log sum
+  pub hosts : List PanelRow
+  pub hosts_are : AreHostRows sum.rows hosts
+  pub written : text ≡ text_of (day_rows sum.rows) hosts
 
 -- a log that is the told content of the name, where it is told, and its report
 pub record Reports (name : List ℕ) (files : FilesView) (size : ℕ) (text : List ℕ) : Type 0 where
@@ -80,6 +85,13 @@ pub record StopsPrinting (name : List ℕ) (files files' : FilesView) (outs outs
   pub report : Reports name files size text
   pub stops : Stops at text outs.stdout outs'.stdout
 
+-- the log was read, and its lines up to one of them fill a counter
+pub record FillsLog (name : List ℕ) (files files' : FilesView) (which : Counter) (total : ℕ) : Type 0 where
+  pub log : List ℕ
+  pub is_content : IfSome (told name files.contents) (λ bytes. log ≡ bytes)
+  pub measured : files'.measured ≡ Some (length log)
+  pub fills : FillsCounter log which total
+
 -- no count of the files or of standard output rose
 pub record NothingRose (files files' : FilesView) (outs outs' : OutsView) : Type 0 where
   pub faults : ¬ Rose files.counts.faults files'.counts.faults
@@ -95,6 +107,10 @@ pub record NothingCanFail (name : List ℕ) (files files' : FilesView) (outs out
   pub room : is_full outs'.stdout.room ≡ false
   pub fed : ¬ Rose outs.starved outs'.starved
 
+-- the run didn't end for a full counter, which comes only where the log's lines fill one
+abbrev pub NoneFull : Status → Type 0
+NoneFull status = (which : Counter) (total : ℕ) → status ≢ CounterFull which total
+
 -- the run over one log of this name
 pub record RunsLog (name : List ℕ) (files files' : FilesView) (outs outs' : OutsView) (status : Status) : Type 0 where
   -- the log is asked for once, and no more of it is handed out than its size
@@ -104,10 +120,11 @@ pub record RunsLog (name : List ℕ) (files files' : FilesView) (outs outs' : Ou
   pub file_fault : (file : Input) → status ≡ FileFault file → FailsLog name files files' file
   pub file_short : (file : Input) (at : ℕ) → status ≡ FileShort file at → FallsShort name files files' file at
   pub out_fault : (to : To) (at : ℕ) → status ≡ OutFault to at → StopsPrinting name files files' outs outs' to at
-  -- where nothing failed the run is done, or memory ran out
-  pub complete : NothingRose files files' outs outs' → (status ≡ Done) ⊎ (status ≡ NoMemory)
+  pub counter_full : (which : Counter) (total : ℕ) → status ≡ CounterFull which total → FillsLog name files files' which total
+  -- where nothing failed and no counter is full the run is done, or memory ran out
+  pub complete : NothingRose files files' outs outs' → NoneFull status → (status ≡ Done) ⊎ (status ≡ NoMemory)
   -- and so where it is told that nothing can fail
-  pub sure : NothingCanFail name files files' outs outs' → (status ≡ Done) ⊎ (status ≡ NoMemory)
+  pub sure : NothingCanFail name files files' outs outs' → NoneFull status → (status ≡ Done) ⊎ (status ≡ NoMemory)
 
 -- how the run over a log ended, before its fault line is written
 abbrev pub Ends : List ℕ → FilesView → FilesView → OutsView → OutsView → Status → Type 0
@@ -116,21 +133,13 @@ Ends name files files' outs outs' Unbuilt = ⊥
 Ends name files files' outs outs' (FileFault file) = FailsLog name files files' file × (outs' ≡ outs) × ¬ NothingCanFail name files files' outs outs'
 Ends name files files' outs outs' (FileShort file at) = FallsShort name files files' file at × (outs' ≡ outs)
 Ends name files files' outs outs' (OutFault to at) = StopsPrinting name files files' outs outs' to at × ¬ NothingCanFail name files files' outs outs'
+Ends name files files' outs outs' (CounterFull which total) = FillsLog name files files' which total × (outs' ≡ outs)
 Ends name files files' outs outs' NoMemory = outs' ≡ outs
 
 pub record EndsLog (name : List ℕ) (files files' : FilesView) (outs outs' : OutsView) (status : Status) : Type 0 where
   pub asks : AsksOnce name files files'
   pub ends : Ends name files files' outs outs' status
   pub others : ChangesOnly Stdout outs outs'
-
--- the log was read, and this is its report
-pub record Readies (name : List ℕ) (old new : FilesView) (text : List ℕ) : Type 0 where
-  pub asks : AsksOnce name old new
-  pub size : ℕ
-  pub measured : new.measured ≡ Some size
-  pub report : Reports name old size text
-  pub faults : new.counts.faults ≡ old.counts.faults
-  pub shorts : new.counts.shorts ≡ old.counts.shorts
 
 pub record IsRun (words : List (List ℕ)) (files files' : FilesView) (outs outs' : OutsView) (status : Status) : Type 0 where
   -- the words are refused exactly where they name no log, and then no file is asked for

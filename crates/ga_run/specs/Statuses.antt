@@ -1,18 +1,22 @@
 -- The exit status of a run, and the line that it writes to standard error.
 use Rattle.std.specs.Prelude.{ℕ, List, [], ◌∷◌, codes, decimal}
 use Rattle.std.specs.List.{flat_map}
+use Rattle.ga_base.specs.declared.counts.Counter.{Counter}
+use Rattle.ga_base.specs.declared.counts.Counter.TheVariants.{Lines, Bytes, Micros, Generations}
 use Rattle.ga_ports.specs.declared.outs.To.{To}
 use Rattle.ga_ports.specs.declared.outs.To.TheVariants.{Stdout, Stderr, File}
 use Rattle.ga_run.specs.declared.status.Status.{Status}
-use Rattle.ga_run.specs.declared.status.Status.TheVariants.{Done, Unbuilt, FileFault, FileShort, OutFault, NoMemory}
+use Rattle.ga_run.specs.declared.status.Status.TheVariants.{Done, Unbuilt, FileFault, FileShort, OutFault, CounterFull, NoMemory}
 
--- 0 where all is done, 1 for the words, 2 for the files, 4 for the report's target, 7 for want of memory
+-- 0 where all is done, 1 for the words, 2 for the files, 4 for the report's target, 5 for a full counter, 7 for want
+-- of memory
 abbrev pub code_of : Status → ℕ
 code_of Done = 0
 code_of Unbuilt = 1
 code_of (FileFault file) = 2
 code_of (FileShort file at) = 2
 code_of (OutFault to at) = 4
+code_of (CounterFull which total) = 5
 code_of NoMemory = 7
 
 -- pieces one after the other
@@ -24,6 +28,12 @@ target_name Stdout = codes "standard output"
 target_name Stderr = codes "standard error"
 target_name File = codes "report"
 
+abbrev pub counter_name : Counter → List ℕ
+counter_name Lines = codes "lines "
+counter_name Bytes = codes "bytes "
+counter_name Micros = codes "micros "
+counter_name Generations = codes "generations "
+
 -- the pieces of the line that a run with this status writes to standard error: none where it is done.
 -- `name` is the log's
 abbrev pub fault_pieces : List ℕ → Status → List (List ℕ)
@@ -32,6 +42,7 @@ fault_pieces name Unbuilt = codes "goaccess: not built\n" ∷ []
 fault_pieces name (FileFault file) = codes "goaccess: " ∷ name ∷ codes ": read failed\n" ∷ []
 fault_pieces name (FileShort file at) = codes "goaccess: " ∷ name ∷ codes ": short at " ∷ decimal at ∷ codes "\n" ∷ []
 fault_pieces name (OutFault to at) = codes "goaccess: " ∷ target_name to ∷ codes ": write failed after " ∷ decimal at ∷ codes " bytes\n" ∷ []
+fault_pieces name (CounterFull which total) = codes "goaccess: counter full: " ∷ counter_name which ∷ decimal total ∷ codes "\n" ∷ []
 fault_pieces name NoMemory = codes "goaccess: no memory\n" ∷ []
 
 abbrev pub fault_line : List ℕ → Status → List ℕ

@@ -1,10 +1,11 @@
 ghost use Rattle.std.specs.Prelude.{◌≡◌, ◌≤◌, map};
 ghost use Rattle.ga_ports.specs.declared.outs.To.TheVariants.{Stderr};
 ghost use Rattle.ga_run.specs.Printing.{ChangesOnly, TakesOrStops};
-ghost use Rattle.ga_run.specs.Statuses.{fault_line, joined, target_name};
+ghost use Rattle.ga_run.specs.Statuses.{counter_name, fault_line, joined, target_name};
 
 use crate::printing::print;
 use crate::{Input, Status};
+use ga_base::Counter;
 use ga_ports::{Outs, To};
 use itoa::Buffer;
 
@@ -38,6 +39,11 @@ pub fn tell<O: Outs>(outs: &mut O, name: &[u8], status: &Status)
                 ],
             )
         }
+        Status::CounterFull { which, total } => {
+            let total = digits.format(*total).as_bytes();
+            let counter = counter_name(*which);
+            say(outs, &[b"goaccess: counter full: ", counter, total, b"\n"])
+        }
         Status::NoMemory => say(outs, &[b"goaccess: no memory\n"]),
     }
 }
@@ -49,6 +55,17 @@ fn target_name(to: To) -> &'static [u8]
         To::Stdout => b"standard output",
         To::Stderr => b"standard error",
         To::File => b"report",
+    }
+}
+
+fn counter_name(which: Counter) -> &'static [u8]
+    ensures { result.now ≡ counter_name which }
+{
+    match which {
+        Counter::Lines => b"lines ",
+        Counter::Bytes => b"bytes ",
+        Counter::Micros => b"micros ",
+        Counter::Generations => b"generations ",
     }
 }
 

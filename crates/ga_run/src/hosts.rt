@@ -1,13 +1,12 @@
-ghost use Rattle.std.specs.Prelude.{◌≡◌, ◌+◌, ◌^◌, ◌<◌, IfOk, OnOk, IfSome, map, true};
+ghost use Rattle.std.specs.Prelude.{◌≡◌, ◌+◌, ◌^◌, ◌<◌, IfOk, OnOk, IfSome, map};
 ghost use Rattle.std.specs.Str.{bytes_eq};
 ghost use Rattle.std.specs.HashMap as hash;
-ghost use Rattle.ga_line.specs.Lines.{lines};
-ghost use Rattle.ga_run.specs.Hosts.{AreRowsOf, Say, records_in, AreHostRows};
+ghost use Rattle.ga_run.specs.Hosts.{AreHostRows};
 ghost use Rattle.ga_run.specs.Tallies.{IsTallied, Adds, row_of};
 
-use crate::host_row::HostRow;
-use ga_base::{Line, NoMemory, Text};
-use ga_line::{Lines, read_line};
+use crate::panel_row::PanelRow;
+use ga_base::{NoMemory, Panel, Text};
+use ga_summary::Summary;
 use std::alloc::Global;
 use std::cmp::Reverse;
 use std::collections::HashMap;
@@ -16,64 +15,70 @@ use std::collections::HashMap;
 #[derive(Clone, Copy, Debug, PartialEq, Eq)]
 struct Tally {
     hits: u128,
+    visitors: u128,
     bytes: u128,
 }
 
-/// The rows of a log's hosts, in the order of the report.
-pub fn host_rows(alloc: Global, log: &[u8]) -> Result<Vec<HostRow>, NoMemory>
-    ensures { IfOk result (λ rows. AreRowsOf log.now rows.items) }
+/// The rows of a summary's hosts, in the order of the report.
+pub fn host_rows(alloc: Global, summary: &Summary) -> Result<Vec<PanelRow>, NoMemory>
+    ensures { IfOk result (λ rows. AreHostRows summary.now.rows rows.items) }
 {
-    let hosts = tallies(alloc, log)?;
+    let hosts = tallies(alloc, summary)?;
     rows_of(alloc, hosts)
 }
 
-/// Counts the valid lines of a log by their hosts.
-fn tallies(alloc: Global, log: &[u8]) -> Result<HashMap<Text, Tally>, NoMemory>
-    ensures { IfOk result (λ hosts. (said : _) × Say (lines log.now true) said × IsTallied (records_in said) hosts) }
+/// Adds up the rows of each host over all days.
+fn tallies(alloc: Global, summary: &Summary) -> Result<HashMap<Text, Tally>, NoMemory>
+    ensures { IfOk result (IsTallied summary.now.rows) }
 {
     let mut hosts = HashMap::new(alloc);
-    for line in Lines::of(log, true) {
-        if let Line::Good(record) = read_line(alloc, line)? {
-            add(&mut hosts, record.host, record.bytes)?;
+    for at in 0..summary.len() {
+        let row = summary.row(at);
+        if row.key.panel == Panel::Hosts {
+            let more = Tally {
+                hits: row.sums.hits as u128,
+                visitors: row.names.len() as u128,
+                bytes: row.sums.bytes as u128,
+            };
+            add(&mut hosts, row.key.label.clone()?, more)?;
         }
     }
     Ok(hosts)
 }
 
-/// Counts one more line of a host.
-fn add(hosts: &mut HashMap<Text, Tally>, host: Text, bytes: u64) -> Result<(), NoMemory>
-    requires room { IfSome (hash.get bytes_eq hosts.old host) (λ tally. (tally.hits + 1 < 2 ^ 128) × (tally.bytes + bytes < 2 ^ 128)) }
-    ensures { OnOk result (Adds host bytes hosts.old hosts.new) }
+/// Adds one more row of a host.
+fn add(hosts: &mut HashMap<Text, Tally>, host: Text, more: Tally) -> Result<(), NoMemory>
+    requires room { IfSome (hash.get bytes_eq hosts.old host) (λ tally. (tally.hits + more.hits < 2 ^ 128) × (tally.visitors + more.visitors < 2 ^ 128) × (tally.bytes + more.bytes < 2 ^ 128)) }
+    ensures { OnOk result (Adds host more hosts.old hosts.new) }
 {
     let tally = match hosts.get(&host) {
         Some(tally) => Tally {
-            hits: tally.hits + 1,
-            bytes: tally.bytes + bytes as u128,
+            hits: tally.hits + more.hits,
+            visitors: tally.visitors + more.visitors,
+            bytes: tally.bytes + more.bytes,
         },
-        None => Tally {
-            hits: 1,
-            bytes: bytes as u128,
-        },
+        None => more,
     };
     hosts.insert(host, tally)?;
     Ok(())
 }
 
 /// A row for each host, sorted.
-fn rows_of(alloc: Global, hosts: HashMap<Text, Tally>) -> Result<Vec<HostRow>, NoMemory>
-    ensures { IfOk result (λ rows. (recs : _) → IsTallied recs hosts → AreHostRows recs rows.items) }
+fn rows_of(alloc: Global, hosts: HashMap<Text, Tally>) -> Result<Vec<PanelRow>, NoMemory>
+    ensures { IfOk result (λ rows. (all : _) → IsTallied all hosts → AreHostRows all rows.items) }
 {
     let mut rows = unsorted_rows(alloc, hosts)?;
     rows.sort_unstable();
     Ok(rows)
 }
 
-fn unsorted_rows(alloc: Global, hosts: HashMap<Text, Tally>) -> Result<Vec<HostRow>, NoMemory>
+fn unsorted_rows(alloc: Global, hosts: HashMap<Text, Tally>) -> Result<Vec<PanelRow>, NoMemory>
     ensures { IfOk result (λ rows. rows.items ≡ map row_of hosts.entries) }
 {
-    let rows = hosts.into_iter().map(|(host, tally)| HostRow {
+    let rows = hosts.into_iter().map(|(host, tally)| PanelRow {
         hits: Reverse(tally.hits),
-        host,
+        label: host,
+        visitors: tally.visitors,
         bytes: tally.bytes,
     });
     Ok(rows.collect(alloc)?)

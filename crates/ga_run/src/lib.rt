@@ -4,9 +4,11 @@
 //! over plain views of the files and the targets.
 #![tactic(auto)]
 
+mod counting;
+mod days;
 mod faults;
-mod host_row;
 mod hosts;
+mod panel_row;
 mod printing;
 mod reading;
 mod run;

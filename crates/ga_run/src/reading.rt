@@ -2,7 +2,7 @@ ghost use Rattle.std.specs.Prelude.{◌≡◌, ◌≢◌, [], Some, IfOk, IfErr,
 ghost use Rattle.ga_run.specs.Reading.{ReadsLog, MissesLog, ReadsWhole, ReadsSlice, MissesRest};
 ghost use Rattle.ga_run.specs.declared.reading.LogFault.TheVariants.{Failed as ReadFailed, NoMemory as ReadNoMemory};
 
-use ga_base::{NoMemory, Text};
+use ga_base::Text;
 use ga_ports::{Failed, Files};
 use std::alloc::{AllocError, Global};
 
@@ -33,14 +33,6 @@ impl From<Failed> for LogFault {
 
     fn from(_: Failed) -> LogFault {
         LogFault::Failed
-    }
-}
-
-impl From<NoMemory> for LogFault {
-    ghost from_gives = { λ _ e. e ≡ ReadNoMemory };
-
-    fn from(_: NoMemory) -> LogFault {
-        LogFault::NoMemory
     }
 }
 

@@ -1,7 +1,12 @@
-ghost use Rattle.std.specs.Prelude.{IfOk, IfErr};
-ghost use Rattle.ga_run.specs.Reading.{MissesLog};
-ghost use Rattle.ga_run.specs.Run.{IsRun, EndsLog, IsReportOf, Readies};
+ghost use Rattle.std.specs.Prelude.{◌≡◌, ℕ, IfOk, IsErrOf};
+ghost use Rattle.ga_base.specs.declared.counts.Counter.{Counter};
+ghost use Rattle.ga_run.specs.Counting.{FillsCounter};
+ghost use Rattle.ga_run.specs.Hosts.{AreHostRows, day_rows};
+ghost use Rattle.ga_run.specs.Report.{text_of};
+ghost use Rattle.ga_run.specs.Run.{IsRun, EndsLog, IsReportOf};
 
+use crate::counting::count_log;
+use crate::days::day_rows;
 use crate::faults::tell;
 use crate::hosts::host_rows;
 use crate::printing::print;
@@ -11,6 +16,7 @@ use crate::words::log_name;
 use crate::{Input, Status};
 use ga_base::{NoMemory, Text};
 use ga_ports::{Files, Outs, To};
+use ga_summary::{MergeFault, Summary};
 use std::alloc::Global;
 
 /// Runs goaccess over the words of a command line, without the program's name.
@@ -42,8 +48,8 @@ pub fn goaccess_run<F: Files, O: Outs>(
 fn run_log<F: Files, O: Outs>(alloc: Global, name: &Text, files: &mut F, outs: &mut O) -> Status
     ensures { EndsLog name.now (F.view files.old) (F.view files.new) (O.view outs.old) (O.view outs.new) result }
 {
-    let text = match report(alloc, name, files) {
-        Ok(text) => text,
+    let log = match read_log(alloc, files, name) {
+        Ok(log) => log,
         Err(LogFault::Failed) => return Status::FileFault {
             file: Input::Log(0),
         },
@@ -53,6 +59,14 @@ fn run_log<F: Files, O: Outs>(alloc: Global, name: &Text, files: &mut F, outs: &
         },
         Err(LogFault::NoMemory) => return Status::NoMemory,
     };
+    let text = match log_report(alloc, &log) {
+        Ok(text) => text,
+        Err(MergeFault::CounterFull { which, total }) => return Status::CounterFull {
+            which,
+            total,
+        },
+        Err(MergeFault::NoMemory) => return Status::NoMemory,
+    };
     match print(outs, To::Stdout, &text) {
         Ok(()) => Status::Done,
         Err(at) => Status::OutFault { to: To::Stdout, at },
@@ -60,17 +74,20 @@ fn run_log<F: Files, O: Outs>(alloc: Global, name: &Text, files: &mut F, outs: &
 }
 
 /// The text of the report on a log.
-fn report<F: Files>(alloc: Global, name: &Text, files: &mut F) -> Result<Vec<u8>, LogFault>
-    ensures ok { IfOk result (λ text. Readies name.now (F.view files.old) (F.view files.new) text.items) }
-    ensures failed { IfErr result (λ fault. MissesLog name.now (F.view files.old) (F.view files.new) fault) }
+fn log_report(alloc: Global, log: &[u8]) -> Result<Vec<u8>, MergeFault>
+    ensures ok { IfOk result (λ text. IsReportOf log.now text.items) }
+    ensures full { (which : Counter) (total : ℕ) → IsErrOf result (MergeFault.CounterFull which total) → FillsCounter log.now which total }
 {
-    let log = read_log(alloc, files, name)?;
-    Ok(log_report(alloc, &log)?)
+    let summary = count_log(alloc, log)?;
+    let text = summary_text(alloc, &summary)?;
+    Ok(text)
 }
 
-fn log_report(alloc: Global, log: &[u8]) -> Result<Vec<u8>, NoMemory>
-    ensures { IfOk result (λ text. IsReportOf log.now text.items) }
+/// The text of the report on a summary.
+fn summary_text(alloc: Global, summary: &Summary) -> Result<Vec<u8>, NoMemory>
+    ensures { IfOk result (λ text. (hosts : _) × AreHostRows summary.now.rows hosts × (text.items ≡ text_of (day_rows summary.now.rows) hosts)) }
 {
-    let rows = host_rows(alloc, log)?;
-    report_text(alloc, &rows)
+    let days = day_rows(alloc, summary)?;
+    let hosts = host_rows(alloc, summary)?;
+    report_text(alloc, &days, &hosts)
 }

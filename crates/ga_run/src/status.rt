@@ -1,6 +1,7 @@
 ghost use Rattle.std.specs.Prelude.{◌≡◌};
 ghost use Rattle.ga_run.specs.Statuses.{code_of};
 
+use ga_base::Counter;
 use ga_ports::To;
 
 /// A file that a run reads.
@@ -23,6 +24,8 @@ pub enum Status {
     FileShort { file: Input, at: u64 },
     /// The report's target failed after it took so many bytes of the report.
     OutFault { to: To, at: u64 },
+    /// A counter would pass its greatest value: it would have this one.
+    CounterFull { which: Counter, total: u128 },
     /// Want of memory.
     NoMemory,
 }
@@ -37,6 +40,7 @@ impl Status {
             Status::Unbuilt => 1,
             Status::FileFault { .. } | Status::FileShort { .. } => 2,
             Status::OutFault { .. } => 4,
+            Status::CounterFull { .. } => 5,
             Status::NoMemory => 7,
         }
     }

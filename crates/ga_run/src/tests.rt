@@ -1,5 +1,5 @@
 use crate::{Input, Status, goaccess_run};
-use ga_base::{NoMemory, Text, Texts};
+use ga_base::{Counter, NoMemory, Text, Texts};
 use ga_ports::{Failed, FileCounts, Files, MemFiles, MemOuts, To, is_short};
 
 mod sample;
@@ -19,8 +19,19 @@ const THREE_LINES: &str = "\
 
 const TWO_HOSTS: &str = "\
 id,parent_id,panel,hits,hits%,visitors,visitors%,bytes,bytes%,avgts,cumts,maxts,method,protocol,data
-0,,hosts,2,,,,15,,,,,,,192.0.2.1
-1,,hosts,1,,,,0,,,,,,,198.51.100.4
+0,,visitors,3,,2,,15,,,,,,,20240101
+0,,hosts,2,,1,,15,,,,,,,192.0.2.1
+1,,hosts,1,,1,,0,,,,,,,198.51.100.4
+";
+
+/// A size of which five are more than a counter holds.
+const BIG_LINE: &str =
+    "192.0.2.1 - - [01/Jan/2024:00:00:00 +0000] \"GET /a HTTP/1.1\" 200 1000000000000000000\n";
+
+const FOUR_BIG_LINES: &str = "\
+id,parent_id,panel,hits,hits%,visitors,visitors%,bytes,bytes%,avgts,cumts,maxts,method,protocol,data
+0,,visitors,4,,1,,4000000000000000000,,,,,,,20240101
+0,,hosts,4,,1,,4000000000000000000,,,,,,,192.0.2.1
 ";
 
 /// A log in memory, what may fail, and what a run over it does.
@@ -28,6 +39,8 @@ id,parent_id,panel,hits,hits%,visitors,visitors%,bytes,bytes%,avgts,cumts,maxts,
 struct Case {
     words: &'static [&'static str],
     log: &'static str,
+    /// How often the log's bytes stand in the file.
+    times: usize,
     /// The call of the files that fails.
     file_call: Option<u64>,
     /// How many bytes standard output and standard error take.
@@ -37,25 +50,29 @@ struct Case {
     stderr: &'static str,
 }
 
-/// A line that ends in CR LF, a comment, an empty line, lines that fail, a size with more behind it, the greatest size
-/// and one more, a host that CSV quotes, and a last line with no end.
+/// A line that ends in CR LF, a comment, an empty line, lines that fail, a size with more behind it, a visit that
+/// isn't counted, the greatest size and one more, a host that CSV quotes, and a last line with no end.
 const ODD_LINES: &str = "\
-a - - [d:t z] \"r\" 200 7\r
+a - - [01/Jan/2024:t z] \"r\" 200 7\r
 # note
 
 nothing fits
-b - - [d:t z] \"r\" 200 5 more
-b - - [d:t z] \"\" 200 5
- - - [d:t z] \"r\" 200 5
-c,d - - [d:t z] \"r\" 200 1000000000000000000
-c,d - - [d:t z] \"r\" 200 1000000000000000001
-a - - [d:t z] \"r\\\"s\" 200 3";
+b - - [02/Jan/2024:t z] \"r\" 200 5 more
+b - - [02/Jan/2024:t z] \"\" 200 5
+ - - [01/Jan/2024:t z] \"r\" 200 5
+c,d - - [01/Jan/2024:t z] \"r\" 404 1000000000000000000
+c,d - - [01/Jan/2024:t z] \"r\" 200 1000000000000000001
+b - - [31/Feb/2024:t z] \"r\" 200 5
+b - - [01/Jan/2024:t z] \"r\" 99 5
+a - - [02/Jan/2024:t z] \"r\\\"s\" 200 3";
 
 const ODD_HOSTS: &str = "\
 id,parent_id,panel,hits,hits%,visitors,visitors%,bytes,bytes%,avgts,cumts,maxts,method,protocol,data
-0,,hosts,2,,,,10,,,,,,,a
-1,,hosts,1,,,,0,,,,,,,b
-2,,hosts,1,,,,1000000000000000000,,,,,,,\"c,d\"
+0,,visitors,2,,2,,3,,,,,,,20240102
+1,,visitors,2,,1,,1000000000000000007,,,,,,,20240101
+0,,hosts,2,,2,,10,,,,,,,a
+1,,hosts,1,,1,,0,,,,,,,b
+2,,hosts,1,,0,,1000000000000000000,,,,,,,\"c,d\"
 ";
 
 const LOG_WORDS: &[&str] = &["-o", "csv", "a.log"];
@@ -67,6 +84,7 @@ const READ_FAULT: Status = Status::FileFault {
 const PLAIN: Case = Case {
     words: LOG_WORDS,
     log: THREE_LINES,
+    times: 1,
     file_call: None,
     rooms: (None, None),
     status: Status::Done,
@@ -86,7 +104,10 @@ fn words_of(alloc: Global, words: &[&str]) -> Result<Texts, NoMemory> {
 fn check<R: Abort + AllocGlobal>(rt: &R, case: &Case) -> Result<(), Fail> {
     let alloc = rt.alloc();
     let mut files = MemFiles::new(alloc);
-    files.grow(&Text::of(alloc, "a.log")?, case.log.as_bytes())?;
+    let name = Text::of(alloc, "a.log")?;
+    for _ in 0..case.times {
+        files.grow(&name, case.log.as_bytes())?;
+    }
     if let Some(call) = case.file_call {
         files.fail_at(call)?;
     }
@@ -118,6 +139,23 @@ fn runs_end_as_their_causes_say(rt: HostRuntime) -> Result<(), Fail> {
         Case {
             log: sample::LOG,
             stdout: sample::REPORT,
+            ..PLAIN
+        },
+        Case {
+            log: BIG_LINE,
+            times: 4,
+            stdout: FOUR_BIG_LINES,
+            ..PLAIN
+        },
+        Case {
+            log: BIG_LINE,
+            times: 6,
+            status: Status::CounterFull {
+                which: Counter::Bytes,
+                total: 5_000_000_000_000_000_000,
+            },
+            stdout: "",
+            stderr: "goaccess: counter full: bytes 5000000000000000000\n",
             ..PLAIN
         },
         Case {

@@ -16,7 +16,7 @@ pub enum Answer {
 
 /// How the program is used.
 const HELP: &[u8] = b"\
-goaccess: hits and bytes of each host in a web log, as CSV
+goaccess: visitors of each day, and hosts, in a web log, as CSV
 
 Usage:
   goaccess -o csv LOG
@@ -29,8 +29,8 @@ Usage:
   --version   shows the version
 
 Exit status: 0 done, 1 words of another form, 2 the log can't be read,
-4 the report can't be written, 7 no memory. With any but 0 one line on
-standard error says why.
+4 the report can't be written, 5 a counter is full, 7 no memory. With any
+but 0 one line on standard error says why.
 
 Example:
   goaccess -o csv access.log

@@ -45,10 +45,12 @@ pub const LOG: &str = "\
 /// Its report, worked out by a script of a few lines in another language.
 pub const REPORT: &str = "\
 id,parent_id,panel,hits,hits%,visitors,visitors%,bytes,bytes%,avgts,cumts,maxts,method,protocol,data
-0,,hosts,14,,,,48330,,,,,,,192.0.2.1
-1,,hosts,10,,,,68089,,,,,,,203.0.113.7
-2,,hosts,9,,,,10795,,,,,,,198.51.100.4
-3,,hosts,2,,,,1072,,,,,,,2001:db8::8a2e:370:7334
-4,,hosts,1,,,,1024,,,,,,,192.0.2.77
-5,,hosts,1,,,,2326,,,,,,,2001:db8::1
+0,,visitors,17,,5,,73451,,,,,,,20240313
+1,,visitors,20,,5,,58185,,,,,,,20240312
+0,,hosts,14,,2,,48330,,,,,,,192.0.2.1
+1,,hosts,10,,2,,68089,,,,,,,203.0.113.7
+2,,hosts,9,,2,,10795,,,,,,,198.51.100.4
+3,,hosts,2,,2,,1072,,,,,,,2001:db8::8a2e:370:7334
+4,,hosts,1,,1,,1024,,,,,,,192.0.2.77
+5,,hosts,1,,1,,2326,,,,,,,2001:db8::1
 ";

@@ -6,10 +6,10 @@ use Rattle.ga_line.proofs.reading.values_of.Goals as goal
 
 pub returns-in_err-fit-clause-fails : goal.returns-in_err-fit-clause-fails
 returns-in_err-fit-clause-fails c =
-    subst (λ r. IfNone r (Fails c.args.line.now)) (sym c.from_residual.ensures) (fails-misfit c.args.line.now c.in_err-fit.ensures)
+    subst (λ r. IfNone r (Fails c.args.dates.now c.args.line.now)) (sym c.from_residual.ensures) (fails-misfit c.args.dates.now c.args.line.now c.in_err-fit.ensures)
 
 pub returns-clause-valid : goal.returns-clause-valid
-returns-clause-valid c = all-valid c.args.line.now c.in_ok-fit.field-0 c.in_ok-fit.ensures c.values.result c.if-line-gt-MAX_LINE.false c.values.ensures.found
+returns-clause-valid c = all-valid c.args.dates.now c.args.line.now c.in_ok-fit.field-0 c.in_ok-fit.ensures c.values.result c.if-line-gt-MAX_LINE.false c.values.ensures.found
 
 pub returns-clause-fails : goal.returns-clause-fails
-returns-clause-fails c = all-refused c.args.line.now c.in_ok-fit.field-0 c.in_ok-fit.ensures c.values.result c.values.ensures.refused
+returns-clause-fails c = all-refused c.args.dates.now c.args.line.now c.in_ok-fit.field-0 c.in_ok-fit.ensures c.values.result c.values.ensures.refused

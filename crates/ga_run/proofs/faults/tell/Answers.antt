@@ -12,3 +12,7 @@ returns-in-OutFault-clause-line g c =
 
 pub returns-in-NoMemory-clause-line : goal.returns-in-NoMemory-clause-line
 returns-in-NoMemory-clause-line g c = rw c.in-NoMemory.is c.say-in-NoMemory.ensures.line
+
+pub returns-in-CounterFull-clause-line : goal.returns-in-CounterFull-clause-line
+returns-in-CounterFull-clause-line g c =
+    rw (c.in-CounterFull.is, ← c.format-in-CounterFull.ensures.text, ← c.as_bytes-total.ensures.value, ← c.counter_name-counter.ensures) c.say-in-CounterFull.ensures.line

@@ -1,4 +1,5 @@
 use Rattle.std.proofs.Common.{◌+◌, subst, get_or, nat_cmp}
+use Rattle.std.specs.Ordering.{ordering_then}
 use Rattle.std.specs.List.Sorted.{IsPermutation}
 use Rattle.ga_run.proofs.HostOrder.{rows-are, not_before}
 use Rattle.ga_run.proofs.hosts.rows_of.Goals as goal
@@ -12,4 +13,4 @@ returns c = λ recs tallied.
     (λ k d low high.
     let x = get_or rows k d in
     let y = get_or rows (k + 1) d in
-    not_before x y (nat_cmp y.bytes x.bytes) (sorted k d low high))
+    not_before x y (ordering_then (nat_cmp y.visitors x.visitors) (nat_cmp y.bytes x.bytes)) (sorted k d low high))

@@ -1,7 +1,6 @@
-use Rattle.std.proofs.Common.{true}
-use Rattle.ga_line.specs.Lines.{lines}
-use Rattle.ga_run.proofs.TallySteps.{Counted}
+use Rattle.std.proofs.Common.{take}
+use Rattle.ga_run.proofs.TallySteps.{AddedUp}
 use Rattle.ga_run.proofs.hosts.tallies.Given as goal
 
-abbrev pub invariant-loop-line : goal.invariant-loop-line
-invariant-loop-line l = Counted (lines l.log true) l.line-iterator l.hosts
+abbrev pub invariant-loop-at : goal.invariant-loop-at
+invariant-loop-at l = AddedUp l.at (take l.at l.summary.rows) l.hosts

@@ -7,7 +7,9 @@ returns c =
       c.format.ensures.text,
       c.as_bytes-hits.ensures.value,
       c.format-2.ensures.text,
-      c.as_bytes-bytes.ensures.value,
+      c.as_bytes-visitors.ensures.value,
       c.format-3.ensures.text,
-      c.bytes-host.ensures.value,
+      c.as_bytes-bytes.ensures.value,
+      c.format-4.ensures.text,
+      c.bytes-label.ensures.value,
     ) at c.write_fields.ensures

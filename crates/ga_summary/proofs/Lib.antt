@@ -1,0 +1,17 @@
+pub mod Orders
+pub mod Put
+pub mod RowLookups
+pub mod NameLists
+pub mod Placing
+pub mod Merging
+pub mod Soundness
+pub mod Bounds
+pub mod Lines
+pub mod Faults
+pub mod Appends
+pub mod OneLine
+pub mod Unique
+pub mod SoundSums
+pub mod TestLines
+pub mod NamePass
+pub mod RowPass

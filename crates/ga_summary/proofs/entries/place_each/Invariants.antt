@@ -1,0 +1,20 @@
+use Rattle.std.proofs.Common.{◌≡◌, ◌+◌, ◌≤◌, vec_len, vec_capacity, length}
+use Rattle.std.specs.Vec.Iter.{into_iter_items}
+use Rattle.ga_summary.specs.Rows.{Row}
+use Rattle.ga_summary.specs.Order.{key_cmp}
+use Rattle.ga_summary.specs.Entries.{rows_of}
+use Rattle.ga_summary.specs.Joined.{put_rows}
+use Rattle.ga_summary.specs.Room.{AllHavePlace}
+use Rattle.ga_summary.specs.Places.{Rises}
+use Rattle.ga_summary.proofs.entries.place_each.Given as goal
+
+abbrev pub invariant-loop-entry : goal.invariant-loop-entry
+invariant-loop-entry l = record {
+  can_next : (goal.iterator-loop-entry).can_next l.entry-iterator;
+  is_finite : (goal.iterator-loop-entry).is_finite l.entry-iterator;
+  rising : Rises key_cmp (λ (row : Row). row.key) (rows_of l.entries.items);
+  rising_more : Rises key_cmp (λ (row : Row). row.key) (rows_of (into_iter_items l.entry-iterator));
+  room : vec_len l.entries + length (into_iter_items l.entry-iterator) ≤ vec_capacity l.entries;
+  fits : AllHavePlace l.entries.items (into_iter_items l.entry-iterator);
+  rest : put_rows (rows_of (into_iter_items l.entry-iterator)) (rows_of l.entries.items) ≡ put_rows (rows_of l.fn.more.items) (rows_of l.initial.entries.items);
+}

@@ -1,0 +1,24 @@
+use Rattle.std.proofs.Common.{◌≡◌, ◌+◌, ◌≤◌, ◌++◌, [], IfNone, length, vec_len, vec_capacity}
+use Rattle.std.specs.Option.{option_to_list}
+use Rattle.std.specs.Vec.Iter.{into_iter_items}
+use Rattle.ga_summary.specs.Entries.{rows_of}
+use Rattle.ga_summary.specs.Joined.{put_rows}
+use Rattle.ga_summary.specs.Order.{key_cmp}
+use Rattle.ga_summary.specs.Places.{Rises}
+use Rattle.ga_summary.specs.Room.{AllHavePlace}
+use Rattle.ga_summary.specs.Rows.{Row}
+use Rattle.ga_summary.proofs.one_pass.merge_entries.Given as goal
+
+abbrev pub invariant-entries : goal.invariant-entries
+invariant-entries l = record {
+  rising_left : Rises key_cmp (λ (row : Row). row.key) (rows_of (option_to_list l.next_left ++ into_iter_items l.left));
+  rising_right : Rises key_cmp (λ (row : Row). row.key) (rows_of (option_to_list l.next_right ++ into_iter_items l.right));
+  ended_left : IfNone l.next_left (into_iter_items l.left ≡ []);
+  ended_right : IfNone l.next_right (into_iter_items l.right ≡ []);
+  room : vec_len l.out + (length (option_to_list l.next_left ++ into_iter_items l.left) + length (option_to_list l.next_right ++ into_iter_items l.right)) ≤ vec_capacity l.out;
+  fits : AllHavePlace (option_to_list l.next_left ++ into_iter_items l.left) (option_to_list l.next_right ++ into_iter_items l.right);
+  rest : rows_of l.out.items ++ put_rows (rows_of (option_to_list l.next_right ++ into_iter_items l.right)) (rows_of (option_to_list l.next_left ++ into_iter_items l.left)) ≡ put_rows (rows_of l.fn.right.items) (rows_of l.fn.left.items);
+}
+
+abbrev pub decreases-entries : goal.decreases-entries
+decreases-entries l = length (option_to_list l.next_left ++ into_iter_items l.left) + length (option_to_list l.next_right ++ into_iter_items l.right)

@@ -1,0 +1,12 @@
+use Rattle.std.proofs.Common.{max, ◌≡◌, ℕ, ◌+◌, ◌<◌, ◌≤◌, Box, Global, length, get_or, vec_len, vec_capacity}
+use Rattle.ga_summary.specs.declared.entry.Entry.{Entry}
+use Rattle.ga_summary.specs.Entries.{rows_of}
+use Rattle.ga_summary.specs.Room.{HasRoom}
+use Rattle.ga_summary.proofs.room.reserve.Given as goal
+
+abbrev pub invariant-loop-entry : goal.invariant-loop-entry
+invariant-loop-entry l = record {
+  rows : rows_of l.entries.items ≡ rows_of l.fn.entries.items;
+  room : vec_len l.entries + length l.more ≤ max (vec_capacity l.entries) (vec_capacity l.room);
+  names : (i : ℕ) (d : Box Entry Global) → i < l.entry-index → HasRoom l.entries.items (get_or l.more i d).value;
+}

@@ -1,0 +1,12 @@
+pub mod Order
+pub mod Places
+pub mod Rows
+pub mod Entries
+pub mod Joined
+pub mod Room
+pub mod Outcomes
+pub mod Sums
+pub mod Sound
+pub mod Limits
+pub mod OneLine
+pub mod TestKeys

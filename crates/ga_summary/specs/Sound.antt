@@ -1,0 +1,130 @@
+-- What holds of every summary: its numbers can be the sum of some lines of a log.
+use Rattle.std.specs.Prelude.{◌≡◌, ◌↔◌, ℕ, ◌+◌, ◌≤◌, ◌/◌, ◌%◌, ◌^◌, ◌==◌, ◌&&◌, Bool, true, false, is_some, List, [], ◌∷◌, length, map, filter, sum_by, count_by, All, Contains}
+use Rattle.std.specs.List.Sorted.{IsStrictlySortedBy}
+use Rattle.std.specs.Option.{ForSome}
+use Rattle.ga_base.specs.declared.counts.TheConstants.{LIMIT, BIG}
+use Rattle.ga_base.specs.declared.key.Key.{Key}
+use Rattle.ga_base.specs.declared.key.Visitor.{Visitor}
+use Rattle.ga_base.specs.declared.counts.Totals.{Totals}
+use Rattle.ga_base.specs.declared.panel.Panel.{Panel}
+use Rattle.ga_base.specs.declared.panel.Panel.TheVariants.{Visitors, Requests, RequestsStatic, NotFound, Os, Browsers, StatusCodes, MimeType}
+use Rattle.ga_base.specs.contracts.panel.PanelPartialEq.TheImpl.{ghosts}
+use Rattle.ga_summary.specs.Order.{key_cmp}
+use Rattle.ga_summary.specs.Outcomes.{Hit, Outcome, hits_of}
+use Rattle.ga_summary.specs.Rows.{Row, SummaryValue, IsInOrder, row_at, sums_at, names_at, has_pair}
+
+-- the eight digits of a day
+abbrev pub date_text : ℕ → List ℕ
+date_text date = map (λ place. 48 + date / 10 ^ place % 10) (7 ∷ 6 ∷ 5 ∷ 4 ∷ 3 ∷ 2 ∷ 1 ∷ 0 ∷ [])
+
+-- a day is written with eight digits
+abbrev pub HasEightDigits : ℕ → Type 0
+HasEightDigits date = (10000000 ≤ date) × (date ≤ 99999999)
+
+-- the panels whose entries stand in groups
+abbrev pub has_groups : Panel → Bool
+has_groups Os = true
+has_groups Browsers = true
+has_groups StatusCodes = true
+has_groups MimeType = true
+has_groups _ = false
+
+-- the panels of requests, whose keys have the method and the protocol
+abbrev pub has_requests : Panel → Bool
+has_requests Requests = true
+has_requests RequestsStatic = true
+has_requests NotFound = true
+has_requests _ = false
+
+unfoldable pub is_same_panel : Panel → Panel → Bool
+is_same_panel a b = ghosts.eq a b
+
+-- the form of a key
+pub record HasForm (key : Key) : Type 0 where
+  pub date : HasEightDigits key.date
+  -- the parent is empty exactly where the panel has no groups
+  pub parent : (key.parent ≡ []) ↔ (has_groups key.panel ≡ false)
+  -- a key of VISITORS is the day's
+  pub label : key.panel ≡ Visitors → key.label ≡ date_text key.date
+  pub request : has_requests key.panel ≡ false → (key.method ≡ []) × (key.protocol ≡ [])
+
+-- the key of VISITORS for a day
+abbrev pub day_key : ℕ → Key
+day_key date = record { panel = Visitors; date = date; parent = []; label = date_text date; method = []; protocol = [] }
+
+abbrev pub is_empty : List ℕ → Bool
+is_empty [] = true
+is_empty (byte ∷ bytes) = false
+
+-- a layer: the keys of a panel that are groups, with empty data, or those that are not
+pub record Layer : Type 0 where
+  pub panel : Panel
+  pub groups : Bool
+
+abbrev pub is_flag : Bool → Bool → Bool
+is_flag true b = b
+is_flag false true = false
+is_flag false false = true
+
+abbrev pub in_layer : Layer → Key → Bool
+in_layer layer key = is_same_panel key.panel layer.panel && is_flag layer.groups (is_empty key.label)
+
+-- the rows of a layer on a day
+abbrev pub layer_rows : Layer → ℕ → List Row → List Row
+layer_rows layer date rows = filter (λ row. (row.key.date == date) && in_layer layer row.key) rows
+
+-- the rows of VISITORS
+abbrev pub day_rows : List Row → List Row
+day_rows rows = filter (λ row. is_same_panel row.key.panel Visitors) rows
+
+-- the rows' hits, bytes and micros sum to at most those
+pub record SumsWithin (rows : List Row) (most_hits most_bytes most_micros : ℕ) : Type 0 where
+  pub hits : sum_by (λ row. row.sums.hits) rows ≤ most_hits
+  pub bytes : sum_by (λ row. row.sums.bytes) rows ≤ most_bytes
+  pub micros : sum_by (λ row. row.sums.micros) rows ≤ most_micros
+
+abbrev pub HasRow : List Row → Key → Type 0
+HasRow rows key = is_some (row_at rows key) ≡ true
+
+pub record TotalsFit (totals : Totals) : Type 0 where
+  pub lines : totals.lines ≤ LIMIT
+  pub bytes : totals.bytes ≤ LIMIT
+  pub micros : totals.micros ≤ LIMIT
+
+pub record IsSound (s : SummaryValue) : Type 0 where
+  -- each key has its form, and its day has a row
+  pub form : (key : Key) → HasRow s.rows key → HasForm key
+  pub day : (key : Key) → HasRow s.rows key → HasRow s.rows (day_key key.date)
+  -- a layer sums to at most the day's row, and each key has a hit
+  pub layers : (layer : Layer) (date : ℕ) → let day = sums_at s.rows (day_key date) in SumsWithin (layer_rows layer date s.rows) day.hits day.bytes day.micros
+  pub hit : (key : Key) → HasRow s.rows key → 1 ≤ (sums_at s.rows key).hits
+  -- a key's visitor is one of the day's, and a key has at most as many visitors as hits
+  pub visitors : (key : Key) (visitor : Visitor) → has_pair s.rows key visitor ≡ true → has_pair s.rows (day_key key.date) visitor ≡ true
+  pub visits : (key : Key) → length (names_at s.rows key) ≤ (sums_at s.rows key).hits
+  -- the days sum to at most the totals, which add up and fit
+  pub days : SumsWithin (day_rows s.rows) s.totals.hits s.totals.bytes s.totals.micros
+  pub lines : s.totals.hits + s.totals.failed + s.totals.excluded ≡ s.totals.lines
+  pub fit : TotalsFit s.totals
+  -- a maximum is a time, and at most its key's sum
+  pub times : (key : Key) → ((sums_at s.rows key).max_micros ≤ BIG) × ((sums_at s.rows key).max_micros ≤ (sums_at s.rows key).micros)
+
+-- what may be counted on a day: keys of that day, in order, each in its form, among them the day's own and at most
+-- one of each layer; a visitor of that day; a size and a time of one line
+pub record IsCountable (date : ℕ) (hit : Hit) : Type 0 where
+  pub rising : IsStrictlySortedBy key_cmp hit.keys
+  pub dated : All (λ key. key.date ≡ date) hit.keys
+  pub formed : All HasForm hit.keys
+  pub day : Contains hit.keys (day_key date)
+  pub layers : (layer : Layer) → count_by (in_layer layer) hit.keys ≤ 1
+  pub visitor : ForSome hit.visitor (λ v. v.date ≡ date)
+  pub bytes : hit.bytes ≤ BIG
+  pub micros : hit.micros ≤ BIG
+
+-- each counted line may be counted on some day
+abbrev pub AllCountable : List Outcome → Type 0
+AllCountable outcomes = All (λ hit. (date : ℕ) × IsCountable date hit) (hits_of outcomes)
+
+-- what every summary is: in order and sound
+pub record IsSummary (s : SummaryValue) : Type 0 where
+  pub ordered : IsInOrder s.rows
+  pub sound : IsSound s

@@ -1,0 +1,22 @@
+//! What holds of all sums of outcomes. Each function's contract is the law, and its body is empty.
+
+ghost use Rattle.std.specs.Prelude.{◌≡◌, List, ◌++◌};
+ghost use Rattle.ga_summary.specs.Outcomes.{Outcome, totals_of};
+ghost use Rattle.ga_summary.specs.Rows.{SummaryValue};
+ghost use Rattle.ga_summary.specs.Sound.{IsSound, AllCountable, TotalsFit};
+ghost use Rattle.ga_summary.specs.Sums.{IsSumOf, IsMerged};
+
+/// The sums of two lists of outcomes, merged, are the sum of one list after the other.
+pub fn merged_sums()
+    ensures { (xs ys : List Outcome) (a b s : SummaryValue) → IsSumOf xs a → IsSumOf ys b → IsMerged a b s → IsSumOf (xs ++ ys) s }
+{}
+
+/// A list of outcomes has one sum.
+pub fn one_sum()
+    ensures { (xs : List Outcome) (a b : SummaryValue) → IsSumOf xs a → IsSumOf xs b → a ≡ b }
+{}
+
+/// Where each counted outcome may be counted and the totals fit, the sum is sound.
+pub fn sound_sums()
+    ensures { (xs : List Outcome) (s : SummaryValue) → AllCountable xs → TotalsFit (totals_of xs) → IsSumOf xs s → IsSound s }
+{}
