@@ -1,15 +1,12 @@
 -- What one more line does to the sum of a log's lines.
-use Rattle.std.proofs.Common.{◌≡◌, ◌↔◌, ◌⊎◌, ℕ, ◌+◌, ◌<◌, ◌≤◌, Bool, true, false, List, [], ◌∷◌, ◌++◌, length, map, refl, ap, sym, ◌∙◌, subst, Option, Some, None, IfSome, Result, Ok, Err, OnOk, arith, append_assoc, append-nil, cond, zero, suc, decimal, add_assoc, add-zero, zero-add}
+use Rattle.std.proofs.Common.{◌≡◌, ◌↔◌, ℕ, Bool, true, false, List, [], ◌∷◌, ◌++◌, refl, ap, sym, ◌∙◌, subst, Option, Some, None, IfSome, Result, Ok, Err, OnOk, arith, append_assoc, append-nil, cond, zero, suc, decimal, add_assoc, add-zero, zero-add}
 use Rattle.std.specs.Result.{IsErrOf}
-use Rattle.std.specs.Prelude.{All, Contains, count_by}
-use Rattle.std.specs.Option.{ForSome, unwrap_or}
+use Rattle.std.specs.Prelude.{All}
+use Rattle.std.specs.Option.{unwrap_or}
 use Rattle.ga_summary.specs.OneLine.{record_totals}
-use Rattle.std.specs.List.{filter_map}
-use Rattle.std.specs.List.Sorted.{IsStrictlySortedBy}
 use Rattle.std.proofs.lemmas.List.Elements.{filter_map-append}
 use Rattle.ga_base.specs.declared.counts.Counter.{Counter}
 use Rattle.ga_base.specs.declared.counts.Totals.{Totals}
-use Rattle.ga_base.specs.declared.counts.TheConstants.{BIG}
 use Rattle.ga_base.specs.declared.key.Key.{Key}
 use Rattle.ga_base.specs.declared.key.Visitor.{Visitor}
 use Rattle.ga_base.specs.declared.record.Record.{Record}
@@ -33,7 +30,7 @@ use Rattle.ga_summary.specs.Sums.{IsSumOf}
 use Rattle.ga_summary.proofs.Appends.{totals_of-append}
 use Rattle.ga_run.specs.Counting.{Say, outcome_in, outcomes_in, no_totals, CountsLog, FillsCounter, CountsLine, FillsAtLine}
 use Rattle.ga_summary.specs.Rows.{SummaryValue, totals_plus}
-use Rattle.ga_summary.specs.Sound.{IsCountable, HasForm, Layer, in_layer, is_same_panel, day_key}
+use Rattle.ga_summary.specs.Sound.{IsCountable, HasForm, is_same_panel}
 use Rattle.ga_summary.specs.declared.fault.MergeFault.{MergeFault}
 use Rattle.ga_summary.specs.declared.fault.MergeFault.TheVariants.{CounterFull}
 

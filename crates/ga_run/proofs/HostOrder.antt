@@ -1,14 +1,14 @@
 -- From tallies to the sorted rows of hosts.
-use Rattle.std.proofs.Common.{◌≡◌, ◌≢◌, ℕ, ◌+◌, ◌<◌, ◌≤◌, ◌==◌, Bool, true, false, cond, ◌&&◌, ◌||◌, List, [], ◌∷◌, ◌++◌, length, map, refl, ap, sym, ◌∙◌, subst, Option, Some, None, arith, suc, zero, nat_lt, add-zero, zero-add, get_or, Ordering}
-use Rattle.std.specs.Prelude.{sum_by, count_by, All, slice_get, slice_index_or}
+use Rattle.std.proofs.Common.{◌≡◌, ℕ, ◌+◌, ◌==◌, Bool, true, false, cond, ◌&&◌, ◌||◌, List, [], ◌∷◌, length, map, refl, ap, sym, ◌∙◌, Option, Some, None, arith, nat_lt, zero-add, get_or, Ordering}
+use Rattle.std.specs.Prelude.{count_by}
 use Rattle.std.specs.Option.{is_some}
 use Rattle.std.specs.List.{IsDistinct, AllByRecursion}
-use Rattle.std.specs.List.Sorted.{IsPermutation, IsSortedBy, IsSorted}
+use Rattle.std.specs.List.Sorted.{IsPermutation, IsSortedBy}
 use Rattle.std.specs.Str.{bytes_eq}
 use Rattle.std.specs.HashMap as hash
 use Rattle.std.specs.HashMap.{HashMap}
 use Rattle.std.specs.Map.{lookup, keys_of}
-use Rattle.std.proofs.lemmas.Bool.Decides.{nat_tests, Decides-eqb}
+use Rattle.std.proofs.lemmas.Bool.Decides.{nat_tests}
 use Rattle.std.proofs.lemmas.Cmp.{nat_list_eq_equiv}
 use Rattle.std.proofs.lemmas.List.Elements.{All-map}
 use Rattle.std.proofs.lemmas.List.Sorted.{sum_by-IsPermutation, All-permutation}
@@ -21,14 +21,14 @@ use Rattle.std.proofs.lemmas.Option.{slice_get-get_or}
 use Rattle.std.proofs.lemmas.Slice.Eq.{bytes_eq-Decides}
 use Rattle.ga_summary.specs.Rows.{Row}
 use Rattle.ga_run.specs.Hosts.{of_host, comes_before, Sums, AreHostRows}
-use Rattle.ga_run.specs.Tallies.{tally_in, tally_of, row_of, IsTallied}
+use Rattle.ga_run.specs.Tallies.{tally_in, row_of, IsTallied}
 use Rattle.ga_run.specs.declared.hosts.Tally.{Tally}
 use Rattle.ga_run.specs.declared.panel_row.PanelRow.{PanelRow}
 
-abbrev named : List ℕ → PanelRow → Bool
+abbrev pub named : List ℕ → PanelRow → Bool
 named host row = bytes_eq row.label host
 
-count-cons : (p : PanelRow → Bool) (x : PanelRow) (xs : List PanelRow) → count_by p (x ∷ xs) ≡ cond (p x) 1 0 + count_by p xs
+pub count-cons : (p : PanelRow → Bool) (x : PanelRow) (xs : List PanelRow) → count_by p (x ∷ xs) ≡ cond (p x) 1 0 + count_by p xs
 count-cons p x xs = sum_by-cons (λ (y : PanelRow). cond (p y) 1 0) x xs
 
 -- where no key is the host, no row has it
@@ -67,7 +67,7 @@ order-by false true Equal r h = refl
 order-by false true Greater r h = refl
 order-by false false o r h = refl
 
-eq-comm : (a b : ℕ) → (a == b) ≡ (b == a)
+pub eq-comm : (a b : ℕ) → (a == b) ≡ (b == a)
 eq-comm a b = grind (arith, nat_tests)
 
 -- a row that isn't less than the one before it doesn't come before it

@@ -1,6 +1,8 @@
 pub mod CountSteps
 pub mod DaySteps
+pub mod HostArrangement
 pub mod HostOrder
+pub mod HostSums
 pub mod LogReads
 pub mod RowTexts
 pub mod Runs

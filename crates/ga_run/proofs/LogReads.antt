@@ -1,9 +1,8 @@
 -- What one more read does to the view of files that gave bytes already.
-use Rattle.std.proofs.Common.{◌≡◌, ℕ, ◌+◌, ◌-◌, ◌≤◌, ◌<◌, true, false, List, [], ◌∷◌, ◌++◌, length, refl, ap, sym, ◌∙◌, Option, Some, None, IfSome, arith, take, drop, subst}
+use Rattle.std.proofs.Common.{◌≡◌, ℕ, ◌+◌, ◌≤◌, true, false, List, ◌++◌, ap, sym, ◌∙◌, None, arith, take, drop}
 use Rattle.std.proofs.Math.Seq.{take-add}
 use Rattle.ga_ports.specs.Counts.{raised}
 use Rattle.ga_ports.specs.Files.{FilesView, gives, calls_once, fails_once, is_short, Fails}
-use Rattle.ga_ports.specs.declared.file_counts.FileCounts.{FileCounts}
 use Rattle.ga_run.specs.Reading.{after_reads, StopsReading, MissesRest}
 use Rattle.ga_run.specs.declared.reading.LogFault.{LogFault}
 use Rattle.ga_run.specs.declared.reading.LogFault.TheVariants.{Failed, Short, NoMemory}

@@ -1,5 +1,5 @@
 -- What one more row does to the text of rows.
-use Rattle.std.proofs.Common.{[], ◌++◌, ◌∷◌, ◌≡◌, ◌≤◌, ◌<◌, ◌+◌, ◌∙◌, ap, sym, refl, append_assoc, append-nil, List, ℕ, suc, drop, length, get_or, subst, arith}
+use Rattle.std.proofs.Common.{◌++◌, ◌∷◌, ◌≡◌, ◌≤◌, ◌<◌, ◌+◌, ◌∙◌, ap, sym, append_assoc, append-nil, List, ℕ, suc, drop, length, get_or, arith}
 use Rattle.std.proofs.Math.Seq.{drop-cons}
 use Rattle.std.proofs.lemmas.List.{drop_all}
 use Rattle.csv.specs.Writing.{row_text, default_writer}

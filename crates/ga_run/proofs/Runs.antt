@@ -2,13 +2,12 @@
 use Rattle.std.proofs.Common.{◌≡◌, ◌≢◌, ◌⊎◌, ℕ, ◌≤◌, List, refl, ap, sym, ◌∙◌, subst, inl, inr, arith, false, []}
 use Rattle.ga_ports.specs.Counts.{Rose}
 use Rattle.ga_ports.specs.Files.{FilesView}
-use Rattle.ga_ports.specs.Outs.{OutsView, TargetView, is_full, takes}
+use Rattle.ga_ports.specs.Outs.{OutsView, TargetView, is_full}
 use Rattle.ga_ports.specs.declared.outs.To.{To}
-use Rattle.ga_ports.specs.declared.outs.To.TheVariants.{Stdout, Stderr}
+use Rattle.ga_ports.specs.declared.outs.To.TheVariants.{Stderr}
 use Rattle.ga_run.specs.Printing.{ChangesOnly, Stops, TakesOrStops}
-use Rattle.ga_run.specs.Run.{NameLog, NameNone, Finishes, StopsPrinting, NothingRose, NothingCanFail, NoneFull, Ends, EndsLog, RunsLog, IsRun}
+use Rattle.ga_run.specs.Run.{NameLog, Finishes, StopsPrinting, NothingRose, NothingCanFail, NoneFull, Ends, EndsLog, RunsLog, IsRun}
 use Rattle.ga_run.specs.Statuses.{fault_line}
-use Rattle.ga_run.specs.declared.status.Input.{Input}
 use Rattle.ga_run.specs.declared.status.Status.{Status}
 use Rattle.ga_run.specs.declared.status.Status.TheVariants.{Done, Unbuilt, FileFault, FileShort, OutFault, CounterFull, NoMemory}
 use Rattle.ga_run.proofs.Takes.{takes-nil}

@@ -1,19 +1,21 @@
 -- What one more row of a summary does to the tallies of hosts.
-use Rattle.std.proofs.Common.{◌≡◌, ◌≢◌, ℕ, ◌+◌, ◌-◌, ◌*◌, ◌^◌, ◌<◌, ◌≤◌, ◌==◌, ◌&&◌, Bool, true, false, cond, List, [], ◌∷◌, ◌++◌, length, take, refl, ap, sym, ◌∙◌, subst, Option, Some, None, IfSome, arith, append_assoc, append-nil, length-append, suc, zero, add-zero, zero-add}
+use Rattle.std.proofs.Common.{◌≡◌, ℕ, ◌+◌, ◌^◌, ◌<◌, ◌≤◌, ◌==◌, Bool, true, false, cond, List, [], ◌∷◌, ◌++◌, length, take, refl, ap, sym, ◌∙◌, subst, Option, Some, None, IfSome, arith, append-nil, length-append, suc, zero, zero-add}
 use Rattle.std.specs.Prelude.{filter, sum_by, slice_get}
 use Rattle.std.specs.Str.{bytes_eq}
 use Rattle.std.specs.HashMap as hash
 use Rattle.std.specs.HashMap.{HashMap}
-use Rattle.std.specs.Map.{update}
 use Rattle.std.proofs.lemmas.Bool.Decides.{nat_tests, Decides-eqb}
 use Rattle.std.proofs.lemmas.List.Elements.{filter-append}
 use Rattle.std.proofs.lemmas.List.Sums.{sum_by-append}
 use Rattle.std.proofs.lemmas.Slice.Eq.{bytes_eq-Decides}
 use Rattle.ga_base.specs.declared.panel.Panel.TheVariants.{Hosts}
-use Rattle.ga_summary.specs.Rows.{Row}
+use Rattle.ga_base.specs.declared.counts.TheConstants.{LIMIT}
+use Rattle.ga_summary.specs.Rows.{Row, SummaryValue}
+use Rattle.ga_summary.specs.Sound.{IsSummary}
 use Rattle.ga_run.specs.Hosts.{is_of, is_of_host, of_host, hits_of, visitors_of, bytes_of}
 use Rattle.ga_run.specs.Tallies.{tally_in, tally_of, no_tally, plus, one_more, IsTallied, Adds}
 use Rattle.ga_run.specs.declared.hosts.Tally.{Tally}
+use Rattle.ga_run.proofs.HostSums.{hits-fit, visitors-fit, bytes-fit, host-more}
 
 -- what one row has
 abbrev pub row_tally : Row → Tally
@@ -117,57 +119,28 @@ tallied-other rows row hosts of before = record {
   tallies = λ host. let here : is_of_host host row ≡ false = rw of refl in before.tallies host ∙ sym (tally-same host rows row here);
 }
 
--- a row's numbers are those of 64 bits
-pub record IsSmall (row : Row) : Type 0 where
-  pub hits : row.sums.hits < 2 ^ 64
-  pub visitors : length row.names < 2 ^ 64
-  pub bytes : row.sums.bytes < 2 ^ 64
+-- no row is added up yet
+pub tallied-none : {S : Type 0} → (hosts : HashMap (List ℕ) Tally S) → hash.IsEmpty hosts → hash.IsUnique bytes_eq hosts → IsTallied [] hosts
+tallied-none hosts empty unique = record { unique = unique; tallies = λ host. rw empty refl }
 
--- a tally of so many rows
-abbrev pub IsWithin : ℕ → Tally → Type 0
-IsWithin n t = (t.hits ≤ n * 2 ^ 64) × (t.visitors ≤ n * 2 ^ 64) × (t.bytes ≤ n * 2 ^ 64)
+-- two sums within the limit fit 64 bits
+tally-room : (b : Bool) (t more : Tally) → t.hits + more.hits ≤ LIMIT → t.visitors + more.visitors ≤ LIMIT → t.bytes + more.bytes ≤ LIMIT
+    → IfSome (cond b None (Some t)) (λ (tally : Tally). (tally.hits + more.hits < 2 ^ 64) × (tally.visitors + more.visitors < 2 ^ 64) × (tally.bytes + more.bytes < 2 ^ 64))
+tally-room true t more h v b = tt
+tally-room false t more h v b = (omega arith, omega arith, omega arith)
 
-at_most : (b : Bool) (n : ℕ) {m : ℕ} → n ≤ m → cond b n 0 ≤ m
-at_most true n h = h
-at_most false n h = omega arith
-
-within-push : (f : Row → ℕ) (host : List ℕ) (rows : List Row) (row : Row) (n : ℕ) → f row < 2 ^ 64 → sum_by f (of_host host rows) ≤ n * 2 ^ 64
-    → sum_by f (of_host host (rows ++ row ∷ [])) ≤ (n + 1) * 2 ^ 64
-within-push f host rows row n small h =
-    let one : cond (is_of_host host row) (f row) 0 ≤ 2 ^ 64 = at_most (is_of_host host row) (f row) (omega arith) in
-    omega (arith, sum-push f host rows row (is_of_host host row) refl, one)
-
--- the rows up to a place are added up
-pub record AddedUp {S : Type 0} (n : ℕ) (rows : List Row) (hosts : HashMap (List ℕ) Tally S) : Type 0 where
-  pub tallied : IsTallied rows hosts
-  pub within : (host : List ℕ) → IsWithin n (tally_in (of_host host rows))
-
-pub added-none : {S : Type 0} → (hosts : HashMap (List ℕ) Tally S) → hash.IsEmpty hosts → hash.IsUnique bytes_eq hosts → AddedUp 0 [] hosts
-added-none hosts empty unique = record {
-  tallied = record { unique = unique; tallies = λ host. rw empty refl };
-  within = λ host. (omega arith, omega arith, omega arith);
-}
-
-pub within-more : (n : ℕ) (rows : List Row) (row : Row) → IsSmall row → ((host : List ℕ) → IsWithin n (tally_in (of_host host rows)))
-    → (host : List ℕ) → IsWithin (n + 1) (tally_in (of_host host (rows ++ row ∷ [])))
-within-more n rows row small h host = (
-  within-push (λ (r : Row). r.sums.hits) host rows row n small.hits (h host).0,
-  within-push (λ (r : Row). length r.names) host rows row n small.visitors (h host).1,
-  within-push (λ (r : Row). r.sums.bytes) host rows row n small.bytes (h host).2,
-)
-
--- there is room for one row more
-tally-room : (b : Bool) (t more : Tally) (n : ℕ) → IsWithin n t → n < 2 ^ 64 → (more.hits < 2 ^ 64) → (more.visitors < 2 ^ 64) → (more.bytes < 2 ^ 64)
-    → IfSome (cond b None (Some t)) (λ (tally : Tally). (tally.hits + more.hits < 2 ^ 128) × (tally.visitors + more.visitors < 2 ^ 128) × (tally.bytes + more.bytes < 2 ^ 128))
-tally-room true t more n w long h v b = tt
-tally-room false t more n w long h v b = (omega (arith, w.0), omega (arith, w.1), omega (arith, w.2))
-
-pub added-room : {S : Type 0} → (n : ℕ) (rows : List Row) (row : Row) (host : List ℕ) (hosts : HashMap (List ℕ) Tally S) → AddedUp n rows hosts → n < 2 ^ 64 → IsSmall row
-    → IfSome (hash.get bytes_eq hosts host)
-    (λ tally. (tally.hits + row.sums.hits < 2 ^ 128) × (tally.visitors + length row.names < 2 ^ 128) × (tally.bytes + row.sums.bytes < 2 ^ 128))
-added-room n rows row host hosts before long small =
-    rw (before.tallied.tallies host)
-    (tally-room (length (of_host host rows) == 0) (tally_in (of_host host rows)) (row_tally row) n (before.within host) long small.hits small.visitors small.bytes)
+-- there is room for one row more of a summary
+pub added-room : {S : Type 0} → (s : SummaryValue) → IsSummary s → (n : ℕ) (row : Row) (host : List ℕ) (hosts : HashMap (List ℕ) Tally S) → slice_get s.rows n ≡ Some row
+    → is_of Hosts row ≡ true → host ≡ row.key.label → IsTallied (take n s.rows) hosts
+    → IfSome (hash.get bytes_eq hosts host) (λ tally. (tally.hits + row.sums.hits < 2 ^ 64) × (tally.visitors + length row.names < 2 ^ 64) × (tally.bytes + row.sums.bytes < 2 ^ 64))
+added-room s is n row host hosts at of label before =
+    let eq : bytes_eq row.key.label host ≡ true = (bytes_eq-Decides row.key.label host).1 (sym label) in
+    let here : is_of_host host row ≡ true = rw (of, eq) refl in
+    rw (before.tallies host)
+    (tally-room (length (of_host host (take n s.rows)) == 0) (tally_in (of_host host (take n s.rows))) (row_tally row)
+    (omega (arith, host-more (λ (r : Row). r.sums.hits) host s.rows n row at here, hits-fit s is host))
+    (omega (arith, host-more (λ (r : Row). length r.names) host s.rows n row at here, visitors-fit s is host))
+    (omega (arith, host-more (λ (r : Row). r.sums.bytes) host s.rows n row at here, bytes-fit s is host)))
 
 -- one row more at the end of those that are read
 pub take-more : (n : ℕ) (rows : List Row) (row : Row) → slice_get rows n ≡ Some row → take (n + 1) rows ≡ take n rows ++ row ∷ []
@@ -177,15 +150,11 @@ take-more (suc n) [] row e = cc
 take-more (suc n) (x ∷ xs) row e = let next : suc n + 1 ≡ suc (n + 1) = omega arith in rw next (ap (λ (r : List Row). x ∷ r) (take-more n xs row e))
 
 -- a row of a host is added up
-pub added-host : {S : Type 0} → (n : ℕ) (rows more : List Row) (row : Row) (old new : HashMap (List ℕ) Tally S) → more ≡ rows ++ row ∷ [] → is_of Hosts row ≡ true → IsSmall row
-    → AddedUp n rows old → Adds row.key.label (row_tally row) old new → AddedUp (n + 1) more new
-added-host n rows more row old new e of small before adds =
-    subst (λ (x : List Row). AddedUp (n + 1) x new) (sym e)
-    (record { tallied = tallied-push rows row old new of before.tallied adds; within = within-more n rows row small before.within })
+pub added-host : {S : Type 0} → (rows more : List Row) (row : Row) (old new : HashMap (List ℕ) Tally S) → more ≡ rows ++ row ∷ [] → is_of Hosts row ≡ true
+    → IsTallied rows old → Adds row.key.label (row_tally row) old new → IsTallied more new
+added-host rows more row old new e of before adds = subst (λ (x : List Row). IsTallied x new) (sym e) (tallied-push rows row old new of before adds)
 
 -- a row of another panel is passed over
-pub added-other : {S : Type 0} → (n : ℕ) (rows more : List Row) (row : Row) (hosts : HashMap (List ℕ) Tally S) → more ≡ rows ++ row ∷ [] → is_of Hosts row ≡ false → IsSmall row
-    → AddedUp n rows hosts → AddedUp (n + 1) more hosts
-added-other n rows more row hosts e of small before =
-    subst (λ (x : List Row). AddedUp (n + 1) x hosts) (sym e)
-    (record { tallied = tallied-other rows row hosts of before.tallied; within = within-more n rows row small before.within })
+pub added-other : {S : Type 0} → (rows more : List Row) (row : Row) (hosts : HashMap (List ℕ) Tally S) → more ≡ rows ++ row ∷ [] → is_of Hosts row ≡ false → IsTallied rows hosts
+    → IsTallied more hosts
+added-other rows more row hosts e of before = subst (λ (x : List Row). IsTallied x hosts) (sym e) (tallied-other rows row hosts of before)

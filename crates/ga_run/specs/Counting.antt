@@ -5,7 +5,6 @@ use Rattle.ga_base.specs.declared.counts.Counter.{Counter}
 use Rattle.ga_base.specs.declared.counts.Totals.{Totals}
 use Rattle.ga_base.specs.declared.record.Line.{Line}
 use Rattle.ga_base.specs.declared.record.Line.TheVariants.{Skipped, Failed, Good}
-use Rattle.ga_base.specs.declared.record.Record.{Record}
 use Rattle.ga_dates.specs.Items.{default_date}
 use Rattle.ga_dates.specs.declared.item.Item.{Item}
 use Rattle.ga_line.specs.Lines.{lines}

@@ -1,5 +1,5 @@
 -- What it is to read a log whole, and what a fault in between leaves.
-use Rattle.std.specs.Prelude.{◌≡◌, ℕ, ◌≢◌, ◌<◌, ◌≤◌, if◌then◌else◌, false, List, [], ◌++◌, ◌+◌, length, take, drop, Option, Some, None, IfSome}
+use Rattle.std.specs.Prelude.{◌≡◌, ℕ, ◌≢◌, ◌<◌, ◌≤◌, if◌then◌else◌, false, List, [], ◌++◌, ◌+◌, length, take, drop, Some, None, IfSome}
 use Rattle.std.specs.Option.{unwrap_or}
 use Rattle.ga_ports.specs.Counts.{raised}
 use Rattle.ga_ports.specs.Files.{FilesView, told, is_absent}

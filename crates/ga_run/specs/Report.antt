@@ -1,5 +1,5 @@
 -- The report as text: what `csv` writes for the header row, a row for each day, and a row for each host.
-use Rattle.std.specs.Prelude.{◌≡◌, ℕ, List, [], ◌∷◌, ◌++◌, Option, Some, codes, decimal, Vec, false, suc}
+use Rattle.std.specs.Prelude.{◌≡◌, ℕ, List, [], ◌∷◌, ◌++◌, Some, codes, decimal, Vec, false, suc}
 use Rattle.std.specs.Global.{Global}
 use Rattle.csv.specs.Writing.{row_text, default_writer, text_written, writer_setup, fields_written, has_written}
 use Rattle.csv.specs.declared.writer.Writer.{Writer}

@@ -1,8 +1,8 @@
 -- What one run of goaccess is: over the words, plain views of the files and the targets before and after, and the status.
-use Rattle.std.specs.Prelude.{◌≡◌, ◌≢◌, ℕ, ◌<◌, ◌≤◌, ◌⊎◌, ◌↔◌, false, true, List, [], ◌∷◌, length, Some, None, IfSome, codes}
+use Rattle.std.specs.Prelude.{◌≡◌, ◌≢◌, ℕ, ◌<◌, ◌⊎◌, ◌↔◌, false, true, List, [], ◌∷◌, length, Some, None, IfSome, codes}
 use Rattle.ga_ports.specs.Counts.{Rose}
 use Rattle.ga_ports.specs.Files.{FilesView, told, is_absent}
-use Rattle.ga_ports.specs.Outs.{OutsView, TargetView, takes, is_full}
+use Rattle.ga_ports.specs.Outs.{OutsView, takes, is_full}
 use Rattle.ga_ports.specs.declared.outs.To.{To}
 use Rattle.ga_ports.specs.declared.outs.To.TheVariants.{Stdout}
 use Rattle.ga_base.specs.declared.counts.Counter.{Counter}

@@ -25,10 +25,10 @@ fn rising_days(alloc: Global, summary: &Summary) -> Result<Vec<PanelRow>, NoMemo
         let row = summary.row(at);
         if row.key.panel == Panel::Visitors {
             rows.push(PanelRow {
-                hits: Reverse(row.sums.hits as u128),
+                hits: Reverse(row.sums.hits),
                 label: row.key.label.clone()?,
-                visitors: row.names.len() as u128,
-                bytes: row.sums.bytes as u128,
+                visitors: row.names.len() as u64,
+                bytes: row.sums.bytes,
             })?;
         }
     }

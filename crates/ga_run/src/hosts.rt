@@ -14,9 +14,9 @@ use std::collections::HashMap;
 /// What is counted for one host.
 #[derive(Clone, Copy, Debug, PartialEq, Eq)]
 struct Tally {
-    hits: u128,
-    visitors: u128,
-    bytes: u128,
+    hits: u64,
+    visitors: u64,
+    bytes: u64,
 }
 
 /// The rows of a summary's hosts, in the order of the report.
@@ -27,18 +27,20 @@ pub fn host_rows(alloc: Global, summary: &Summary) -> Result<Vec<PanelRow>, NoMe
     rows_of(alloc, hosts)
 }
 
-/// Adds up the rows of each host over all days.
+/// Adds up the rows of each host over all days. They are at most the summary's totals, which fit 64 bits.
 fn tallies(alloc: Global, summary: &Summary) -> Result<HashMap<Text, Tally>, NoMemory>
     ensures { IfOk result (IsTallied summary.now.rows) }
 {
+    // What is known of the totals is that the rows can't sum to more.
+    let _totals = summary.totals();
     let mut hosts = HashMap::new(alloc);
     for at in 0..summary.len() {
         let row = summary.row(at);
         if row.key.panel == Panel::Hosts {
             let more = Tally {
-                hits: row.sums.hits as u128,
-                visitors: row.names.len() as u128,
-                bytes: row.sums.bytes as u128,
+                hits: row.sums.hits,
+                visitors: row.names.len() as u64,
+                bytes: row.sums.bytes,
             };
             add(&mut hosts, row.key.label.clone()?, more)?;
         }
@@ -48,7 +50,7 @@ fn tallies(alloc: Global, summary: &Summary) -> Result<HashMap<Text, Tally>, NoM
 
 /// Adds one more row of a host.
 fn add(hosts: &mut HashMap<Text, Tally>, host: Text, more: Tally) -> Result<(), NoMemory>
-    requires room { IfSome (hash.get bytes_eq hosts.old host) (λ tally. (tally.hits + more.hits < 2 ^ 128) × (tally.visitors + more.visitors < 2 ^ 128) × (tally.bytes + more.bytes < 2 ^ 128)) }
+    requires room { IfSome (hash.get bytes_eq hosts.old host) (λ tally. (tally.hits + more.hits < 2 ^ 64) × (tally.visitors + more.visitors < 2 ^ 64) × (tally.bytes + more.bytes < 2 ^ 64)) }
     ensures { OnOk result (Adds host more hosts.old hosts.new) }
 {
     let tally = match hosts.get(&host) {

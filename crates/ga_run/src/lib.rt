@@ -8,6 +8,7 @@ mod counting;
 mod days;
 mod faults;
 mod hosts;
+pub mod laws;
 mod panel_row;
 mod printing;
 mod reading;

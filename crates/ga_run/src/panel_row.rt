@@ -5,11 +5,11 @@ use std::cmp::Reverse;
 #[derive(Debug, PartialEq, Eq, PartialOrd, Ord, Drop)]
 pub struct PanelRow {
     /// The number of valid lines.
-    pub hits: Reverse<u128>,
+    pub hits: Reverse<u64>,
     /// The day's digits, or the host.
     pub label: Text,
     /// The number of different visitors.
-    pub visitors: u128,
+    pub visitors: u64,
     /// The sum of the lines' sizes in bytes.
-    pub bytes: u128,
+    pub bytes: u64,
 }

@@ -1,3 +1,9 @@
+ghost use Rattle.std.specs.Prelude.{◌≡◌, ◌≢◌};
+ghost use Rattle.std.specs.IoError.{error_kind};
+ghost use Rattle.std.specs.declared.io.ErrorKind.TheVariants.{InvalidData};
+ghost use Rattle.goaccess.specs.Words.{words_line, words_code};
+ghost use Rattle.goaccess.specs.declared.words.WordsFault.TheVariants.{NotText as WordsNotText, NoMemory as WordsNoMemory};
+
 use ga_base::{NoMemory, Text, Texts};
 use std::env::{self, Env};
 use std::io::{self, ErrorKind};
@@ -13,7 +19,9 @@ pub enum WordsFault {
 
 impl WordsFault {
     /// The line for standard error.
-    pub fn line(self) -> &'static [u8] {
+    pub fn line(self) -> &'static [u8]
+        ensures { result.now ≡ words_line self }
+    {
         match self {
             WordsFault::NotText => b"goaccess: words are not UTF-8\n",
             WordsFault::NoMemory => b"goaccess: no memory\n",
@@ -21,7 +29,9 @@ impl WordsFault {
     }
 
     /// The exit status, as of a run with this fault.
-    pub fn code(self) -> u8 {
+    pub fn code(self) -> u8
+        ensures { result ≡ words_code self }
+    {
         match self {
             WordsFault::NotText => 1,
             WordsFault::NoMemory => 7,
@@ -30,12 +40,16 @@ impl WordsFault {
 }
 
 impl From<NoMemory> for WordsFault {
+    ghost from_gives = { λ _ e. e ≡ WordsNoMemory };
+
     fn from(_: NoMemory) -> WordsFault {
         WordsFault::NoMemory
     }
 }
 
 impl From<io::Error> for WordsFault {
+    ghost from_gives = { λ error e. (error_kind error ≡ InvalidData → e ≡ WordsNotText) × (error_kind error ≢ InvalidData → e ≡ WordsNoMemory) };
+
     fn from(error: io::Error) -> WordsFault {
         match error.kind() {
             ErrorKind::InvalidData => WordsFault::NotText,

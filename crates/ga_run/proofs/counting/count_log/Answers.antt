@@ -1,6 +1,5 @@
 use Rattle.std.proofs.Common.{◌≡◌, ◌∙◌, sym, subst, true, [], ap, Err}
 use Rattle.std.proofs.lemmas.Result.{err_from_is_err_and}
-use Rattle.ga_dates.specs.Items.{default_date}
 use Rattle.ga_line.specs.Lines.{lines}
 use Rattle.ga_summary.specs.declared.fault.MergeFault.TheVariants.{CounterFull}
 use Rattle.ga_run.specs.Counting.{FillsAtLine}

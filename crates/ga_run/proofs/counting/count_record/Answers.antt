@@ -1,8 +1,7 @@
-use Rattle.std.proofs.Common.{◌≡◌, subst, arith, sym, ◌∙◌}
+use Rattle.std.proofs.Common.{subst, sym, ◌∙◌}
 use Rattle.std.specs.Option.{option_copied}
 use Rattle.ga_panels.specs.Form.{AreKeysOfDay}
 use Rattle.ga_panels.specs.Table.{table_keys}
-use Rattle.ga_panels.specs.Visitors.{visitor_in}
 use Rattle.ga_summary.specs.Outcomes.{hit_of}
 use Rattle.ga_summary.specs.Sound.{IsCountable}
 use Rattle.ga_run.proofs.CountSteps.{countable, fits_by}

@@ -1,4 +1,4 @@
-use Rattle.std.proofs.Common.{arith, ◌≡◌, ◌+◌, ◌∙◌, ap, sym, take, take_all, List, [], ◌∷◌, ◌++◌, Vec, Global}
+use Rattle.std.proofs.Common.{arith, ◌≡◌, ◌∙◌, ap, sym, take, take_all, List, [], ◌∷◌, ◌++◌, Vec, Global}
 use Rattle.ga_summary.specs.Rows.{Row}
 use Rattle.ga_summary.specs.Sound.{is_same_panel}
 use Rattle.ga_run.specs.Hosts.{day_row}

@@ -1,6 +1,6 @@
 use Rattle.std.proofs.Common.{take}
-use Rattle.ga_run.proofs.TallySteps.{AddedUp}
+use Rattle.ga_run.specs.Tallies.{IsTallied}
 use Rattle.ga_run.proofs.hosts.tallies.Given as goal
 
 abbrev pub invariant-loop-at : goal.invariant-loop-at
-invariant-loop-at l = AddedUp l.at (take l.at l.summary.rows) l.hosts
+invariant-loop-at l = IsTallied (take l.at l.summary.rows) l.hosts

@@ -1,4 +1,4 @@
-use Rattle.std.proofs.Common.{arith, ◌≤◌, ◌+◌, ◌≡◌, length, take, ap, subst, sym, ◌∙◌, take_all, refl, length-drop}
+use Rattle.std.proofs.Common.{arith, ◌≤◌, ◌+◌, ◌≡◌, length, take, ap, subst, take_all, refl, length-drop}
 use Rattle.ga_run.specs.Printing.{printed}
 use Rattle.ga_run.proofs.Takes.{printed-nil, printed-after, fails-after, printed-all, starved-printed, nothing_fails, to_end, front-more}
 use Rattle.ga_run.proofs.printing.print.Goals as goal

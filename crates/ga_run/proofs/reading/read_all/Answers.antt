@@ -1,6 +1,5 @@
-use Rattle.std.proofs.Common.{arith, ℕ, ◌≡◌, ◌<◌, ◌≤◌, ◌+◌, ◌-◌, ◌++◌, ◌∙◌, length, take, drop, min, subst, sym, ap, take_all, length-take}
+use Rattle.std.proofs.Common.{arith, ℕ, ◌≡◌, ◌<◌, ◌+◌, ◌++◌, ◌∙◌, length, take, drop, subst, sym, ap, take_all, length-take}
 use Rattle.std.specs.Option.{IfSome}
-use Rattle.std.specs.Result.{IfErr}
 use Rattle.std.proofs.lemmas.Result.{err_from_is_err_and}
 use Rattle.ga_ports.proofs.Results.{if_some-all, if_some-map, if_some-both}
 use Rattle.ga_run.specs.Reading.{after_reads}
