@@ -1,0 +1,5 @@
+mod GrammarLemmas
+mod NumberLemmas
+mod AddressLemmas
+mod DashLemmas
+mod RangeLemmas
