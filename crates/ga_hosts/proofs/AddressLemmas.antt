@@ -16,7 +16,8 @@ use Rattle.ga_hosts.specs.Numbers.{numbered}
 use Rattle.ga_hosts.proofs.GrammarLemmas.{quad-dotted, dotted-quad, form-colon_hex, colon_hex-form}
 use Rattle.ga_hosts.proofs.NumberLemmas.{number_in-four, number_in-eight}
 
-form-eight : (text groups : List ℕ) → IsWritten text groups ⊎ IsShortened text groups → length groups ≡ 8
+-- an IPv6 text has eight groups
+pub form-eight : (text groups : List ℕ) → IsWritten text groups ⊎ IsShortened text groups → length groups ≡ 8
 form-eight text groups (inl h) = h.eight
 form-eight text groups (inr h) = rw h.groups_are (simp (length-append, length-replicate) h.eight)
 

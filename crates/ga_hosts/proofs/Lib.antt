@@ -3,3 +3,4 @@ mod NumberLemmas
 mod AddressLemmas
 mod DashLemmas
 mod RangeLemmas
+mod EveryNumber

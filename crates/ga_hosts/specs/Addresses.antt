@@ -82,3 +82,12 @@ Spells text (V6 number) = SpellsV6 text number
 -- the text spells an address
 abbrev pub IsAddress : List ℕ → Type 0
 IsAddress text = (address : Address) × Spells text address
+
+-- the number of the address fits the bits of its family
+abbrev pub FitsFamily : Address → Type 0
+FitsFamily (V4 number) = number < 2 ^ 32
+FitsFamily (V6 number) = number < 2 ^ 128
+
+-- some text spells the address
+abbrev pub HasText : Address → Type 0
+HasText address = (text : List ℕ) × Spells text address

@@ -1,8 +1,8 @@
 //! Laws of the definitions `Spells` and `SpellsRange`: functions that do nothing, each for the law that its contract
 //! states.
 
-ghost use Rattle.std.specs.Prelude.{◌≡◌, ℕ, List};
-ghost use Rattle.ga_hosts.specs.Addresses.{Spells};
+ghost use Rattle.std.specs.Prelude.{◌≡◌, ◌↔◌, ℕ, List};
+ghost use Rattle.ga_hosts.specs.Addresses.{Spells, FitsFamily, HasText};
 ghost use Rattle.ga_hosts.specs.Ranges.{SpellsRange};
 ghost use Rattle.ga_hosts.specs.declared.address.Address.{Address};
 ghost use Rattle.ga_hosts.specs.declared.range.Range.{Range};
@@ -11,6 +11,11 @@ ghost use Rattle.ga_hosts.specs.declared.range.Range.{Range};
 pub fn one_address()
     ensures { (text : List ℕ) (address other : Address) →
         Spells text address → Spells text other → address ≡ other }
+{}
+
+/// Some text spells each number that fits its family, and none spells a number that doesn't.
+pub fn every_address_has_a_text()
+    ensures { (address : Address) → FitsFamily address ↔ HasText address }
 {}
 
 /// A text spells one range at most.
