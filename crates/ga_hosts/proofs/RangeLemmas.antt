@@ -2,10 +2,11 @@
 use Rattle.std.proofs.Common.{◌≡◌, ◌↔◌, ℕ, ◌+◌, ◌<◌, Option, Some, None, List, [], ◌∷◌, ◌++◌, length, Result, Ok, Err, IsErrOf, refl, sym, ap, ◌∙◌, subst, inl, inr, ◌⊎◌, arith, append_assoc}
 use Rattle.std.proofs.lemmas.Option.{same_Some}
 use Rattle.ga_hosts.specs.declared.address.Address.{Address}
+use Rattle.ga_hosts.specs.declared.address.Address.TheVariants.{V4, V6}
 use Rattle.ga_hosts.specs.declared.range.Range.{Range}
 use Rattle.ga_hosts.specs.declared.range.BadRange.{BadRange}
-use Rattle.ga_hosts.specs.Addresses.{Spells, IsAddress}
-use Rattle.ga_hosts.specs.Ranges.{IsAtMost, SpellsOne, SpellsTwo, SpellsRange, LacksFirst, LacksSecond}
+use Rattle.ga_hosts.specs.Addresses.{Spells, IsAddress, IsAtMost}
+use Rattle.ga_hosts.specs.Ranges.{SpellsOne, SpellsTwo, SpellsRange, LacksFirst, LacksSecond}
 use Rattle.ga_hosts.specs.Cuts.{IsCut}
 use Rattle.ga_hosts.proofs.AddressLemmas.{one_address}
 use Rattle.ga_hosts.proofs.DashLemmas.{Dashless, dashless-from_all, dashless-address, one-cut, dash-no_address}
@@ -69,6 +70,11 @@ pub reads-ok : (text : List ℕ) (read : Result Range BadRange) → Reads text r
 reads-ok text (Ok own) h range = (λ e. subst (SpellsRange text) (cc) h, λ k. ap Ok (one_range text own range h k))
 reads-ok text (Err fault) (inl h) range = (λ e. cc, λ k. absurd (first-no_range text range h.1 k))
 reads-ok text (Err fault) (inr h) range = (λ e. cc, λ k. absurd (second-no_range text fault.at range h k))
+
+-- an address isn't above itself
+pub at_most-same : (address : Address) → IsAtMost address address
+at_most-same (V4 number) = omega arith
+at_most-same (V6 number) = omega arith
 
 -- the place of a fault, and none of a range
 abbrev place_of : Result Range BadRange → ℕ

@@ -91,3 +91,10 @@ FitsFamily (V6 number) = number < 2 ^ 128
 -- some text spells the address
 abbrev pub HasText : Address → Type 0
 HasText address = (text : List ℕ) × Spells text address
+
+-- both are of one family, and the first number isn't above the second
+abbrev pub IsAtMost : Address → Address → Type 0
+IsAtMost (V4 a) (V4 b) = a ≤ b
+IsAtMost (V6 a) (V6 b) = a ≤ b
+IsAtMost (V4 a) (V6 b) = ⊥
+IsAtMost (V6 a) (V4 b) = ⊥

@@ -1,17 +1,9 @@
 -- Which range of addresses a text spells, why it spells none, and what a list of ranges holds: this program's own rules
 -- for `--exclude-ip`, after the option of that name in GoAccess.
-use Rattle.std.specs.Prelude.{◌≡◌, ℕ, ◌+◌, ◌≤◌, ◌⊎◌, List, ◌++◌, length, codes, Any}
+use Rattle.std.specs.Prelude.{◌≡◌, ℕ, ◌+◌, ◌⊎◌, List, ◌++◌, length, codes, Any}
 use Rattle.ga_hosts.specs.declared.address.Address.{Address}
-use Rattle.ga_hosts.specs.declared.address.Address.TheVariants.{V4, V6}
 use Rattle.ga_hosts.specs.declared.range.Range.{Range}
-use Rattle.ga_hosts.specs.Addresses.{Spells, IsAddress}
-
--- both are of one family, and the first number isn't above the second
-abbrev pub IsAtMost : Address → Address → Type 0
-IsAtMost (V4 a) (V4 b) = a ≤ b
-IsAtMost (V6 a) (V6 b) = a ≤ b
-IsAtMost (V4 a) (V6 b) = ⊥
-IsAtMost (V6 a) (V4 b) = ⊥
+use Rattle.ga_hosts.specs.Addresses.{Spells, IsAddress, IsAtMost}
 
 -- an address alone is the range of it alone
 pub record SpellsOne (text : List ℕ) (range : Range) : Type 0 where

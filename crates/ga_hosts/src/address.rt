@@ -1,5 +1,5 @@
 ghost use Rattle.std.specs.Prelude.{◌≡◌, ◌↔◌, Some, IsTrue, IsNone};
-ghost use Rattle.ga_hosts.specs.Addresses.{Spells, IsAddress};
+ghost use Rattle.ga_hosts.specs.Addresses.{Spells, IsAddress, IsAtMost};
 ghost use Rattle.ga_hosts.specs.declared.address.Address.{Address as AddressSpec};
 ghost use Rattle.ga_hosts.specs.Numbers.{numbered};
 
@@ -13,6 +13,19 @@ pub enum Address {
     V4(u32),
     /// An IPv6 address, 128 bits.
     V6(u128),
+}
+
+impl Address {
+    /// Whether both are of one family and the number of `self` isn't above that of `other`.
+    pub(crate) fn is_at_most(self, other: Address) -> bool
+        ensures { IsTrue result ↔ IsAtMost self other }
+    {
+        match (self, other) {
+            (Address::V4(low), Address::V4(high)) => low <= high,
+            (Address::V6(low), Address::V6(high)) => low <= high,
+            _ => false,
+        }
+    }
 }
 
 impl From<IpAddr> for Address {

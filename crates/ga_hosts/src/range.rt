@@ -1,6 +1,7 @@
-ghost use Rattle.std.specs.Prelude.{◌≡◌, ◌<◌, ◌↔◌, ℕ, Ok, IsErrOf, IsTrue};
+ghost use Rattle.std.specs.Prelude.{◌≡◌, ◌<◌, ◌↔◌, ℕ, Ok, IfOk, IsErrOf, IsTrue};
 ghost use Rattle.std.specs.Option.{option_copied};
-ghost use Rattle.ga_hosts.specs.Ranges.{IsAtMost, SpellsRange, LacksFirst, LacksSecond, IsWithin};
+ghost use Rattle.ga_hosts.specs.Addresses.{IsAtMost};
+ghost use Rattle.ga_hosts.specs.Ranges.{SpellsRange, LacksFirst, LacksSecond, IsWithin};
 ghost use Rattle.ga_hosts.specs.Cuts.{IsCut};
 ghost use Rattle.ga_hosts.specs.declared.range.Range.{Range as RangeSpec};
 
@@ -49,6 +50,7 @@ impl Range {
     /// part is none, is of the other family or is below the first.
     pub fn read(text: &[u8]) -> Result<Range, BadRange>
         ensures ok { (range : RangeSpec) → (result ≡ Ok range) ↔ SpellsRange text.now range }
+        ensures ordered { IfOk result (λ range. IsAtMost range.low range.high) }
         ensures bad_first { IsErrOf result (record { at = 0 }) ↔ LacksFirst text.now }
         ensures bad_second { (at : ℕ) → 0 < at →
             (IsErrOf result (record { at = at }) ↔ LacksSecond text.now at) }
@@ -73,19 +75,6 @@ impl Range {
         ensures { IsTrue result ↔ IsWithin address self.now }
     {
         self.low.is_at_most(address) && address.is_at_most(self.high)
-    }
-}
-
-impl Address {
-    /// Whether both are of one family and the number of `self` isn't above that of `other`.
-    fn is_at_most(self, other: Address) -> bool
-        ensures { IsTrue result ↔ IsAtMost self other }
-    {
-        match (self, other) {
-            (Address::V4(low), Address::V4(high)) => low <= high,
-            (Address::V6(low), Address::V6(high)) => low <= high,
-            _ => false,
-        }
     }
 }
 
