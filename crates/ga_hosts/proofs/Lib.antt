@@ -1,0 +1,6 @@
+mod GrammarLemmas
+mod NumberLemmas
+mod AddressLemmas
+mod DashLemmas
+mod RangeLemmas
+mod EveryNumber
