@@ -3,13 +3,15 @@
 //!
 //! Start with `split_request` and `decode_url`. `specs/Requests.antt` says what a request line is,
 //! `specs/Urls.antt` what a URL and a static file are, `specs/Referrers.antt` what a referrer says, and
-//! `specs/Tables.antt` has the known methods, protocols and extensions.
+//! `specs/Tables.antt` has the known methods, protocols and extensions. `laws` says that each has one meaning.
 #![tactic(auto)]
 
 pub mod laws;
 mod referrers;
 mod splitting;
 mod tables;
+#[cfg(test)]
+mod tests;
 mod urls;
 
 pub use referrers::{keyphrase, referring_site};
