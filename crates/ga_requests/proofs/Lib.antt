@@ -1,5 +1,5 @@
 mod ExtensionLemmas
-mod MeaningLemmas
+pub mod MeaningLemmas
 mod PhraseLemmas
 mod PlaceLemmas
 mod SiteLemmas

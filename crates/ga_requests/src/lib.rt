@@ -6,6 +6,7 @@
 //! `specs/Tables.antt` has the known methods, protocols and extensions. `laws` says that each has one meaning.
 #![tactic(auto)]
 
+mod cutting;
 pub mod laws;
 mod referrers;
 mod splitting;

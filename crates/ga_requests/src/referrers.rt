@@ -1,7 +1,8 @@
-ghost use Rattle.std.specs.Prelude.{◌≡◌, ◌==◌, ◌↔◌, [], ◌∷◌, IfOk, IfSome, IfNone, IsTrue, Some, None};
+ghost use Rattle.std.specs.Prelude.{◌≡◌, ◌↔◌, [], ◌∷◌, IfOk, IfSome, IfNone, IsTrue, Some, None};
 ghost use Rattle.std.specs.List.{before_first};
 ghost use Rattle.ga_requests.specs.Referrers.{SiteIs, ends_site, query_of, pairs_of, text_of, PhraseIs, IsGoogle, KeyphraseIs};
 
+use crate::cutting::{NUMBER_SIGN, QUESTION_MARK, before_byte};
 use form_urlencoded::{decode, raw_pairs};
 use ga_base::{NoMemory, Text};
 use memchr::{memchr, memchr3};
@@ -16,13 +17,8 @@ const GOOGLE: &str = "google.";
 /// The name of the pair that holds what was searched for.
 const PHRASE_NAME: &str = "q";
 
+/// The byte that begins a path.
 const SLASH: u8 = b'/';
-
-/// The byte that begins a query.
-const QUESTION_MARK: u8 = b'?';
-
-/// The byte that begins a fragment.
-const NUMBER_SIGN: u8 = b'#';
 
 /// The site that a referrer names, with its port: what stands behind the first `://`, up to the first `/`, `?`,
 /// `#` or the end (own profile). `None` exactly where there is no `://` or nothing stands there.
@@ -82,18 +78,8 @@ fn query_in(referrer: &[u8]) -> &[u8]
     ensures { result.now ≡ query_of referrer.now }
 {
     match memchr(QUESTION_MARK, referrer) {
-        Some(at) => before_fragment(&referrer[at + 1..]),
+        Some(at) => before_byte(&referrer[at + 1..], NUMBER_SIGN),
         None => &[],
-    }
-}
-
-/// What stands before the first `#`.
-fn before_fragment(text: &[u8]) -> &[u8]
-    ensures { result.now ≡ before_first (λ b. b == NUMBER_SIGN) text.now }
-{
-    match memchr(NUMBER_SIGN, text) {
-        Some(at) => &text[..at],
-        None => text,
     }
 }
 

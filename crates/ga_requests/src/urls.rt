@@ -3,14 +3,12 @@ ghost use Rattle.std.specs.List.{list_any, ends_with};
 ghost use Rattle.ga_requests.specs.Tables.{extensions};
 ghost use Rattle.ga_requests.specs.Urls as spec;
 
+use crate::cutting::{QUESTION_MARK, before_byte};
 use crate::tables::is_extension;
 use ga_base::{NoMemory, Text, Texts};
-use memchr::{memchr, memrchr};
+use memchr::memrchr;
 use percent_encoding::percent_decode;
 use std::alloc::Global;
-
-/// The byte that begins a query.
-const QUESTION_MARK: u8 = b'?';
 
 /// The byte that begins an extension.
 const DOT: u8 = b'.';
@@ -19,10 +17,7 @@ const DOT: u8 = b'.';
 pub fn without_query(text: &[u8]) -> &[u8]
     ensures { result.now ≡ spec.without_query text.now }
 {
-    match memchr(QUESTION_MARK, text) {
-        Some(at) => &text[..at],
-        None => text,
-    }
+    before_byte(text, QUESTION_MARK)
 }
 
 /// The text of a URL: the bytes are percent-decoded (URL Standard, section 1.3) `times` times, once or twice, and

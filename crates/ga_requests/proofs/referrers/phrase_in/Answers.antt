@@ -1,6 +1,6 @@
-use Rattle.std.proofs.Common.{◌≡◌, [], length, rules, sym, ap, ◌∙◌}
+use Rattle.std.proofs.Common.{◌≡◌, [], rules, sym, ◌∙◌, arith}
 use Rattle.std.specs.Prelude.{codes}
-use Rattle.std.proofs.lemmas.Bool.{both_ways, eq-eqb}
+use Rattle.std.proofs.lemmas.Grind.{common_steps}
 use Rattle.ga_requests.specs.Referrers.{text_of}
 use Rattle.ga_requests.proofs.PhraseLemmas.{phrase-itself}
 use Rattle.ga_requests.proofs.referrers.phrase_in.Goals as goal
@@ -9,7 +9,6 @@ pub returns : goal.returns
 returns c =
     let named : c.as_str.result.now ≡ codes "q" = search rules in
     let name-is : text_of c.args.name.now ≡ codes "q" = sym c.in_ok-decode.ensures.value.2 ∙ sym c.as_str.ensures.value ∙ named in
-    let value-is : ¬ (text_of c.args.value.now ≡ []) =
-    λ none. both_ways _ c.if-is_empty.false (c.is_empty.ensures ∙ eq-eqb _ _ (ap length (c.as_str-2.ensures.value ∙ c.in_ok-phrase.ensures.value.2 ∙ none))) in
     let phrase-is : c.from.result ≡ text_of c.args.value.now = c.from.ensures ∙ c.in_ok-into_owned.ensures.ok ∙ c.in_ok-phrase.ensures.value.2 in
+    let value-is : ¬ (text_of c.args.value.now ≡ []) = λ none. grind (arith, common_steps, sym c.in_ok-phrase.ensures.value.2) in
     phrase-itself (text_of c.args.name.now) (text_of c.args.value.now) c.from.result name-is value-is phrase-is

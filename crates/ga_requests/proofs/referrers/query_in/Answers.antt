@@ -8,7 +8,7 @@ use Rattle.ga_requests.proofs.referrers.query_in.Goals as goal
 
 pub returns-in-Some : goal.returns-in-Some
 returns-in-Some c =
-    c.before_fragment.ensures ∙ ap (λ rest. before_first (λ b. b == number_sign) rest) (after_some (is_byte question_mark) c.args.referrer.now c.in-Some.at c.in-Some.ensures)
+    c.before_byte.ensures ∙ ap (λ rest. before_first (λ b. b == number_sign) rest) (after_some (is_byte question_mark) c.args.referrer.now c.in-Some.at c.in-Some.ensures)
 
 pub returns-in-None : goal.returns-in-None
 returns-in-None c = sym (ap (λ rest. before_first (λ b. b == number_sign) rest) (after_none (is_byte question_mark) c.args.referrer.now c.in-None.ensures))
