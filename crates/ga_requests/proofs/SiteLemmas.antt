@@ -7,10 +7,10 @@ use Rattle.std.specs.Str.Pattern.{FindsText, LacksTextAt, SplitsAroundMatch}
 use Rattle.std.proofs.lemmas.Bool.{cases_lt}
 use Rattle.std.proofs.lemmas.List.{drop_at, take-append-drop}
 use Rattle.std.proofs.lemmas.List.Prefix.{end_rest}
-use Rattle.ga_requests.specs.Referrers.{Follows, Names, SiteIs, IsGoogle, ends_site}
+use Rattle.ga_requests.specs.Referrers.{FollowsFirst, Names, SiteIs, IsGoogle, ends_site}
 
 module _ (mark text : List ℕ) where
-  pub follows-split : (front rest : List ℕ) → SplitsAroundMatch (FindsText mark) text front rest → Follows mark text rest
+  pub follows-split : (front rest : List ℕ) → SplitsAroundMatch (FindsText mark) text front rest → FollowsFirst mark text rest
   follows-split front rest cut =
       let joined : text ≡ take cut.0 text ++ (mark ++ rest) =
       sym (take-append-drop cut.0 text) ∙ ap (λ r. take cut.0 text ++ r) (cut.2.1.split ∙ ap (λ r. mark ++ r) (sym cut.4)) in
@@ -23,13 +23,13 @@ module _ (mark text : List ℕ) where
             (cases_lt (length sooner) cut.0);
       }
 
-  pub follows-nowhere : ((k : ℕ) → k ≤ length text → LacksTextAt mark text k) → (rest : List ℕ) → Follows mark text rest → ⊥
+  pub follows-nowhere : ((k : ℕ) → k ≤ length text → LacksTextAt mark text k) → (rest : List ℕ) → FollowsFirst mark text rest → ⊥
   follows-nowhere lacks rest follows =
       let front = follows.split.0 in
       lacks (length front) (omega (arith, ap length follows.split.1, length-append front (mark ++ rest))) rest
       (ap (drop (length front)) follows.split.1 ∙ drop_at front (mark ++ rest) (length front) refl)
 
-  pub follows-same : (rest other : List ℕ) → Follows mark text rest → Follows mark text other → rest ≡ other
+  pub follows-same : (rest other : List ℕ) → FollowsFirst mark text rest → FollowsFirst mark text other → rest ≡ other
   follows-same rest other one two =
       let e1 : text ≡ (one.split.0 ++ mark) ++ rest = one.split.1 ∙ sym (append_assoc one.split.0 mark rest) in
       let e2 : text ≡ (two.split.0 ++ mark) ++ other = two.split.1 ∙ sym (append_assoc two.split.0 mark other) in

@@ -14,8 +14,9 @@ slash = 47
 abbrev pub number_sign : ℕ
 number_sign = 35
 
--- `rest` is what stands behind the first place of `mark` in the text
-pub record Follows (mark text rest : List ℕ) : Type 0 where
+-- `rest` is what stands behind the first place of `mark` in the text: it stands behind one, and nothing longer
+-- stands behind any
+pub record FollowsFirst (mark text rest : List ℕ) : Type 0 where
   pub split : (front : List ℕ) × (text ≡ front ++ (mark ++ rest))
   pub first : (front later : List ℕ) → text ≡ front ++ (mark ++ later) → length later ≤ length rest
 
@@ -25,7 +26,7 @@ ends_site b = b == slash || b == question_mark || b == number_sign
 
 -- `site` stands behind the first `://`, up to the first `/`, `?`, `#` or the end
 abbrev pub Names : List ℕ → List ℕ → Type 0
-Names referrer site = (rest : List ℕ) × Follows (codes "://") referrer rest × (site ≡ before_first ends_site rest)
+Names referrer site = (rest : List ℕ) × FollowsFirst (codes "://") referrer rest × (site ≡ before_first ends_site rest)
 
 -- the site of a referrer, None exactly where it names none or an empty one
 abbrev pub SiteIs : List ℕ → Option (List ℕ) → Type 0

@@ -18,7 +18,7 @@ pub record IsRequestLine (text method target protocol : List ℕ) : Type 0 where
 abbrev pub IsNoRequestLine : List ℕ → Type 0
 IsNoRequestLine text = (method target protocol : List ℕ) → IsRequestLine text method target protocol → ⊥
 
--- the text is the target whole
+-- the text is no request line, and so the target whole, with no method and no protocol
 pub record IsTarget (text method target protocol : List ℕ) : Type 0 where
   pub other : IsNoRequestLine text
   pub whole : target ≡ text
