@@ -1,6 +1,7 @@
 ghost use Rattle.std.specs.Prelude.{◌≡◌, ◌↔◌, [], ◌∷◌, IfOk, IfSome, IfNone, IsTrue, Some, None};
 ghost use Rattle.std.specs.List.{before_first};
-ghost use Rattle.ga_requests.specs.Referrers.{SiteIs, ends_site, query_of, pairs_of, text_of, PhraseIs, IsGoogle, KeyphraseIs};
+ghost use Rattle.ga_requests.specs.Referrers.{SiteIs, ends_site, IsGoogle, KeyphraseIs};
+ghost use Rattle.ga_requests.specs.Referrers.{query_of, pairs_of, text_of, PhraseIs};
 
 use crate::cutting::{NUMBER_SIGN, QUESTION_MARK, before_byte};
 use form_urlencoded::{decode, raw_pairs};

@@ -36,7 +36,8 @@ pub fn split_request(text: &[u8]) -> Parts<'_>
 
 /// The parts of a request line, `None` for any other text.
 fn request_line(text: &[u8]) -> Option<Parts<'_>>
-    ensures found { IfSome result (λ parts. IsRequestLine text.now parts.method.now parts.target.now parts.protocol.now) }
+    ensures found { IfSome result
+        (λ parts. IsRequestLine text.now parts.method.now parts.target.now parts.protocol.now) }
     ensures other { IfNone result (IsNoRequestLine text.now) }
 {
     let first = memchr(SPACE, text)?;
