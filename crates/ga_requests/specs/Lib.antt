@@ -1,0 +1,4 @@
+pub mod Referrers
+pub mod Requests
+pub mod Tables
+pub mod Urls
