@@ -1,0 +1,6 @@
+pub mod AgentLemmas
+pub mod ClassLemmas
+pub mod CutLemmas
+pub mod FileLemmas
+pub mod LineLemmas
+pub mod OccurLemmas
