@@ -1,5 +1,5 @@
 -- An agent is one thing, and whether it is a crawler is part of it.
-use Rattle.std.proofs.Common.{◌≡◌, ◌↔◌, ℕ, ◌+◌, ◌≤◌, Bool, true, false, List, [], ◌∷◌, ◌++◌, length, take, drop, refl, sym, ap, ◌∙◌, subst, arith, length-append, inl, inr, ⊎_elim}
+use Rattle.std.proofs.Common.{◌≡◌, ◌↔◌, ℕ, ◌+◌, Bool, true, false, List, [], ◌∷◌, ◌++◌, length, take, drop, refl, sym, ap, ◌∙◌, subst, arith, inl, inr, ⊎_elim}
 use Rattle.std.proofs.lemmas.List.{drop_at}
 use Rattle.std.specs.Prelude.{IsTrue}
 use Rattle.std.specs.List.{before_first}
@@ -7,7 +7,7 @@ use Rattle.ga_agents.specs.declared.agent.Agent.{Agent}
 use Rattle.ga_agents.specs.declared.classes.Found.{Found}
 use Rattle.ga_agents.specs.declared.row.Rule.{Rule}
 use Rattle.ga_agents.specs.Classes.{unknown, crawlers, is_delimiter, IsBrowserText, HasBrowser, HasSystem, IsAgent, IsCrawler}
-use Rattle.ga_agents.specs.Occurs.{Occurs, StandsFirst, NoneOccurs, IsFirstEntry}
+use Rattle.ga_agents.specs.Occurs.{Occurs, NoneOccurs, IsFirstEntry}
 use Rattle.ga_agents.specs.Steps.{IsFound}
 use Rattle.ga_agents.specs.Tables.{rule, System, builtin_rules, systems}
 

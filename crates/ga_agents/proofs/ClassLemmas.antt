@@ -1,7 +1,7 @@
 -- What a found entry says of an agent, and the browser's text.
-use Rattle.std.proofs.Common.{◌≡◌, ℕ, ◌+◌, ◌-◌, ◌<◌, ◌≤◌, true, List, [], ◌∷◌, ◌++◌, length, take, drop, get_or, map, Some, refl, sym, ap, ◌∙◌, subst, arith, length-append, length-take-le, length-drop, take-append-drop, get_or-drop, take_all, inl, inr}
+use Rattle.std.proofs.Common.{◌≡◌, ℕ, ◌+◌, ◌-◌, ◌<◌, ◌≤◌, true, List, ◌++◌, length, take, drop, get_or, map, Some, refl, sym, ap, ◌∙◌, subst, arith, length-take-le, length-drop, get_or-drop, inl, inr}
 use Rattle.std.proofs.lemmas.Bool.Decides.{nat_tests}
-use Rattle.std.proofs.lemmas.List.{drop_at, drop-drop}
+use Rattle.std.proofs.lemmas.List.{drop_at}
 use Rattle.std.proofs.lemmas.List.Quantifiers.{position-Some}
 use Rattle.std.proofs.lemmas.List.Sums.{position_or_len_is}
 use Rattle.std.proofs.lemmas.Str.{IsCharBoundary-before_ascii}
@@ -13,7 +13,7 @@ use Rattle.ga_agents.specs.declared.row.Rule.{Rule}
 use Rattle.ga_agents.specs.declared.tables.BrowserEntry.{BrowserEntry}
 use Rattle.ga_agents.specs.declared.tables.SystemEntry.{SystemEntry}
 use Rattle.ga_agents.specs.Classes.{is_delimiter, unknown, HasSystem}
-use Rattle.ga_agents.specs.Occurs.{StandsFirst, NoneOccurs, IsFirstEntry}
+use Rattle.ga_agents.specs.Occurs.{NoneOccurs, IsFirstEntry}
 use Rattle.ga_agents.specs.Steps.{IsPlace, IsFound, rule_of, system_of}
 use Rattle.ga_agents.specs.Tables.{rule, System, builtin_rules, systems}
 use Rattle.ga_agents.proofs.OccurLemmas.{first-append_left, first-append_right, none-append, first-map, none-map}

@@ -1,12 +1,11 @@
 -- A line is cut in one way at most, and the rule that it spells is that cut.
-use Rattle.std.proofs.Common.{◌≡◌, ◌≢◌, ℕ, ◌+◌, ◌-◌, ◌<◌, ◌≤◌, Bool, true, false, not, List, [], ◌∷◌, ◌++◌, length, take, drop, get_or, Option, Some, None, MatchOption, refl, sym, ap, ◌∙◌, subst, arith, length-append, length-take-le, length-drop, append_assoc, take-append-drop, get_or-take, ⊎_elim}
+use Rattle.std.proofs.Common.{◌≡◌, ◌≢◌, ℕ, ◌+◌, ◌<◌, true, false, not, List, [], ◌∷◌, ◌++◌, length, take, drop, get_or, Some, None, refl, sym, ap, ◌∙◌, subst, arith, length-append, length-take-le, take-append-drop, get_or-take, ⊎_elim}
 use Rattle.std.specs.Prelude.{◌==◌, IsTrue}
-use Rattle.std.proofs.lemmas.Bool.{cond-true, lt-ltb, eqb-true, eqb-false, ne_eqb, cases_Bool}
-use Rattle.std.proofs.lemmas.List.{get_or_at, get_or_append_left, drop_more, take_rest}
+use Rattle.std.proofs.lemmas.Bool.{cond-true, lt-ltb, eqb-true, ne_eqb, cases_Bool}
+use Rattle.std.proofs.lemmas.List.{get_or_at, get_or_append_left, drop_more}
 use Rattle.std.proofs.lemmas.List.Elements.{All-from_get_or, All-from_recursion, recursion_from_All}
 use Rattle.std.proofs.lemmas.List.Quantifiers.{position-Some}
 use Rattle.std.proofs.lemmas.List.Sums.{position_or_len_is}
-use Rattle.std.proofs.Math.Seq.{split_at}
 use Rattle.std.specs.List.{AllByRecursion, position, position_or_len}
 use Rattle.bstr.specs.Find.{IsFirstByte, is_byte}
 use Rattle.ga_agents.specs.declared.row.Rule.{Rule}

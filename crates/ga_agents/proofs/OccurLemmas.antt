@@ -1,10 +1,10 @@
 -- Where a token stands, and how the first entry of a list is found.
-use Rattle.std.proofs.Common.{◌≡◌, ◌≢◌, ℕ, ◌+◌, ◌-◌, ◌<◌, ◌≤◌, List, [], ◌∷◌, ◌++◌, length, take, drop, get_or, map, Option, Some, None, MatchOption, refl, sym, ap, ◌∙◌, subst, arith, length-append, length-take-le, take-append-drop, append_assoc, ⊎_elim}
+use Rattle.std.proofs.Common.{◌≡◌, ℕ, ◌+◌, ◌<◌, ◌≤◌, List, [], ◌∷◌, ◌++◌, length, take, drop, get_or, map, Option, Some, None, MatchOption, refl, sym, ap, ◌∙◌, subst, arith, length-append, length-take-le, take-append-drop, append_assoc, ⊎_elim}
 use Rattle.std.proofs.lemmas.List.{drop_at, take_more, drop_more, map-append}
 use Rattle.std.proofs.lemmas.Bool.{cases_lt}
 use Rattle.std.specs.List.{AllByRecursion}
 use Rattle.std.specs.Str.Pattern.{FindsText, MatchBeginsAt}
-use Rattle.ga_agents.specs.Occurs.{Occurs, StandsFirst, NoneOccurs, IsFirstEntry}
+use Rattle.ga_agents.specs.Occurs.{Occurs, NoneOccurs, IsFirstEntry}
 use Rattle.ga_agents.specs.Steps.{IsPlace}
 
 -- what `find` of std answers, in our words

@@ -1,4 +1,4 @@
-use Rattle.std.proofs.Common.{◌≡◌, ℕ, ◌+◌, ◌-◌, List, length, take, drop, Option, MatchOption, refl, sym, ◌∙◌, subst}
+use Rattle.std.proofs.Common.{ℕ, ◌+◌, ◌-◌, List, length, take, drop, MatchOption, refl, sym, ◌∙◌, subst}
 use Rattle.std.proofs.lemmas.List.{take_rest}
 use Rattle.ga_agents.specs.Steps.{IsCut}
 use Rattle.ga_agents.proofs.CutLemmas.{no_tab_no_cut, only_tabs_no_cut, cut_found}

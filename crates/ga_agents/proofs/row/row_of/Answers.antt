@@ -1,4 +1,4 @@
-use Rattle.std.proofs.Common.{◌≡◌, true, false, List, MatchOption, sym, ap, ◌∙◌, subst}
+use Rattle.std.proofs.Common.{List, MatchOption, sym, subst}
 use Rattle.ga_agents.specs.declared.row.Rule.{Rule}
 use Rattle.ga_agents.specs.RulesFile.{LineGives}
 use Rattle.ga_agents.specs.Steps.{rules_of_row}

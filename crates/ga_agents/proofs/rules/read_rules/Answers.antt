@@ -1,4 +1,4 @@
-use Rattle.std.proofs.Common.{◌≡◌, ◌∙◌, sym, subst, arith}
+use Rattle.std.proofs.Common.{◌∙◌, sym, subst, arith}
 use Rattle.std.specs.Str.Lines.{lines}
 use Rattle.ga_agents.proofs.LineLemmas.{same_lines}
 use Rattle.ga_agents.proofs.FileLemmas.{ReadTo, read_none, read_more, read_count}

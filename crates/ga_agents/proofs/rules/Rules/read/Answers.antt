@@ -1,4 +1,4 @@
-use Rattle.std.proofs.Common.{List, ℕ, subst, Ok}
+use Rattle.std.proofs.Common.{Ok}
 use Rattle.std.proofs.lemmas.Result.{err_from_is_err_and}
 use Rattle.ga_agents.proofs.FileLemmas.{only_list, only_fault, only_list_err, only_fault_err}
 use Rattle.ga_agents.proofs.rules.Rules.read.Goals as goal
