@@ -12,14 +12,14 @@ use Rattle.ga_agents.specs.declared.row.Rule.{Rule}
 use Rattle.ga_agents.specs.RulesFile.{tab, IsPart, SpellsRule, IsPassedOver, LineGives}
 use Rattle.ga_agents.specs.Steps.{is_other, Begins, IsCut}
 
-abbrev NoTab : List ℕ → Type 0
+abbrev pub NoTab : List ℕ → Type 0
 NoTab text = AllByRecursion (λ b. b ≢ tab) text
 
-abbrev AllTabs : List ℕ → Type 0
+abbrev pub AllTabs : List ℕ → Type 0
 AllTabs text = AllByRecursion (λ b. b ≡ tab) text
 
 -- what stands before the first tab, and behind it
-first_tab : (t u r s : List ℕ) → NoTab t → NoTab u → t ++ tab ∷ r ≡ u ++ tab ∷ s → (t ≡ u) × (r ≡ s)
+pub first_tab : (t u r s : List ℕ) → NoTab t → NoTab u → t ++ tab ∷ r ≡ u ++ tab ∷ s → (t ≡ u) × (r ≡ s)
 first_tab [] [] r s free other e = let rest : r ≡ s = cc in (refl, rest)
 first_tab [] (b ∷ u) r s free other e = let here : b ≡ tab = cc in absurd (other.0 here)
 first_tab (a ∷ t) [] r s free other e = let here : a ≡ tab = cc in absurd (free.0 here)

@@ -4,3 +4,4 @@ pub mod CutLemmas
 pub mod FileLemmas
 pub mod LineLemmas
 pub mod OccurLemmas
+pub mod SomeAnswer

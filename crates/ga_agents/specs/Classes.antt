@@ -48,6 +48,10 @@ pub record IsAgent (file : List Rule) (agent : List ℕ) (answer : Agent) : Type
 abbrev pub IsCrawler : List Rule → List ℕ → Type 0
 IsCrawler file agent = (browser : List ℕ) × HasBrowser (file ++ builtin_rules) agent browser crawlers
 
--- an agent is one thing by the rules of a file
+-- by the rules of a file an agent is something
+abbrev pub IsSomething : List Rule → List ℕ → Type 0
+IsSomething file agent = (answer : Agent) × IsAgent file agent answer
+
+-- and it is no two things
 abbrev pub IsOneThing : List Rule → List ℕ → Type 0
 IsOneThing file agent = (one two : Agent) → IsAgent file agent one → IsAgent file agent two → one ≡ two

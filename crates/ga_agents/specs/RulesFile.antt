@@ -63,6 +63,10 @@ pub record IsBadLine (text : List ℕ) (number : ℕ) : Type 0 where
   pub bad : (given : List Rule) → ¬ LineGives line given
   pub place : number ≡ length before + 1
 
+-- the file gives rules, or has a first bad line
+abbrev pub IsAnswered : List ℕ → Type 0
+IsAnswered text = ((given : List Rule) × FileGives text given) ⊎ ((number : ℕ) × IsBadLine text number)
+
 -- an error names the first line that gives no rules, or want of memory
 abbrev pub IsFileFault : List ℕ → RuleFault → Type 0
 IsFileFault text (BadLine number) = IsBadLine text number

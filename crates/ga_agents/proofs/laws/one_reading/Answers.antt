@@ -1,5 +1,6 @@
 use Rattle.std.specs.Str.Lines.{lines}
 use Rattle.ga_agents.proofs.FileLemmas.{one_list, one_fault, list_or_fault}
+use Rattle.ga_agents.proofs.SomeAnswer.{some_reading}
 use Rattle.ga_agents.proofs.laws.one_reading.Goals as goal
 
 pub returns-clause-rules : goal.returns-clause-rules
@@ -10,3 +11,6 @@ returns-clause-fault c = one_fault
 
 pub returns-clause-either : goal.returns-clause-either
 returns-clause-either c = list_or_fault
+
+pub returns-clause-some : goal.returns-clause-some
+returns-clause-some c = some_reading
