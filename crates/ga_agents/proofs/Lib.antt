@@ -1,0 +1,7 @@
+pub mod AgentLemmas
+pub mod ClassLemmas
+pub mod CutLemmas
+pub mod FileLemmas
+pub mod LineLemmas
+pub mod OccurLemmas
+pub mod SomeAnswer

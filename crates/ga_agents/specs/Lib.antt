@@ -1,0 +1,5 @@
+pub mod Classes
+pub mod Occurs
+pub mod RulesFile
+pub mod Steps
+pub mod Tables

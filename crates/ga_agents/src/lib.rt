@@ -1,0 +1,23 @@
+//! What a user agent tells: its browser, the browser's category, its system, and whether it is a crawler.
+//!
+//! Start with `Rules`, which a browsers file gives or which are the built-in ones alone, and `Rules::classify`.
+//! `specs/Occurs.antt` says which entry of a list counts for an agent, `specs/Tables.antt` has the built-in lists,
+//! `specs/Classes.antt` says what an agent is, and `specs/RulesFile.antt` what a browsers file says.
+#![tactic(auto)]
+
+mod agent;
+mod classes;
+mod entries;
+mod fault;
+mod laws;
+mod row;
+mod rules;
+mod tables;
+#[cfg(test)]
+mod tests;
+
+pub use agent::Agent;
+pub use fault::RuleFault;
+pub use laws::{one_class, one_reading};
+pub use row::Rule;
+pub use rules::Rules;
