@@ -1,5 +1,5 @@
--- A text spells one date at most.
-use Rattle.std.proofs.Common.{◌≡◌, ◌<◌, ◌≤◌, ◌+◌, ◌-◌, ◌/◌, ◌%◌, ℕ, true, false, List, [], ◌∷◌, ◌++◌, Option, Some, None, take, drop, length, get_or, cond, refl, ap, sym, ◌∙◌, subst, arith, inl, inr, ⊎_elim}
+-- A text spells one date, one time, and one date with a time behind it.
+use Rattle.std.proofs.Common.{◌≡◌, ◌<◌, ◌≤◌, ◌+◌, ◌-◌, ◌/◌, ◌%◌, ℕ, true, false, List, [], ◌∷◌, ◌++◌, Option, Some, None, take, drop, length, length-append, get_or, cond, refl, ap, sym, ◌∙◌, subst, arith, inl, inr, ⊎_elim}
 use Rattle.std.proofs.lemmas.Bool.{cases_Bool}
 use Rattle.std.proofs.lemmas.List.{take_at, drop_at}
 use Rattle.std.specs.Prelude.{count_by}
@@ -9,14 +9,14 @@ use Rattle.ga_dates.specs.declared.item.Item.{Item}
 use Rattle.ga_dates.specs.declared.item.Item.TheVariants.{Literal, Day, SpacedDay, Month, MonthName, Year, ShortYear, Hour, Minute, Second}
 use Rattle.ga_dates.specs.declared.item.Part.{Part}
 use Rattle.ga_dates.specs.declared.item.Part.TheVariants.{Day as PartDay, Month as PartMonth, Year as PartYear, Hour as PartHour, Minute as PartMinute, Second as PartSecond}
-use Rattle.ga_dates.specs.declared.kind.Kind.TheVariants.{Date}
+use Rattle.ga_dates.specs.declared.kind.Kind.TheVariants.{Date, Time}
 use Rattle.ga_dates.specs.declared.parts.Parts.{Parts}
 use Rattle.ga_dates.specs.Items.{part_of, is_part, gives, IsComplete, number_at, number_of}
 use Rattle.ga_dates.specs.Reading.{width_of, AreSameParts}
-use Rattle.ga_dates.specs.Spelling.{IsTwoDigits, IsSpacedDigits, IsFourDigits, IsMonthName, SpellsNumber, Spells, SpellsDate, long_year}
+use Rattle.ga_dates.specs.Spelling.{IsTwoDigits, IsSpacedDigits, IsFourDigits, IsMonthName, SpellsNumber, Spells, SpellsDate, SpellsTime, SpellsBoth, long_year}
 use Rattle.ga_dates.proofs.NumberLemmas.{Some-injective, only_month}
 use Rattle.ga_dates.proofs.PartLemmas.{count-cons}
-use Rattle.ga_dates.proofs.ReadLemmas.{length-spelling, same_day}
+use Rattle.ga_dates.proofs.ReadLemmas.{length-spelling, same_day, same_minute}
 
 same-digits : (n m : ℕ) → 48 + n / 10 ≡ 48 + m / 10 → 48 + n % 10 ≡ 48 + m % 10 → n ≡ m
 same-digits n m tens units = omega arith
@@ -94,3 +94,31 @@ same-parts (item ∷ items) p q text (piece, rest, e, spells, later) (piece', re
 pub date-unique : (items : List Item) → IsComplete Date items → (text : List ℕ) (date date' : ℕ) → SpellsDate items text date → SpellsDate items text date' → date ≡ date'
 date-unique items whole text date date' one two =
     one.number ∙ (same_day items one.parts two.parts whole (same-parts items one.parts two.parts text one.spelt two.spelt) two.exists).1 ∙ sym two.number
+
+pub time-unique : (items : List Item) → IsComplete Time items → (text : List ℕ) (minute minute' : ℕ) → SpellsTime items text minute → SpellsTime items text minute' → minute ≡ minute'
+time-unique items whole text minute minute' one two =
+    one.number ∙ same_minute items one.parts two.parts whole (same-parts items one.parts two.parts text one.spelt two.spelt) ∙ sym two.number
+
+-- what the items spell has as many bytes as their spellings
+abbrev wide : List Item → ℕ
+wide [] = 0
+wide (item ∷ items) = width_of item + wide items
+
+length-spelt : (items : List Item) (p : Parts) (text : List ℕ) → Spells items p text → length text ≡ wide items
+length-spelt [] p text e = ap length e
+length-spelt (item ∷ items) p text (piece, rest, e, spells, later) =
+    ap length e ∙ omega (arith, length-append piece rest, length-spelling item (number_of item p) piece spells, length-spelt items p rest later)
+
+pub both-unique : (dates times : List Item) → IsComplete Date dates → IsComplete Time times → (text : List ℕ) (day minute day' minute' : ℕ)
+    → SpellsBoth dates times text day minute → SpellsBoth dates times text day' minute' → (day ≡ day') × (minute ≡ minute')
+both-unique dates times whole_date whole_time text day minute day' minute' one two =
+    let w = wide dates in
+    let front : one.front ≡ two.front =
+    sym (take_at one.front one.back w (length-spelt dates one.date.parts one.front one.date.spelt)) ∙ ap (take w) (sym one.parted ∙ two.parted)
+    ∙ take_at two.front two.back w (length-spelt dates two.date.parts two.front two.date.spelt) in
+    let back : one.back ≡ two.back =
+    sym (drop_at one.front one.back w (length-spelt dates one.date.parts one.front one.date.spelt)) ∙ ap (drop w) (sym one.parted ∙ two.parted)
+    ∙ drop_at two.front two.back w (length-spelt dates two.date.parts two.front two.date.spelt) in (
+      date-unique dates whole_date two.front day day' (subst (λ (s : List ℕ). SpellsDate dates s day) front one.date) two.date,
+      time-unique times whole_time two.back minute minute' (subst (λ (s : List ℕ). SpellsTime times s minute) back one.time) two.time,
+    )

@@ -1,105 +1,100 @@
--- One step of fitting a line: what fits the items is what fits those that are left.
-use Rattle.std.proofs.Common.{◌≡◌, ◌↔◌, ℕ, suc, ◌+◌, ◌<◌, List, [], ◌∷◌, length, drop, get_or, refl, sym, ap, ◌∙◌, subst, add-one, drop-cons, ⊎_elim, inl, inr, Some, None, ◌≤◌}
-use Rattle.std.proofs.lemmas.List.{drop_all}
+-- One item of fitting a line: what fits all items is what fits those that are left, behind the fields that are read.
+use Rattle.std.proofs.Common.{◌≡◌, ℕ, suc, ◌+◌, ◌<◌, ◌≤◌, List, [], ◌∷◌, ◌++◌, length, drop, get_or, refl, sym, ap, ◌∙◌, subst, ⊎_elim, inl, inr, Option, Some, None, append_assoc, append-nil, zero, add-one, drop-cons}
+use Rattle.std.specs.List.{slice_get}
 use Rattle.ga_base.specs.declared.formats.FormatItem.{FormatItem}
-use Rattle.ga_base.specs.declared.formats.FormatItem.TheVariants.{Literal, Field}
-use Rattle.ga_line.specs.declared.steps.Step.{Step}
-use Rattle.ga_line.specs.declared.steps.Step.TheVariants.{Literal as LiteralStep, FieldUpTo, FieldToEnd}
-use Rattle.ga_line.specs.Fits.{Fits, EndsAt, NeverEnds}
-use Rattle.ga_line.specs.Records.{FieldTexts}
-use Rattle.ga_line.specs.Fitting.{Gives, FitsWith, items_of, no_texts, texts_after}
+use Rattle.ga_base.specs.declared.formats.FormatItem.TheVariants.{Literal, Skip, Field, Forwarded}
+use Rattle.ga_line.specs.Fits.{Part, Fits, EndsAt, NeverEnds, SkipsSpace}
+use Rattle.ga_line.specs.Fitting.{IsReadTo, EndsBefore, EndsLine}
 use Rattle.ga_line.proofs.FreeLemmas.{EndsAt-unique}
+use Rattle.ga_line.proofs.UniqueFits.{SkipsSpace-unique}
 
-gives-literal : (b : ℕ) (items : List FormatItem) (after : List ℕ) (texts all : FieldTexts)
-    → Gives (Literal b ∷ items) (b ∷ after) texts all ↔ Gives items after texts all
-gives-literal b items after texts all = (
-  λ g. (g.0, subst (λ a. Fits items a g.0) (tail b after g.1.0 g.1.1) g.1.2, g.2),
-  λ g. (g.0, (after, refl, g.1), g.2),
-)
+pub read-none : (items : List FormatItem) (line : List ℕ) → IsReadTo items line items line []
+read-none items line = record { back = λ later f. f; only = λ parts f. (parts, f, refl) }
+
+cons-tail : (x y : ℕ) (xs ys : List ℕ) → x ∷ xs ≡ y ∷ ys → xs ≡ ys
+cons-tail x y xs ys e = cc
+
+-- where the next item is at the front of those that are left
+abbrev pub next_of : List FormatItem → Option FormatItem
+next_of [] = None
+next_of (item ∷ items) = Some item
+
+module _ (items : List FormatItem) (line : List ℕ) (before : List Part) (later_items : List FormatItem) (rest : List ℕ) where
+  pub read-literal : (byte : ℕ) (after : List ℕ) → rest ≡ byte ∷ after → IsReadTo items line (Literal byte ∷ later_items) rest before → IsReadTo items line later_items after before
+  read-literal byte after begins to = record {
+    back = λ later f. to.back later (after, begins, f);
+    only = λ parts f.
+        let o = to.only parts f in
+        let same : o.1.0 ≡ after = cons-tail _ _ _ _ (sym o.1.1 ∙ begins) in
+        (o.0, subst (λ a. Fits later_items a o.0) same o.1.2, o.2);
+  }
+
+  pub read-space : (after : List ℕ) → SkipsSpace rest after → IsReadTo items line (Skip ∷ later_items) rest before → IsReadTo items line later_items after before
+  read-space after skips to = record {
+    back = λ later f. to.back later (after, skips, f);
+    only = λ parts f.
+        let o = to.only parts f in
+        (o.0, subst (λ a. Fits later_items a o.0) (SkipsSpace-unique rest o.1.0 after o.1.1 skips) o.1.2, o.2);
+  }
+
+  pub read-misfit : (byte : ℕ) → ((after : List ℕ) → rest ≡ byte ∷ after → ⊥) → IsReadTo items line (Literal byte ∷ later_items) rest before → (parts : List Part) → ¬ Fits items line parts
+  read-misfit byte none to parts f = let o = to.only parts f in none o.1.0 o.1.1
+
+  pub read-forwarded : (separators : List ℕ) → IsReadTo items line (Forwarded separators ∷ later_items) rest before → (parts : List Part) → ¬ Fits items line parts
+  read-forwarded separators to parts f = (to.only parts f).1
+
+  module _ (letter : ℕ) (to : IsReadTo items line (Field letter ∷ later_items) rest before) where
+    pub read-field : (text after : List ℕ) → EndsBefore (next_of later_items) rest text after → IsReadTo items line later_items after (before ++ (letter, text) ∷ [])
+    read-field text after ends = go later_items to ends
+      where
+        go : (left : List FormatItem) → IsReadTo items line (Field letter ∷ left) rest before → EndsBefore (next_of left) rest text after → IsReadTo items line left after (before ++ (letter, text) ∷ [])
+        go [] to ends = let none : None ≡ Some (Literal ends.stop) = ends.next_is in absurd cc
+        go (item ∷ left) to ends =
+            let is : item ≡ Literal ends.stop = cc in
+            let there = subst (λ (x : FormatItem). IsReadTo items line (Field letter ∷ x ∷ left) rest before) is to in
+            let to_stop : IsReadTo items line (Literal ends.stop ∷ left) (ends.stop ∷ ends.behind) (before ++ (letter, text) ∷ []) = record {
+              back = λ later f.
+                  let fits : Fits left ends.behind later = subst (λ (a : List ℕ). Fits left a later) (cons-tail _ _ _ _ (sym f.1)) f.2 in
+                  subst (Fits items line) (sym (append_assoc before ((letter, text) ∷ []) later)) (there.back ((letter, text) ∷ later) (inr (text, ends.behind, later, ends.ends, refl, fits)));
+              only = λ parts f.
+                  let o = there.only parts f in
+                  ⊎_elim
+                  (λ never. absurd (never.0 text ends.behind ends.ends))
+                  (λ cut.
+                  let same = EndsAt-unique ends.stop rest cut.0 cut.1 text ends.behind cut.3 ends.ends in (
+                    cut.2,
+                    (cut.1, ap (λ (a : List ℕ). ends.stop ∷ a) (sym same.1), cut.5),
+                    o.2 ∙ ap (λ (ps : List Part). before ++ ps) (cut.4 ∙ ap (λ (t : List ℕ). (letter, t) ∷ cut.2) same.0) ∙ sym (append_assoc before ((letter, text) ∷ []) cut.2),
+                  ))
+                  o.1;
+            } in
+            subst (λ (x : FormatItem). IsReadTo items line (x ∷ left) after (before ++ (letter, text) ∷ [])) (sym is)
+            (subst (λ (a : List ℕ). IsReadTo items line (Literal ends.stop ∷ left) a (before ++ (letter, text) ∷ [])) (sym ends.after_is) to_stop)
+
+    -- the field goes up to the end of the line
+    pub read-to-end : EndsLine (next_of later_items) rest → Fits items line (before ++ (letter, rest) ∷ [])
+    read-to-end ends = to.back ((letter, rest) ∷ []) (go later_items ends)
+      where
+        go : (left : List FormatItem) → EndsLine (next_of left) rest → Fits (Field letter ∷ left) rest ((letter, rest) ∷ [])
+        go [] ends = refl
+        go (Literal stop ∷ left) ends = inl (ends stop refl, refl)
+        go (Skip ∷ left) ends = refl
+        go (Field other ∷ left) ends = refl
+        go (Forwarded separators ∷ left) ends = refl
+
+-- no item is left
+pub read-all : (items : List FormatItem) (line rest : List ℕ) (before : List Part) → IsReadTo items line [] rest before → Fits items line before
+read-all items line rest before to = subst (Fits items line) (append-nil before) (to.back [] refl)
+
+-- the items from a place on, and the one behind it
+pub left-at : (items : List FormatItem) (at : ℕ) (d item : FormatItem) → at < length items → get_or items at d ≡ item → drop at items ≡ item ∷ drop (at + 1) items
+left-at items at d item lt is = rw add-one (drop-cons items at d lt ∙ ap (λ (x : FormatItem). x ∷ drop (suc at) items) is)
+
+pub next-at : (items : List FormatItem) (at : ℕ) → slice_get items (at + 1) ≡ next_of (drop (at + 1) items)
+next-at items at = go items (at + 1)
   where
-    tail : (b : ℕ) (xs ys : List ℕ) → b ∷ xs ≡ b ∷ ys → ys ≡ xs
-    tail b xs ys e = cc
-
-no-literal : (b : ℕ) (items : List FormatItem) (rest : List ℕ) (texts all : FieldTexts)
-    → ((after : List ℕ) → rest ≡ b ∷ after → ⊥) → ¬ Gives (Literal b ∷ items) rest texts all
-no-literal b items rest texts all none g = none g.1.0 g.1.1
-
-gives-field : (letter stop : ℕ) (items : List FormatItem) (rest text after : List ℕ) (texts all : FieldTexts) → EndsAt stop rest text after
-    → Gives (Field letter ∷ Literal stop ∷ items) rest texts all ↔ Gives items after (texts_after texts ((letter, text) ∷ [])) all
-gives-field letter stop items rest text after texts all ends = (
-  λ g. ⊎_elim
-      (λ never. absurd (never.0 text after ends))
-      (λ cut.
-      let same = EndsAt-unique stop rest cut.0 cut.1 text after cut.3 ends in (
-        cut.2,
-        subst (λ a. Fits items a cut.2) same.1 cut.5,
-        g.2 ∙ ap (λ parts. texts_after texts parts) cut.4 ∙ ap (λ t. texts_after texts ((letter, t) ∷ cut.2)) same.0,
-      ))
-      g.1,
-  λ g. ((letter, text) ∷ g.0, inr (text, after, g.0, ends, refl, g.1), g.2),
-)
-
-gives-end : (letter stop : ℕ) (items : List FormatItem) (rest : List ℕ) (texts all : FieldTexts) → NeverEnds stop rest
-    → Gives (Field letter ∷ Literal stop ∷ items) rest texts all ↔ (all ≡ texts_after texts ((letter, rest) ∷ []))
-gives-end letter stop items rest texts all never = (
-  λ g. ⊎_elim
-      (λ whole. g.2 ∙ ap (λ parts. texts_after texts parts) whole.1)
-      (λ cut. absurd (never cut.0 cut.1 cut.3))
-      g.1,
-  λ e. ((letter, rest) ∷ [], inl (never, refl), e),
-)
-
-gives-last : (letter : ℕ) (rest : List ℕ) (texts all : FieldTexts) → Gives (Field letter ∷ []) rest texts all ↔ (all ≡ texts_after texts ((letter, rest) ∷ []))
-gives-last letter rest texts all = (λ g. g.2 ∙ ap (λ parts. texts_after texts parts) g.1, λ e. ((letter, rest) ∷ [], refl, e))
-
-gives-nothing : (rest : List ℕ) (texts all : FieldTexts) → Gives [] rest texts all ↔ (all ≡ texts)
-gives-nothing rest texts all = (λ g. g.2 ∙ ap (λ parts. texts_after texts parts) g.1, λ e. ([], refl, e))
-
-iff-chain : {A B C : Type 0} → A ↔ B → B ↔ C → A ↔ C
-iff-chain one two = (λ a. two.0 (one.0 a), λ c. one.1 (two.1 c))
-
--- the loop over the steps: what fits all items is what fits those from step k on, after these texts
-module _ (steps : List Step) (line : List ℕ) (k : ℕ) (rest : List ℕ) (texts : FieldTexts)
-    (kept : (all : FieldTexts) → Gives (items_of steps) line no_texts all ↔ Gives (items_of (drop k steps)) rest texts all) where
-  pub fit-done : length steps ≤ k → FitsWith (items_of steps) line no_texts (Some texts)
-  fit-done end all =
-      iff-chain (subst (λ ss. Gives (items_of steps) line no_texts all ↔ Gives (items_of ss) rest texts all) (drop_all k steps end) (kept all)) (gives-nothing rest texts all)
-
-  module _ (d : Step) (lt : k < length steps) where
-    at : (step : Step) → get_or steps k d ≡ step → (all : FieldTexts)
-        → Gives (items_of steps) line no_texts all ↔ Gives (items_of (step ∷ drop (k + 1) steps)) rest texts all
-    at step is all =
-        let here : drop k steps ≡ step ∷ drop (k + 1) steps = rw add-one (drop-cons steps k d lt ∙ ap (λ s. s ∷ drop (suc k) steps) is) in
-        subst (λ ss. Gives (items_of steps) line no_texts all ↔ Gives (items_of ss) rest texts all) here (kept all)
-
-    pub fit-literal : (b : ℕ) (after : List ℕ) (found : FieldTexts) → get_or steps k d ≡ LiteralStep b → rest ≡ b ∷ after → found ≡ texts
-        → (all : FieldTexts) → Gives (items_of steps) line no_texts all ↔ Gives (items_of (drop (k + 1) steps)) after found all
-    fit-literal b after found is begins same all =
-        iff-chain
-        (subst (λ r. Gives (items_of steps) line no_texts all ↔ Gives (Literal b ∷ items_of (drop (k + 1) steps)) r texts all) begins (at (LiteralStep b) is all))
-        (subst (λ f. Gives (Literal b ∷ items_of (drop (k + 1) steps)) (b ∷ after) texts all ↔ Gives (items_of (drop (k + 1) steps)) after f all) (sym same)
-        (gives-literal b (items_of (drop (k + 1) steps)) after texts all))
-
-    pub fit-misfit : (b : ℕ) → get_or steps k d ≡ LiteralStep b → ((after : List ℕ) → rest ≡ b ∷ after → ⊥) → FitsWith (items_of steps) line no_texts None
-    fit-misfit b is none all g = no-literal b (items_of (drop (k + 1) steps)) rest texts all none ((at (LiteralStep b) is all).0 g)
-
-    pub fit-field : (letter stop : ℕ) (text after : List ℕ) (found : FieldTexts) → get_or steps k d ≡ FieldUpTo letter stop → EndsAt stop rest text after
-        → found ≡ texts_after texts ((letter, text) ∷ [])
-        → (all : FieldTexts) → Gives (items_of steps) line no_texts all ↔ Gives (items_of (drop (k + 1) steps)) after found all
-    fit-field letter stop text after found is ends noted all =
-        iff-chain (at (FieldUpTo letter stop) is all)
-        (subst (λ f. Gives (Field letter ∷ Literal stop ∷ items_of (drop (k + 1) steps)) rest texts all ↔ Gives (items_of (drop (k + 1) steps)) after f all) (sym noted)
-        (gives-field letter stop (items_of (drop (k + 1) steps)) rest text after texts all ends))
-
-    pub fit-end : (letter stop : ℕ) (found : FieldTexts) → get_or steps k d ≡ FieldUpTo letter stop → NeverEnds stop rest → found ≡ texts_after texts ((letter, rest) ∷ [])
-        → FitsWith (items_of steps) line no_texts (Some found)
-    fit-end letter stop found is never noted all =
-        iff-chain (at (FieldUpTo letter stop) is all)
-        (subst (λ f. Gives (Field letter ∷ Literal stop ∷ items_of (drop (k + 1) steps)) rest texts all ↔ (all ≡ f)) (sym noted)
-        (gives-end letter stop (items_of (drop (k + 1) steps)) rest texts all never))
-
-    pub fit-last : (letter : ℕ) (found : FieldTexts) → get_or steps k d ≡ FieldToEnd letter → found ≡ texts_after texts ((letter, rest) ∷ [])
-        → FitsWith (items_of steps) line no_texts (Some found)
-    fit-last letter found is noted all =
-        iff-chain (at (FieldToEnd letter) is all)
-        (subst (λ f. Gives (Field letter ∷ []) rest texts all ↔ (all ≡ f)) (sym noted) (gives-last letter rest texts all))
+    go : (items : List FormatItem) (n : ℕ) → slice_get items n ≡ next_of (drop n items)
+    go [] zero = refl
+    go [] (suc n) = refl
+    go (x ∷ items) zero = refl
+    go (x ∷ items) (suc n) = go items n

@@ -1,173 +1,116 @@
 -- What a line says: one thing at most.
-use Rattle.std.proofs.Common.{◌≡◌, ℕ, suc, ◌≤◌, false, true, List, [], ◌∷◌, ◌++◌, length, Option, Some, None, refl, sym, ap, ◌∙◌, subst, arith, ⊎_elim}
-use Rattle.std.proofs.lemmas.Bool.{false≢true}
-use Rattle.std.specs.List.{AllPass}
-use Rattle.std.specs.Option.{IfSome, IfNone}
-use Rattle.ga_base.specs.declared.counts.TheConstants.{BIG}
-use Rattle.ga_base.specs.declared.formats.FormatItem.{FormatItem}
-use Rattle.ga_base.specs.declared.formats.FormatItem.TheVariants.{Literal, Skip, Field, Forwarded}
-use Rattle.ga_base.specs.declared.record.TheConstants.{MAX_LINE}
+use Rattle.std.proofs.Common.{◌≡◌, ℕ, ◌≤◌, Bool, true, false, List, ◌++◌, Option, Some, None, refl, sym, ap, ◌∙◌, subst, ⊎_elim, inl, inr}
 use Rattle.ga_base.specs.declared.record.Line.TheVariants.{Skipped, Failed, Good}
 use Rattle.ga_base.specs.declared.record.Record.{Record}
-use Rattle.ga_dates.specs.declared.item.Item.{Item}
-use Rattle.ga_dates.specs.declared.kind.Kind.TheVariants.{Date}
+use Rattle.ga_dates.specs.declared.kind.Kind.TheVariants.{Date, Time}
 use Rattle.ga_dates.specs.Items.{IsComplete}
-use Rattle.ga_line.specs.declared.values.Values.{Values}
-use Rattle.ga_line.specs.Fits.{Part, Fits, SkipsSpace, is_space}
-use Rattle.ga_line.specs.Fitting.{FitsWith, no_texts}
-use Rattle.std.specs.Str.Lossy.{utf8_lossy}
-use Rattle.ga_line.specs.Records.{FieldTexts, HasTexts, HasDate, HasStatus, IsMissing, IsPassedOver, IsRefused, no_host, no_date, no_request, bad_date, bad_status, too_large, Fails, too_long, misfit, refused, IsRecordOf, IsLineOf, SaysOneThing, common_items, texts_of, size_value, record_of, utf8_text}
-use Rattle.ga_line.specs.Valid.{HasValues, IsValid}
-use Rattle.ga_line.proofs.DateLemmas.{date-unique}
-use Rattle.ga_line.proofs.FreeLemmas.{EndsAt-unique}
+use Rattle.ga_line.specs.declared.setup.LineSetup.{LineSetup}
+use Rattle.ga_line.specs.declared.numbers.Numbers.{Numbers}
+use Rattle.ga_line.specs.Fits.{Part, Fits, field}
+use Rattle.ga_line.specs.Letters.{status_letter}
+use Rattle.ga_dates.specs.declared.item.Item.{Item}
+use Rattle.ga_line.specs.Records.{HasMinute, HasMoment, HasStatus, HasMicros, SaysMoment, HasTexts, IsStatus, IsRecordOf, IsPassedOver, IsLineOf, IsRefused, Fails, too_long, misfit, refused, SaysOneThing, taken_part}
+use Rattle.ga_line.specs.Valid.{HasNumbers, AreOf}
+use Rattle.ga_line.proofs.DateLemmas.{date-unique, time-unique, both-unique}
+use Rattle.ga_line.proofs.DecimalLemmas.{micros-unique}
+use Rattle.ga_line.proofs.UniqueFits.{Fits-unique}
 
-pub has-values : (dates : List Item) (texts : FieldTexts) (values : Values) → ¬ IsMissing texts.host → ¬ IsMissing texts.date → ¬ IsMissing texts.request
-    → texts.host ≡ Some values.host.now → HasDate dates texts.date values.date → texts.request ≡ Some values.url.now → HasStatus texts.status values.status
-    → size_value texts.size ≡ values.bytes → values.bytes ≤ BIG → HasValues dates texts values
-has-values dates texts values host date request host-is date-is url-is status-is bytes-is within = record {
-  accepted = accepted;
-  host = host-is;
-  date = date-is;
-  url = url-is;
-  status = status-is;
-  bytes = bytes-is;
-}
-  where
-    accepted : ¬ IsRefused dates texts
-    accepted (no_host missing) = host missing
-    accepted (no_date missing) = date missing
-    accepted (no_request missing) = request missing
-    accepted (bad_date none) = none values.date date-is
-    accepted (bad_status none) = none values.status status-is
-    accepted (too_large above) = omega arith
+-- the record of the fields and their numbers is what the line says
+pub says-record : (setup : LineSetup) (line : List ℕ) (parts : List Part) (numbers : Numbers) (rec : Record) → ¬ IsPassedOver line → ¬ Fails setup line → Fits setup.format line parts
+    → HasNumbers setup parts numbers → AreOf numbers rec → HasTexts parts rec → IsLineOf setup line (Good rec)
+says-record setup line parts numbers rec read accepted fits has are texts = (
+  read,
+  accepted,
+  (
+    parts,
+    fits,
+    record {
+      texts = texts;
+      moment = subst (λ (d : ℕ). SaysMoment setup parts d rec.minute) (sym are.date) (subst (λ (m : Option ℕ). SaysMoment setup parts numbers.date m) (sym are.minute) has.moment);
+      status = subst (HasStatus setup.strict_status (field status_letter parts)) (sym are.status) has.status;
+      bytes = are.bytes ∙ sym has.bytes;
+      micros = subst (HasMicros (taken_part parts)) (sym are.micros) has.micros;
+    },
+  ),
+)
 
-module _ (dates : List Item) (line : List ℕ) where
-  pub fails-misfit : FitsWith common_items line no_texts None → Fails dates line
-  fails-misfit none = misfit none
+minute-unique : (times : List Item) → IsComplete Time times → (time : Option (List ℕ)) (minute minute' : Option ℕ) → HasMinute times time minute → HasMinute times time minute' → minute ≡ minute'
+minute-unique times whole None minute minute' one two = one ∙ sym two
+minute-unique times whole (Some time) minute minute' one two = one.1 ∙ ap Some (time-unique times whole time one.0 two.0 one.2 two.2) ∙ sym two.1
 
-  module _ (found : FieldTexts) (fits : FitsWith common_items line no_texts (Some found)) where
-    has : HasTexts line found
-    has = (fits found).1 refl
+moment-unique : (setup : LineSetup) → IsComplete Date setup.date → IsComplete Time setup.time → (both day time : Option (List ℕ)) (date date' : ℕ) (minute minute' : Option ℕ)
+    → HasMoment setup both day time date minute → HasMoment setup both day time date' minute' → (date ≡ date') × (minute ≡ minute')
+moment-unique setup dates times (Some both) day time date date' minute minute' one two =
+    let same = both-unique setup.date setup.time dates times both date one.0 date' two.0 one.2 two.2 in
+    (same.0, one.1 ∙ ap Some same.1 ∙ sym two.1)
+moment-unique setup dates times None None time date date' minute minute' one two = absurd one
+moment-unique setup dates times None (Some day) time date date' minute minute' one two =
+    (date-unique setup.date dates day date date' one.0 two.0, minute-unique setup.time times time minute minute' one.1 two.1)
 
-    fails-refused : IsRefused dates found → Fails dates line
-    fails-refused r = refused found has r
+status-unique : (strict : Bool) (text : Option (List ℕ)) (status status' : ℕ) → HasStatus strict text status → HasStatus strict text status' → status ≡ status'
+status-unique strict None status status' one two = one ∙ sym two
+status-unique true (Some text) status status' one two = one.value ∙ sym two.value
+status-unique false (Some text) status status' (inl one) (inl two) = one.value ∙ sym two.value
+status-unique false (Some text) status status' (inl one) (inr two) = absurd (two.0 status one)
+status-unique false (Some text) status status' (inr one) (inl two) = absurd (one.0 status' two)
+status-unique false (Some text) status status' (inr one) (inr two) = one.1 ∙ sym two.1
 
-    valid : (values : Values) → length line ≤ MAX_LINE → HasValues dates found values → IsValid dates line values
-    valid values short h = record { accepted = accepted; fits = (found, has, h) }
-      where
-        accepted : ¬ Fails dates line
-        accepted (too_long long) = omega arith
-        accepted (misfit none) = none found has
-        accepted (refused texts given r) = h.accepted (subst (IsRefused dates) ((fits texts).0 given) r)
+pub taken-unique : (part : Option Part) (micros micros' : Option ℕ) → HasMicros part micros → HasMicros part micros' → micros ≡ micros'
+taken-unique None micros micros' one two = one ∙ sym two
+taken-unique (Some part) None None one two = refl
+taken-unique (Some part) None (Some n) one two = absurd (one n two)
+taken-unique (Some part) (Some n) None one two = absurd (two n one)
+taken-unique (Some part) (Some n) (Some m) one two = ap Some (micros-unique part n m one two)
 
-    -- the same of whatever the values are
-    pub all-valid : (r : Option Values) → length line ≤ MAX_LINE → IfSome r (HasValues dates found) → IfSome r (IsValid dates line)
-    all-valid None short h = tt
-    all-valid (Some values) short h = valid values short h
-
-    pub all-refused : (r : Option Values) → IfNone r (IsRefused dates found) → IfNone r (Fails dates line)
-    all-refused None h = fails-refused h
-    all-refused (Some values) h = tt
-
-record-same : {host host' url url' : List ℕ} {date date' status status' bytes bytes' : ℕ} → host ≡ host' → date ≡ date' → url ≡ url' → status ≡ status' → bytes ≡ bytes'
-    → record_of host date url status bytes ≡ record_of host' date' url' status' bytes'
-record-same a b c d e = cc
-
--- the record that is made of the values is what the line says
-pub says-record : (dates : List Item) (line : List ℕ) (values : Values) (rec : Record) → ¬ IsPassedOver line → IsValid dates line values
-    → rec ≡ record_of (utf8_lossy values.host.now) values.date (utf8_lossy values.url.now) values.status values.bytes → IsLineOf dates line (Good rec)
-says-record dates line values rec read valid is =
-    let texts = valid.fits.0 in
-    let h = valid.fits.2 in
-    let date : rec.date ≡ values.date = ap (λ (r : Record). r.date) is in
-    let status : rec.status ≡ values.status = ap (λ (r : Record). r.status) is in (
-      read,
-      valid.accepted,
-      (
-        texts,
-        valid.fits.1,
-        record {
-          date = subst (HasDate dates texts.date) (sym date) h.date;
-          status = subst (HasStatus texts.status) (sym status) h.status;
-          values = is ∙ record-same (ap utf8_text (sym h.host)) (sym date) (ap utf8_text (sym h.url)) (sym status) (sym h.bytes);
-        },
-      ),
-    )
-
-tail : (x y : ℕ) (xs ys : List ℕ) → x ∷ xs ≡ y ∷ ys → xs ≡ ys
-tail x y xs ys e = cc
-
-space-longest : (space after after' : List ℕ) → AllPass is_space space → ((b : ℕ) (more : List ℕ) → after' ≡ b ∷ more → is_space b ≡ false) → after' ≡ space ++ after
-    → ((b : ℕ) (more : List ℕ) → after ≡ b ∷ more → is_space b ≡ false) → after' ≡ after
-space-longest [] after after' all stops e stops' = e
-space-longest (b ∷ space) after after' all stops e stops' =
-    let blank : is_space b ≡ true = all 0 0 (omega arith) in
-    absurd (false≢true (sym (stops b (space ++ after) e) ∙ blank))
-
--- the longest run of white space is one
-space-unique : (space space' after after' : List ℕ) → space ++ after ≡ space' ++ after' → AllPass is_space space → AllPass is_space space'
-    → ((b : ℕ) (more : List ℕ) → after ≡ b ∷ more → is_space b ≡ false) → ((b : ℕ) (more : List ℕ) → after' ≡ b ∷ more → is_space b ≡ false) → after ≡ after'
-space-unique [] space' after after' e all all' stops stops' = space-longest space' after' after all' stops e stops'
-space-unique (b ∷ space) [] after after' e all all' stops stops' = sym (space-longest (b ∷ space) after after' all stops' (sym e) stops)
-space-unique (b ∷ space) (b' ∷ space') after after' e all all' stops stops' =
-    space-unique space space' after after' (tail _ _ _ _ e) (λ k d lt. all (suc k) d (omega arith)) (λ k d lt. all' (suc k) d (omega arith)) stops stops'
-
-SkipsSpace-unique : (rest after after' : List ℕ) → SkipsSpace rest after → SkipsSpace rest after' → after ≡ after'
-SkipsSpace-unique rest after after' one two =
-    space-unique one.run.0 two.run.0 after after' (sym one.run.1 ∙ two.run.1) one.run.2 two.run.2 one.longest two.longest
-
--- a line fits a format in one way
-pub Fits-unique : (items : List FormatItem) (rest : List ℕ) (p q : List Part) → Fits items rest p → Fits items rest q → p ≡ q
-Fits-unique [] rest p q f g = f ∙ sym g
-Fits-unique (Literal b ∷ items) rest p q f g =
-    Fits-unique items g.0 p q (subst (λ a. Fits items a p) (tail b b f.0 g.0 (sym f.1 ∙ g.1)) f.2) g.2
-Fits-unique (Skip ∷ items) rest p q f g =
-    Fits-unique items g.0 p q (subst (λ a. Fits items a p) (SkipsSpace-unique rest f.0 g.0 f.1 g.1) f.2) g.2
-Fits-unique (Field letter ∷ []) rest p q f g = f ∙ sym g
-Fits-unique (Field letter ∷ Literal stop ∷ items) rest p q f g =
-    ⊎_elim
-    (λ whole. ⊎_elim (λ whole'. whole.1 ∙ sym whole'.1) (λ cut'. absurd (whole.0 cut'.0 cut'.1 cut'.3)) g)
-    (λ cut. ⊎_elim
-    (λ whole'. absurd (whole'.0 cut.0 cut.1 cut.3))
-    (λ cut'.
-    let same = EndsAt-unique stop rest cut.0 cut.1 cut'.0 cut'.1 cut.3 cut'.3 in
-    let later = Fits-unique items cut'.1 cut.2 cut'.2 (subst (λ a. Fits items a cut.2) same.1 cut.5) cut'.5 in
-    cut.4 ∙ ap (λ t. (letter, t) ∷ cut.2) same.0 ∙ ap (λ ps. (letter, cut'.0) ∷ ps) later ∙ sym cut'.4)
-    g)
-    f
-Fits-unique (Field letter ∷ Skip ∷ items) rest p q f g = f ∙ sym g
-Fits-unique (Field letter ∷ Field other ∷ items) rest p q f g = f ∙ sym g
-Fits-unique (Field letter ∷ Forwarded separators ∷ items) rest p q f g = f ∙ sym g
-Fits-unique (Forwarded separators ∷ items) rest p q f g = absurd f
-
-HasTexts-unique : (line : List ℕ) (texts texts' : FieldTexts) → HasTexts line texts → HasTexts line texts' → texts ≡ texts'
-HasTexts-unique line texts texts' one two =
-    one.2 ∙ ap texts_of (Fits-unique common_items line one.0 two.0 one.1 two.1) ∙ sym two.2
-
-HasDate-unique : (dates : List Item) → IsComplete Date dates → (text : Option (List ℕ)) (date date' : ℕ) → HasDate dates text date → HasDate dates text date' → date ≡ date'
-HasDate-unique dates whole None date date' one two = absurd one
-HasDate-unique dates whole (Some text) date date' one two = date-unique dates whole text date date' one two
-
-HasStatus-unique : (text : Option (List ℕ)) (status status' : ℕ) → HasStatus text status → HasStatus text status' → status ≡ status'
-HasStatus-unique None status status' one two = one ∙ sym two
-HasStatus-unique (Some text) status status' one two = one.value ∙ sym two.value
-
-IsRecordOf-unique : (dates : List Item) → IsComplete Date dates → (texts : FieldTexts) (rec rec' : Record) → IsRecordOf dates texts rec → IsRecordOf dates texts rec' → rec ≡ rec'
-IsRecordOf-unique dates whole texts rec rec' one two =
-    one.values
-    ∙ record-same refl (HasDate-unique dates whole texts.date rec.date rec'.date one.date two.date) refl (HasStatus-unique texts.status rec.status rec'.status one.status two.status) refl
-    ∙ sym two.values
+IsRecordOf-unique : (setup : LineSetup) → IsComplete Date setup.date → IsComplete Time setup.time → (parts : List Part) (rec rec' : Record)
+    → IsRecordOf setup parts rec → IsRecordOf setup parts rec' → rec ≡ rec'
+IsRecordOf-unique setup dates times parts rec rec' one two =
+    let a = one.texts in
+    let b = two.texts in
+    let moment = moment-unique setup dates times _ _ _ rec.date rec'.date rec.minute rec'.minute one.moment two.moment in
+    let host : rec.host ≡ rec'.host = a.host ∙ sym b.host in
+    let method : rec.method ≡ rec'.method = a.method ∙ sym b.method in
+    let protocol : rec.protocol ≡ rec'.protocol = a.protocol ∙ sym b.protocol in
+    let url : rec.url ≡ rec'.url = a.url ∙ sym b.url in
+    let status : rec.status ≡ rec'.status = status-unique setup.strict_status _ rec.status rec'.status one.status two.status in
+    let bytes : rec.bytes ≡ rec'.bytes = one.bytes ∙ sym two.bytes in
+    let micros : rec.micros ≡ rec'.micros = taken-unique (taken_part parts) rec.micros rec'.micros one.micros two.micros in
+    let referrer : rec.referrer ≡ rec'.referrer = a.referrer ∙ sym b.referrer in
+    let agent : rec.agent ≡ rec'.agent = a.agent ∙ sym b.agent in
+    let vhost : rec.vhost ≡ rec'.vhost = a.vhost ∙ sym b.vhost in
+    let user : rec.user ≡ rec'.user = a.user ∙ sym b.user in
+    let cache : rec.cache ≡ rec'.cache = a.cache ∙ sym b.cache in
+    let mime : rec.mime ≡ rec'.mime = a.mime ∙ sym b.mime in
+    let tls : rec.tls ≡ rec'.tls = a.tls ∙ sym b.tls in
+    λ i. record {
+      host = host i;
+      date = moment.0 i;
+      minute = moment.1 i;
+      method = method i;
+      protocol = protocol i;
+      url = url i;
+      status = status i;
+      bytes = bytes i;
+      micros = micros i;
+      referrer = referrer i;
+      agent = agent i;
+      vhost = vhost i;
+      user = user i;
+      cache = cache i;
+      mime = mime i;
+      tls = tls i;
+    }
 
 -- a line says one thing
-pub IsLineOf-unique : (dates : List Item) (line : List ℕ) → IsComplete Date dates → SaysOneThing dates line
-IsLineOf-unique dates line whole Skipped Skipped a b = refl
-IsLineOf-unique dates line whole Skipped Failed a b = absurd (b.0 a)
-IsLineOf-unique dates line whole Skipped (Good rec) a b = absurd (b.0 a)
-IsLineOf-unique dates line whole Failed Skipped a b = absurd (a.0 b)
-IsLineOf-unique dates line whole Failed Failed a b = refl
-IsLineOf-unique dates line whole Failed (Good rec) a b = absurd (b.1 a.1)
-IsLineOf-unique dates line whole (Good rec) Skipped a b = absurd (a.0 b)
-IsLineOf-unique dates line whole (Good rec) Failed a b = absurd (a.1 b.1)
-IsLineOf-unique dates line whole (Good rec) (Good rec') a b =
-    let same = HasTexts-unique line a.2.0 b.2.0 a.2.1 b.2.1 in
-    ap Good (IsRecordOf-unique dates whole b.2.0 rec rec' (subst (λ (t : FieldTexts). IsRecordOf dates t rec) same a.2.2) b.2.2)
+pub IsLineOf-unique : (setup : LineSetup) (line : List ℕ) → IsComplete Date setup.date → IsComplete Time setup.time → SaysOneThing setup line
+IsLineOf-unique setup line dates times Skipped Skipped a b = refl
+IsLineOf-unique setup line dates times Skipped Failed a b = absurd (b.0 a)
+IsLineOf-unique setup line dates times Skipped (Good rec) a b = absurd (b.0 a)
+IsLineOf-unique setup line dates times Failed Skipped a b = absurd (a.0 b)
+IsLineOf-unique setup line dates times Failed Failed a b = refl
+IsLineOf-unique setup line dates times Failed (Good rec) a b = absurd (b.1 a.1)
+IsLineOf-unique setup line dates times (Good rec) Skipped a b = absurd (a.0 b)
+IsLineOf-unique setup line dates times (Good rec) Failed a b = absurd (a.1 b.1)
+IsLineOf-unique setup line dates times (Good rec) (Good rec') a b =
+    let same = Fits-unique setup.format line a.2.0 b.2.0 a.2.1 b.2.1 in
+    ap Good (IsRecordOf-unique setup dates times b.2.0 rec rec' (subst (λ (ps : List Part). IsRecordOf setup ps rec) same a.2.2) b.2.2)

@@ -1,38 +1,52 @@
--- What the steps promise in which a line is fitted: each speaks of the items and the suffix that are left.
-use Rattle.std.specs.Prelude.{◌≡◌, ℕ, ◌↔◌, List, [], ◌∷◌, Option, None, fold, MatchOption}
+-- What the steps promise in which a line is fitted: the fields so far, and what is left of the items and of the line.
+use Rattle.std.specs.Prelude.{◌≡◌, ℕ, ◌-◌, ◌<◌, ◌≤◌, ◌+◌, List, ◌∷◌, ◌++◌, Option, Some, None, slice_index_or, length, if◌then◌else◌}
+use Rattle.std.specs.Borrow.{Bor}
+use Rattle.std.specs.Option.{option_copied, option_map}
 use Rattle.ga_base.specs.declared.formats.FormatItem.{FormatItem}
-use Rattle.ga_base.specs.declared.formats.FormatItem.TheVariants.{Literal as LiteralItem, Field}
-use Rattle.ga_line.specs.declared.steps.Step.{Step}
-use Rattle.ga_line.specs.declared.steps.Step.TheVariants.{Literal, FieldUpTo, FieldToEnd}
-use Rattle.ga_line.specs.Fits.{Part, Fits, noted}
-use Rattle.ga_line.specs.Records.{FieldTexts, host_letter, date_letter, request_letter, status_letter, size_letter}
+use Rattle.ga_base.specs.declared.formats.FormatItem.TheVariants.{Literal}
+use Rattle.ga_line.specs.declared.fields.Fields.{Fields}
+use Rattle.ga_line.specs.declared.fields.TheConstants.{FIRST_LETTER, LETTERS}
+use Rattle.ga_line.specs.Fits.{Part, Fits, EndsAt, NeverEnds, field}
+use Rattle.ga_line.specs.Letters.{is_taken_letter}
+use Rattle.ga_line.specs.Records.{taken_part}
 
--- the items that steps stand for: after a field that has the rest of the line, no step is taken
-abbrev pub items_of : List Step → List FormatItem
-items_of [] = []
-items_of (Literal b ∷ steps) = LiteralItem b ∷ items_of steps
-items_of (FieldUpTo letter stop ∷ steps) = Field letter ∷ LiteralItem stop ∷ items_of steps
-items_of (FieldToEnd letter ∷ steps) = Field letter ∷ []
+-- the letters that fields may have
+pub record IsLetter (letter : ℕ) : Type 0 where
+  pub first : FIRST_LETTER ≤ letter
+  pub last : letter < FIRST_LETTER + LETTERS
 
--- no field was read yet
-abbrev pub no_texts : FieldTexts
-no_texts = record { host = None; date = None; request = None; status = None; size = None }
+-- the text that is noted for a letter
+abbrev pub noted_text : ℕ → Fields → Option (List ℕ)
+noted_text letter fields = option_copied (slice_index_or fields.texts (letter - FIRST_LETTER) None)
 
--- the texts after these fields more
-abbrev pub texts_after : FieldTexts → List Part → FieldTexts
-texts_after texts parts = record {
-  host = fold (noted host_letter) texts.host parts;
-  date = fold (noted date_letter) texts.date parts;
-  request = fold (noted request_letter) texts.request parts;
-  status = fold (noted status_letter) texts.status parts;
-  size = fold (noted size_letter) texts.size parts;
-}
+-- a field as it is kept: its letter and its text
+abbrev pub part_of : (ℕ × Bor (List ℕ)) → Part
+part_of part = (part.0, part.1.now)
 
--- a line that goes on with `rest` fits the items, and after its fields the texts are `all`
-abbrev pub Gives : List FormatItem → List ℕ → FieldTexts → FieldTexts → Type 0
-Gives items rest texts all = (parts : List Part) × Fits items rest parts × (all ≡ texts_after texts parts)
+-- the first field with the time taken, after one more field
+abbrev pub first_taken : Option Part → Part → Option Part
+first_taken None part = if is_taken_letter part.0 then Some part else None
+first_taken (Some first) part = Some first
 
--- the one outcome of fitting: None where the rest doesn't fit, and else the texts
-abbrev pub FitsWith : List FormatItem → List ℕ → FieldTexts → Option FieldTexts → Type 0
-FitsWith items rest texts outcome =
-    MatchOption outcome ((all : FieldTexts) → ¬ Gives items rest texts all) (λ found. (all : FieldTexts) → Gives items rest texts all ↔ (all ≡ found))
+-- the fields that are noted
+pub record AreNoted (parts : List Part) (fields : Fields) : Type 0 where
+  pub room : length fields.texts ≡ LETTERS
+  pub texts : (letter : ℕ) → IsLetter letter → noted_text letter fields ≡ field letter parts
+  pub taken : option_map part_of fields.taken ≡ taken_part parts
+
+-- the field that begins `rest` goes up to the literal that the next item is, with which `after` begins
+pub record EndsBefore (next : Option FormatItem) (rest text after : List ℕ) : Type 0 where
+  pub stop : ℕ
+  pub behind : List ℕ
+  pub next_is : next ≡ Some (Literal stop)
+  pub ends : EndsAt stop rest text behind
+  pub after_is : after ≡ stop ∷ behind
+
+-- the field that begins `rest` goes up to the end of the line: no literal comes next, or it doesn't end there
+abbrev pub EndsLine : Option FormatItem → List ℕ → Type 0
+EndsLine next rest = (stop : ℕ) → next ≡ Some (Literal stop) → NeverEnds stop rest
+
+-- the line fits all the items, with these fields first, exactly where the rest fits the items that are left
+pub record IsReadTo (items : List FormatItem) (line : List ℕ) (left : List FormatItem) (rest : List ℕ) (before : List Part) : Type 0 where
+  pub back : (later : List Part) → Fits left rest later → Fits items line (before ++ later)
+  pub only : (parts : List Part) → Fits items line parts → (later : List Part) × Fits left rest later × (parts ≡ before ++ later)

@@ -1,6 +1,7 @@
 pub mod Bounds
 pub mod Fits
 pub mod Fitting
+pub mod Letters
 pub mod Lines
 pub mod Records
 pub mod Valid

@@ -1,78 +1,50 @@
--- What a line of a log in the common format says: the line is passed over, or it fails, or it is a record.
-use Rattle.std.specs.Prelude.{◌≡◌, ℕ, ◌<◌, ◌≤◌, ◌⊎◌, true, ⊤, List, [], ◌∷◌, length, Option, Some, None, unwrap_or, if◌then◌else◌}
-use Rattle.std.specs.Str.{all_ascii_digits}
+-- What a line of a log says: the line is passed over, or it fails, or it is a record.
+use Rattle.std.specs.Prelude.{◌≡◌, ℕ, ◌+◌, ◌*◌, ◌^◌, ◌<◌, ◌≤◌, ◌⊎◌, ◌==◌, Bool, true, false, ⊤, List, [], ◌∷◌, ◌++◌, length, take, replicate, Option, Some, None, IfSome, unwrap_or, codes, if◌then◌else◌}
+use Rattle.std.specs.List.{find}
+use Rattle.std.specs.Str.{all_ascii_digits, bytes_eq}
 use Rattle.std.specs.Str.Lossy.{utf8_lossy}
 use Rattle.std.specs.Str.Parse.{digits_value}
 use Rattle.ga_base.specs.declared.counts.TheConstants.{BIG}
-use Rattle.ga_base.specs.declared.formats.FormatItem.{FormatItem}
-use Rattle.ga_base.specs.declared.formats.FormatItem.TheVariants.{Literal, Field}
 use Rattle.ga_base.specs.declared.record.TheConstants.{MAX_LINE}
 use Rattle.ga_base.specs.declared.record.Line.{Line}
 use Rattle.ga_base.specs.declared.record.Line.TheVariants.{Skipped, Failed, Good}
 use Rattle.ga_base.specs.declared.record.Record.{Record}
 use Rattle.ga_dates.specs.declared.item.Item.{Item}
-use Rattle.ga_dates.specs.Spelling.{SpellsDate}
+use Rattle.ga_dates.specs.Spelling.{SpellsDate, SpellsTime, SpellsBoth}
+use Rattle.ga_line.specs.declared.setup.LineSetup.{LineSetup}
 use Rattle.ga_line.specs.Fits.{Part, Fits, field}
+use Rattle.ga_line.specs.Letters.{host_letter, date_letter, time_letter, both_letter, request_letter, method_letter, path_letter, query_letter, protocol_letter, status_letter, size_letter, referrer_letter, agent_letter, vhost_letter, user_letter, cache_letter, mime_letter, tls_letter, micros_letter, millis_letter, seconds_letter, is_taken_letter}
 
--- the letters of the fields that the common format has
-abbrev pub host_letter : ℕ
-host_letter = 104
+-- the first of two fields of which a format has one at most
+abbrev pub either : Option (List ℕ) → Option (List ℕ) → Option (List ℕ)
+either None other = other
+either (Some text) other = Some text
 
-abbrev pub date_letter : ℕ
-date_letter = 100
+-- the text that has the day, and the one that has what was asked for
+abbrev pub day_text : List Part → Option (List ℕ)
+day_text parts = either (field both_letter parts) (field date_letter parts)
 
-abbrev pub time_letter : ℕ
-time_letter = 116
-
-abbrev pub request_letter : ℕ
-request_letter = 114
-
-abbrev pub status_letter : ℕ
-status_letter = 115
-
-abbrev pub size_letter : ℕ
-size_letter = 98
-
-abbrev pub ignored_letter : ℕ
-ignored_letter = 94
-
--- the common format, `%h %^[%d:%t %^] "%r" %s %b`
-abbrev pub common_items : List FormatItem
-common_items =
-    Field host_letter ∷ Literal 32 ∷ Field ignored_letter ∷ Literal 91 ∷ Field date_letter ∷ Literal 58 ∷ Field time_letter ∷ Literal 32
-    ∷ Field ignored_letter ∷ Literal 93 ∷ Literal 32 ∷ Literal 34 ∷ Field request_letter ∷ Literal 34 ∷ Literal 32
-    ∷ Field status_letter ∷ Literal 32 ∷ Field size_letter ∷ []
-
--- the texts of a line's fields that are read; None where the line ended before the field
-pub record FieldTexts : Type 0 where
-  pub host : Option (List ℕ)
-  pub date : Option (List ℕ)
-  pub request : Option (List ℕ)
-  pub status : Option (List ℕ)
-  pub size : Option (List ℕ)
-
-abbrev pub texts_of : List Part → FieldTexts
-texts_of parts = record {
-  host = field host_letter parts;
-  date = field date_letter parts;
-  request = field request_letter parts;
-  status = field status_letter parts;
-  size = field size_letter parts;
-}
-
--- the line fits the common format, and its fields have these texts
-abbrev pub HasTexts : List ℕ → FieldTexts → Type 0
-HasTexts line texts = (parts : List Part) × Fits common_items line parts × (texts ≡ texts_of parts)
+abbrev pub request_text : List Part → Option (List ℕ)
+request_text parts = either (field request_letter parts) (field path_letter parts)
 
 -- the field is absent, or its text is empty
 abbrev pub IsMissing : Option (List ℕ) → Type 0
 IsMissing None = ⊤
 IsMissing (Some text) = text ≡ []
 
--- the field's text spells this date by a date format with these items
-abbrev pub HasDate : List Item → Option (List ℕ) → ℕ → Type 0
-HasDate dates None date = ⊥
-HasDate dates (Some text) date = SpellsDate dates text date
+-- the text of `%t` says this minute of the day; where there is none, there is no minute
+abbrev pub HasMinute : List Item → Option (List ℕ) → Option ℕ → Type 0
+HasMinute times None minute = minute ≡ None
+HasMinute times (Some time) minute = (m : ℕ) × (minute ≡ Some m) × SpellsTime times time m
+
+-- the texts of `%x`, `%d` and `%t` say this day and this minute of it: `%x` is the day and directly behind it the time
+abbrev pub HasMoment : LineSetup → Option (List ℕ) → Option (List ℕ) → Option (List ℕ) → ℕ → Option ℕ → Type 0
+HasMoment setup (Some both) day time date minute = (m : ℕ) × (minute ≡ Some m) × SpellsBoth setup.date setup.time both date m
+HasMoment setup None None time date minute = ⊥
+HasMoment setup None (Some day) time date minute = SpellsDate setup.date day date × HasMinute setup.time time minute
+
+abbrev pub SaysMoment : LineSetup → List Part → ℕ → Option ℕ → Type 0
+SaysMoment setup parts date minute = HasMoment setup (field both_letter parts) (field date_letter parts) (field time_letter parts) date minute
 
 -- the text is a status code: three digits, whose number is 100 to 599
 pub record IsStatus (text : List ℕ) (status : ℕ) : Type 0 where
@@ -82,72 +54,116 @@ pub record IsStatus (text : List ℕ) (status : ℕ) : Type 0 where
   pub first : 100 ≤ status
   pub last : status ≤ 599
 
--- the status that the field says, and 0 where it is absent
-abbrev pub HasStatus : Option (List ℕ) → ℕ → Type 0
-HasStatus None status = status ≡ 0
-HasStatus (Some text) status = IsStatus text status
+-- the status that the field says: 0 where it is absent, or where it is no status code and that isn't asked for strictly
+abbrev pub HasStatus : Bool → Option (List ℕ) → ℕ → Type 0
+HasStatus strict None status = status ≡ 0
+HasStatus true (Some text) status = IsStatus text status
+HasStatus false (Some text) status = IsStatus text status ⊎ (((code : ℕ) → ¬ IsStatus text code) × (status ≡ 0))
 
 -- the value of the field's digits, and 0 where it is absent or has anything but digits
 abbrev pub size_value : Option (List ℕ) → ℕ
 size_value None = 0
 size_value (Some text) = if all_ascii_digits text then digits_value 10 text else 0
 
+-- one or more digits
+pub record AreDigits (text : List ℕ) : Type 0 where
+  pub some : 0 < length text
+  pub digits : all_ascii_digits text ≡ true
+
+-- the number of these digits and of so many decimals behind them, zeros filled in where there are fewer
+abbrev pub decimal_value : ℕ → List ℕ → List ℕ → ℕ
+decimal_value places front back = digits_value 10 (front ++ take places (back ++ replicate places 48))
+
+-- A number in so many decimals: digits alone, or digits, a dot and digits, whose decimals past these are cut.
+pub data IsDecimal (places : ℕ) (text : List ℕ) (number : ℕ) : Type 0 where
+  whole : AreDigits text → number ≡ decimal_value places text [] → IsDecimal places text number
+  parted : (front back : List ℕ) → text ≡ front ++ 46 ∷ back → AreDigits front → AreDigits back → number ≡ decimal_value places front back → IsDecimal places text number
+
+-- The microseconds that the text of a field for the time taken writes: whole ones, or milliseconds or seconds with decimals.
+pub data IsMicros (part : Part) (micros : ℕ) : Type 0 where
+  in_micros : part.0 ≡ micros_letter → AreDigits part.1 → micros ≡ digits_value 10 part.1 → IsMicros part micros
+  in_millis : part.0 ≡ millis_letter → IsDecimal 3 part.1 micros → IsMicros part micros
+  in_seconds : part.0 ≡ seconds_letter → IsDecimal 6 part.1 micros → IsMicros part micros
+
+-- the first field of the line that has the time taken; the others aren't read
+abbrev pub taken_part : List Part → Option Part
+taken_part parts = find (λ part. is_taken_letter part.0) parts
+
+-- the time that the answer took: None where the field is absent or is no such number
+abbrev pub HasMicros : Option Part → Option ℕ → Type 0
+HasMicros None micros = micros ≡ None
+HasMicros (Some part) None = (number : ℕ) → ¬ IsMicros part number
+HasMicros (Some part) (Some number) = IsMicros part number
+
 -- a line that isn't counted: an empty one, or one that begins with '#'
 abbrev pub IsPassedOver : List ℕ → Type 0
 IsPassedOver line = (line ≡ []) ⊎ ((comment : List ℕ) × (line ≡ 35 ∷ comment))
 
--- why the texts of a line that fits are refused, where dates are written by a format with these items
-pub data IsRefused (dates : List Item) (texts : FieldTexts) : Type 0 where
-  no_host : IsMissing texts.host → IsRefused dates texts
-  no_date : IsMissing texts.date → IsRefused dates texts
-  no_request : IsMissing texts.request → IsRefused dates texts
-  bad_date : ((date : ℕ) → ¬ HasDate dates texts.date date) → IsRefused dates texts
-  bad_status : ((status : ℕ) → ¬ HasStatus texts.status status) → IsRefused dates texts
-  too_large : BIG < size_value texts.size → IsRefused dates texts
+-- why a line that fits, with these fields, is refused
+pub data IsRefused (setup : LineSetup) (parts : List Part) : Type 0 where
+  no_host : IsMissing (field host_letter parts) → IsRefused setup parts
+  no_date : IsMissing (day_text parts) → IsRefused setup parts
+  no_request : IsMissing (request_text parts) → IsRefused setup parts
+  bad_moment : ((date : ℕ) (minute : Option ℕ) → ¬ SaysMoment setup parts date minute) → IsRefused setup parts
+  bad_status : ((status : ℕ) → ¬ HasStatus setup.strict_status (field status_letter parts) status) → IsRefused setup parts
+  too_large : BIG < size_value (field size_letter parts) → IsRefused setup parts
+  too_slow : (micros : ℕ) → HasMicros (taken_part parts) (Some micros) → BIG < micros → IsRefused setup parts
 
 -- why a line that isn't passed over is no valid one
-pub data Fails (dates : List Item) (line : List ℕ) : Type 0 where
-  too_long : MAX_LINE < length line → Fails dates line
-  misfit : ((texts : FieldTexts) → HasTexts line texts → ⊥) → Fails dates line
-  refused : (texts : FieldTexts) → HasTexts line texts → IsRefused dates texts → Fails dates line
+pub data Fails (setup : LineSetup) (line : List ℕ) : Type 0 where
+  too_long : MAX_LINE < length line → Fails setup line
+  misfit : ((parts : List Part) → ¬ Fits setup.format line parts) → Fails setup line
+  refused : (parts : List Part) → Fits setup.format line parts → IsRefused setup parts → Fails setup line
 
 -- a field's text as UTF-8, with U+FFFD for what isn't, and empty where the field is absent
 abbrev pub utf8_text : Option (List ℕ) → List ℕ
 utf8_text text = utf8_lossy (unwrap_or text [])
 
--- the record that says these values; the fields that aren't read yet are None or empty
-abbrev pub record_of : List ℕ → ℕ → List ℕ → ℕ → ℕ → Record
-record_of host date url status bytes = record {
-  host = host;
-  date = date;
-  minute = None;
-  method = [];
-  protocol = [];
-  url = url;
-  status = status;
-  bytes = bytes;
-  micros = None;
-  referrer = [];
-  agent = [];
-  vhost = [];
-  user = [];
-  cache = [];
-  mime = [];
-  tls = [];
-}
+-- what a field says in which a dash says nothing, and that as UTF-8
+abbrev pub said : Option (List ℕ) → List ℕ
+said None = []
+said (Some text) = if bytes_eq text (codes "-") then [] else text
 
--- the record has the values of a line with these texts
-pub record IsRecordOf (dates : List Item) (texts : FieldTexts) (rec : Record) : Type 0 where
-  pub date : HasDate dates texts.date rec.date
-  pub status : HasStatus texts.status rec.status
-  pub values : rec ≡ record_of (utf8_text texts.host) rec.date (utf8_text texts.request) rec.status (size_value texts.size)
+abbrev pub said_text : Option (List ℕ) → List ℕ
+said_text text = utf8_lossy (said text)
 
--- what a line says, where dates are written by a format with these items
-abbrev pub IsLineOf : List Item → List ℕ → Line → Type 0
-IsLineOf dates line Skipped = IsPassedOver line
-IsLineOf dates line Failed = ¬ IsPassedOver line × Fails dates line
-IsLineOf dates line (Good rec) = ¬ IsPassedOver line × ¬ Fails dates line × ((texts : FieldTexts) × HasTexts line texts × IsRecordOf dates texts rec)
+-- a query behind the path, with a question mark between them unless it has its own
+abbrev pub with_query : List ℕ → List ℕ → List ℕ
+with_query path [] = path
+with_query path (byte ∷ query) = path ++ (if byte == 63 then byte ∷ query else 63 ∷ byte ∷ query)
+
+-- the URL that was asked for, with its query
+abbrev pub url_text : List Part → List ℕ
+url_text parts = utf8_lossy (with_query (unwrap_or (request_text parts) []) (said (field query_letter parts)))
+
+-- the record has the texts of these fields
+pub record HasTexts (parts : List Part) (rec : Record) : Type 0 where
+  pub host : rec.host ≡ utf8_text (field host_letter parts)
+  pub method : rec.method ≡ utf8_text (field method_letter parts)
+  pub protocol : rec.protocol ≡ utf8_text (field protocol_letter parts)
+  pub url : rec.url ≡ url_text parts
+  pub referrer : rec.referrer ≡ said_text (field referrer_letter parts)
+  pub agent : rec.agent ≡ said_text (field agent_letter parts)
+  pub vhost : rec.vhost ≡ said_text (field vhost_letter parts)
+  pub user : rec.user ≡ said_text (field user_letter parts)
+  pub cache : rec.cache ≡ said_text (field cache_letter parts)
+  pub mime : rec.mime ≡ said_text (field mime_letter parts)
+  pub tls : rec.tls ≡ said_text (field tls_letter parts)
+
+-- the record has the values of a line with these fields
+pub record IsRecordOf (setup : LineSetup) (parts : List Part) (rec : Record) : Type 0 where
+  pub texts : HasTexts parts rec
+  pub moment : SaysMoment setup parts rec.date rec.minute
+  pub status : HasStatus setup.strict_status (field status_letter parts) rec.status
+  pub bytes : rec.bytes ≡ size_value (field size_letter parts)
+  pub micros : HasMicros (taken_part parts) rec.micros
+
+-- what a line says
+abbrev pub IsLineOf : LineSetup → List ℕ → Line → Type 0
+IsLineOf setup line Skipped = IsPassedOver line
+IsLineOf setup line Failed = ¬ IsPassedOver line × Fails setup line
+IsLineOf setup line (Good rec) = ¬ IsPassedOver line × ¬ Fails setup line × ((parts : List Part) × Fits setup.format line parts × IsRecordOf setup parts rec)
 
 -- a line says one thing
-abbrev pub SaysOneThing : List Item → List ℕ → Type 0
-SaysOneThing dates line = (one two : Line) → IsLineOf dates line one → IsLineOf dates line two → one ≡ two
+abbrev pub SaysOneThing : LineSetup → List ℕ → Type 0
+SaysOneThing setup line = (one two : Line) → IsLineOf setup line one → IsLineOf setup line two → one ≡ two

@@ -1,4 +1,4 @@
-ghost use Rattle.std.specs.Prelude.{◌≡◌, ◌<◌, IfSome, IfNone, length, take, slice_index};
+ghost use Rattle.std.specs.Prelude.{◌≡◌, ◌<◌, ◌∷◌, ℕ, List, IfSome, IfNone, length, take, slice_index};
 ghost use Rattle.ga_line.specs.Fits.{EndsAt, NeverEnds, IsFree};
 
 use bstr::ByteSlice;
@@ -8,14 +8,14 @@ const QUOTE: u8 = b'"';
 
 const BACKSLASH: u8 = b'\\';
 
-/// The text of the field that begins `rest` and ends at the byte `stop`, and what follows that byte. `None`
+/// The text of the field that begins `rest` and ends at the byte `stop`, and what is left from that byte on. `None`
 /// where the line ends before the field does.
 pub(crate) fn cut_at<'a>(rest: &'a [u8], stop: u8) -> Option<(&'a [u8], &'a [u8])>
-    ensures found { IfSome result (λ cut. EndsAt stop rest.now cut.0.now cut.1.now) }
+    ensures found { IfSome result (λ cut. (after : List ℕ) × EndsAt stop rest.now cut.0.now after × (cut.1.now ≡ stop ∷ after)) }
     ensures none { IfNone result (NeverEnds stop rest.now) }
 {
     let end = end_in(rest, stop)?;
-    Some((&rest[..end], &rest[end + 1..]))
+    Some((&rest[..end], &rest[end..]))
 }
 
 /// The first place at which a field that ends at the byte `stop` can end.

@@ -1,96 +1,98 @@
-ghost use Rattle.std.specs.Prelude.{◌≡◌, ◌∷◌, [], Some, IfSome, IfNone};
-ghost use Rattle.std.specs.Option.{option_copied};
-ghost use Rattle.ga_line.specs.Fitting.{no_texts, texts_after};
-ghost use Rattle.ga_line.specs.Records.{IsRefused, IsMissing};
-ghost use Rattle.ga_line.specs.Valid.{HasValues};
+ghost use Rattle.std.specs.Prelude.{◌≡◌, ◌∷◌, ◌++◌, [], ℕ, List, length};
+ghost use Rattle.std.specs.Option.{option_copied, option_map};
+ghost use Rattle.ga_line.specs.Fits.{Part, field, noted};
+ghost use Rattle.ga_line.specs.Fitting.{IsLetter, AreNoted, part_of, noted_text, first_taken};
+ghost use Rattle.ga_line.specs.Letters.{is_taken_letter};
+ghost use Rattle.ga_line.specs.Records.{day_text, request_text, taken_part};
 
-use crate::sizes::size_in;
-use crate::status::status_in;
-use crate::values::Values;
-use ga_dates::{DateFormat, read_date};
-use std::marker::Model;
+/// The first letter that a field may have.
+const FIRST_LETTER: u8 = b'@';
 
-/// The texts of a line's fields that are read. `None` is a field that the line ended before.
-#[derive(Drop)]
+/// How many letters fields may have, from the first one on.
+const LETTERS: usize = 64;
+
+/// The texts of a line's fields. None is noted for a field that the line ended before, or that the format hasn't.
+#[derive(Clone, Copy)]
 pub(crate) struct Fields<'a> {
-    host: Option<&'a [u8]>,
-    date: Option<&'a [u8]>,
-    request: Option<&'a [u8]>,
-    status: Option<&'a [u8]>,
-    size: Option<&'a [u8]>,
-}
-
-impl<'a> Model for Fields<'a> {
-    ghost use Rattle.std.specs.Option.{option_copied};
-    ghost use Rattle.ga_line.specs.Records.{FieldTexts};
-
-    ghost Value = { FieldTexts };
-
-    ghost view = { λ f. record { host = option_copied f.host; date = option_copied f.date; request = option_copied f.request; status = option_copied f.status; size = option_copied f.size } };
+    /// By letters, from the first one on.
+    texts: [Option<&'a [u8]>; LETTERS],
+    /// The letter and the text of the first field with the time that the answer took.
+    taken: Option<(u8, &'a [u8])>,
 }
 
 impl<'a> Fields<'a> {
     /// No field.
     pub fn none() -> Fields<'a>
-        ensures { result ≡ no_texts }
+        ensures { AreNoted [] result }
     {
         Fields {
-            host: None,
-            date: None,
-            request: None,
-            status: None,
-            size: None,
+            texts: [None; LETTERS],
+            taken: None,
         }
     }
 
-    /// Notes the text of the field with this letter, if it is one that is read.
+    /// Notes the text of one field more.
     pub fn note(&mut self, letter: u8, text: &'a [u8])
-        ensures { self.new ≡ texts_after self.old ((letter, text.now) ∷ []) }
+        ensures { (before : List Part) → AreNoted before self.old → AreNoted (before ++ (letter, text.now) ∷ []) self.new }
     {
-        match letter {
-            b'h' => self.host = Some(text),
-            b'd' => self.date = Some(text),
-            b'r' => self.request = Some(text),
-            b's' => self.status = Some(text),
-            b'b' => self.size = Some(text),
-            _ => {}
+        self.note_text(letter, text);
+        self.note_taken(letter, text);
+    }
+
+    /// Notes a text under its letter, if that is one that a field may have.
+    fn note_text(&mut self, letter: u8, text: &'a [u8])
+        ensures room { length self.new.texts ≡ length self.old.texts }
+        ensures texts { length self.old.texts ≡ LETTERS → (other : ℕ) → IsLetter other → noted_text other self.new ≡ noted other (noted_text other self.old) (letter, text.now) }
+        ensures taken { self.new.taken ≡ self.old.taken }
+    {
+        if letter >= FIRST_LETTER && letter < FIRST_LETTER + LETTERS as u8 {
+            self.texts[(letter - FIRST_LETTER) as usize] = Some(text);
         }
     }
 
-    /// What the fields say, with dates in this format. `None` where they are refused: a part that every line has
-    /// to give is absent or empty, the date isn't spelt, the status is no status code, or the size is above `BIG`.
-    pub fn values(&self, dates: &DateFormat) -> Option<Values<'a>>
-        ensures found { IfSome result (HasValues dates.now self.now) }
-        ensures refused { IfNone result (IsRefused dates.now self.now) }
+    /// Notes the first field with the time that the answer took.
+    fn note_taken(&mut self, letter: u8, text: &'a [u8])
+        ensures texts { self.new.texts ≡ self.old.texts }
+        ensures taken { option_map part_of self.new.taken ≡ first_taken (option_map part_of self.old.taken) (letter, text.now) }
     {
-        let host = present(self.host)?;
-        let date = read_date(dates, present(self.date)?)?;
-        let url = present(self.request)?;
-        let status = match self.status {
-            None => 0,
-            Some(text) => status_in(text)?,
-        };
-        let bytes = match self.size {
-            None => 0,
-            Some(text) => size_in(text)?,
-        };
-        Some(Values {
-            host,
-            date,
-            url,
-            status,
-            bytes,
-        })
+        if self.taken.is_none() && is_taken_letter(letter) {
+            self.taken = Some((letter, text));
+        }
+    }
+
+    /// The text of the field with this letter.
+    pub fn text(&self, letter: u8) -> Option<&'a [u8]>
+        requires { IsLetter letter }
+        ensures { (parts : List Part) → AreNoted parts self.now → option_copied result ≡ field letter parts }
+    {
+        self.texts[(letter - FIRST_LETTER) as usize]
+    }
+
+    /// The text that has the day: that of `%x`, or else of `%d`.
+    pub fn day(&self) -> Option<&'a [u8]>
+        ensures { (parts : List Part) → AreNoted parts self.now → option_copied result ≡ day_text parts }
+    {
+        self.text(b'x').or(self.text(b'd'))
+    }
+
+    /// The text that has what was asked for: that of `%r`, or else of `%U`.
+    pub fn request(&self) -> Option<&'a [u8]>
+        ensures { (parts : List Part) → AreNoted parts self.now → option_copied result ≡ request_text parts }
+    {
+        self.text(b'r').or(self.text(b'U'))
+    }
+
+    /// The first field with the time that the answer took.
+    pub fn taken(&self) -> Option<(u8, &'a [u8])>
+        ensures { (parts : List Part) → AreNoted parts self.now → option_map part_of result ≡ taken_part parts }
+    {
+        self.taken
     }
 }
 
-/// The text of a field that has to be there.
-fn present(text: Option<&[u8]>) -> Option<&[u8]>
-    ensures found { IfSome result (λ t. (option_copied text.entry ≡ Some t.now) × ¬ IsMissing (option_copied text.entry)) }
-    ensures missing { IfNone result (IsMissing (option_copied text.entry)) }
+/// Whether the field has the time that the answer took.
+fn is_taken_letter(letter: u8) -> bool
+    ensures { result ≡ is_taken_letter letter }
 {
-    match text {
-        Some(bytes) if !bytes.is_empty() => Some(bytes),
-        _ => None,
-    }
+    matches!(letter, b'D' | b'L' | b'T')
 }

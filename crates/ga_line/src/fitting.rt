@@ -1,36 +1,56 @@
-ghost use Rattle.std.specs.Prelude.{◌≡◌, ℕ, List, ◌∷◌, IfSome, IfNone};
-ghost use Rattle.ga_line.specs.Fitting.{FitsWith, items_of, no_texts};
+ghost use Rattle.std.specs.Prelude.{◌≡◌, ℕ, List, ◌∷◌, IfSome, IfNone, slice_get};
+ghost use Rattle.std.specs.Option.{option_copied};
+ghost use Rattle.ga_line.specs.Fits.{Part, Fits, SkipsSpace, is_space};
+ghost use Rattle.ga_line.specs.Fitting.{AreNoted, EndsBefore, EndsLine};
 
 use crate::cutting::cut_at;
 use crate::fields::Fields;
-use crate::steps::Step;
+use ga_base::FormatItem;
 
-/// Fits a line to the steps of a format. `None` where it doesn't fit.
-pub(crate) fn fit<'a>(steps: &[Step], line: &'a [u8]) -> Option<Fields<'a>>
-    ensures { FitsWith (items_of steps.now) line.now no_texts result }
+/// Fits a line to the items of a format, in their order. `None` where it doesn't fit.
+pub(crate) fn fit<'a>(items: &[FormatItem], line: &'a [u8]) -> Option<Fields<'a>>
+    ensures fits { IfSome result (λ fields. (parts : List Part) × Fits items.now line.now parts × AreNoted parts fields) }
+    ensures misfit { IfNone result ((parts : List Part) → ¬ Fits items.now line.now parts) }
 {
     let mut rest = line;
     let mut fields = Fields::none();
-    for step in steps {
-        match *step {
-            Step::Literal(b) => rest = after_byte(rest, b)?,
-            Step::FieldUpTo(letter, stop) => match cut_at(rest, stop) {
+    for (at, item) in items.iter().enumerate() {
+        match item {
+            FormatItem::Literal(byte) => rest = after_byte(rest, *byte)?,
+            FormatItem::Skip => rest = after_space(rest),
+            FormatItem::Field(letter) => match field_in(rest, item_at(items, at + 1)) {
                 Some((text, after)) => {
-                    fields.note(letter, text);
+                    fields.note(*letter, text);
                     rest = after;
                 }
                 None => {
-                    fields.note(letter, rest);
+                    fields.note(*letter, rest);
                     return Some(fields);
                 }
             },
-            Step::FieldToEnd(letter) => {
-                fields.note(letter, rest);
-                return Some(fields);
-            }
+            FormatItem::Forwarded(_) => return None,
         }
     }
     Some(fields)
+}
+
+/// The item at a place, if there is one.
+fn item_at(items: &[FormatItem], at: usize) -> Option<&FormatItem>
+    ensures { option_copied result ≡ slice_get items.now at }
+{
+    items.get(at)
+}
+
+/// The field that begins `rest` and goes up to the literal that the next item is, and what is left from that byte on.
+/// `None` where the field goes up to the end of the line.
+fn field_in<'a>(rest: &'a [u8], next: Option<&FormatItem>) -> Option<(&'a [u8], &'a [u8])>
+    ensures found { IfSome result (λ cut. EndsBefore (option_copied next.entry) rest.now cut.0.now cut.1.now) }
+    ensures none { IfNone result (EndsLine (option_copied next.entry) rest.now) }
+{
+    match next {
+        Some(FormatItem::Literal(stop)) => cut_at(rest, *stop),
+        _ => None,
+    }
 }
 
 /// What follows the byte that begins `rest`. `None` where another byte does, or none.
@@ -42,4 +62,23 @@ fn after_byte(rest: &[u8], byte: u8) -> Option<&[u8]>
         Some((first, after)) if *first == byte => Some(after),
         _ => None,
     }
+}
+
+/// What follows the white space that begins `rest`.
+fn after_space(rest: &[u8]) -> &[u8]
+    ensures { SkipsSpace rest.now result.now }
+{
+    for (at, byte) in rest.iter().enumerate() {
+        if !is_space(*byte) {
+            return &rest[at..];
+        }
+    }
+    &[]
+}
+
+/// Whether the byte is white space, as C's `isspace` has it.
+fn is_space(byte: u8) -> bool
+    ensures { result ≡ is_space byte }
+{
+    matches!(byte, b'\t'..=b'\r' | b' ')
 }

@@ -1,24 +1,15 @@
-ghost use Rattle.std.specs.Prelude.{◌≡◌, IfOk};
-ghost use Rattle.ga_dates.specs.Items.{default_date};
-
-use ga_base::NoMemory;
-use ga_dates::DateFormat;
-use std::alloc::Global;
+use ga_dates::{DateFormat, TimeFormat};
+use ga_format::Format;
 
 /// How the lines of a log are read: what is made once and serves every line.
 #[derive(Debug, Drop)]
 pub struct LineSetup {
-    /// The format in which `%d` is written.
+    /// The items that a line has to fit.
+    pub format: Format,
+    /// The format of `%d`, and of the day in `%x`.
     pub date: DateFormat,
-}
-
-impl LineSetup {
-    /// The setup for logs in the common format: dates as in `29/Feb/2024`, GoAccess's default.
-    pub fn common(alloc: Global) -> Result<LineSetup, NoMemory>
-        ensures { IfOk result (λ setup. setup.date ≡ default_date) }
-    {
-        Ok(LineSetup {
-            date: DateFormat::default_format(alloc)?,
-        })
-    }
+    /// The format of `%t`, and of the time in `%x`.
+    pub time: TimeFormat,
+    /// Whether a line fails whose status is there and is no status code.
+    pub strict_status: bool,
 }

@@ -1,7 +1,7 @@
 ghost use Rattle.std.specs.Prelude.{ℕ, IfSome, IfNone};
 ghost use Rattle.ga_line.specs.Records.{IsStatus};
 
-use crate::sizes::size_in;
+use crate::digits::number_in;
 
 /// How many digits a status code has.
 const STATUS_LENGTH: usize = 3;
@@ -17,7 +17,7 @@ pub(crate) fn status_in(text: &[u8]) -> Option<u32>
     if text.len() != STATUS_LENGTH {
         return None;
     }
-    let status = size_in(text)?;
+    let status = number_in(text)?;
     if status < STATUSES.0 || status > STATUSES.1 {
         return None;
     }

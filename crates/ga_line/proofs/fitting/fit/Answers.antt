@@ -1,38 +1,58 @@
-use Rattle.std.proofs.Common.{ℕ, List, ◌∷◌, Bor, sym, ap, ◌∙◌, subst, arith}
-use Rattle.ga_line.specs.declared.steps.Step.TheVariants.{Literal}
-use Rattle.ga_line.specs.Fits.{EndsAt}
-use Rattle.ga_line.specs.Fitting.{FitsWith, items_of, no_texts}
-use Rattle.ga_line.proofs.FitLemmas.{fit-done, fit-literal, fit-misfit, fit-field, fit-end, fit-last}
+use Rattle.std.proofs.Common.{◌≡◌, ◌+◌, ◌∷◌, ◌++◌, [], List, Bor, ℕ, drop, sym, ap, ◌∙◌, subst, arith}
+use Rattle.std.proofs.lemmas.List.{drop_all}
+use Rattle.ga_base.specs.declared.formats.FormatItem.{FormatItem}
+use Rattle.ga_base.specs.declared.formats.FormatItem.TheVariants.{Literal, Skip, Field, Forwarded}
+use Rattle.ga_line.specs.Fits.{Part, Fits, SkipsSpace}
+use Rattle.ga_line.specs.Fitting.{IsReadTo, AreNoted, EndsBefore, EndsLine}
+use Rattle.ga_line.proofs.FitLemmas.{read-none, read-literal, read-space, read-misfit, read-forwarded, read-field, read-to-end, read-all, left-at, next-at}
 use Rattle.ga_line.proofs.fitting.fit.Goals as goal
-use Rattle.ga_line.proofs.fitting.fit.Goals.{in-Literal+in_ok-rest-in-Literal, in-FieldUpTo+in-Some}
+use Rattle.ga_line.proofs.fitting.fit.Goals.{in-Literal+in_ok-rest-in-Literal, in-Skip, in-Field+in-Some}
 
-pub returns-in_err-rest-in-Literal : goal.returns-in_err-rest-in-Literal
-returns-in_err-rest-in-Literal c =
-    subst (λ r. FitsWith (items_of c.args.steps.now) c.args.line.now no_texts r) (sym c.from_residual.ensures)
-    (fit-misfit c.args.steps.now c.args.line.now c.loop-step.step-index c.loop-step.rest.now c.loop-step.fields c.loop-step.invariant (Literal 0) c.loop-step-test.true
-    c.in-Literal.b c.in-Literal.is c.in_err-rest-in-Literal.ensures.none)
+pub loop-at-init : goal.loop-at-init
+loop-at-init c = ([], read-none c.args.items.now c.args.line.now, c.none-fields.ensures)
 
-pub returns-in-None : goal.returns-in-None
-returns-in-None c =
-    fit-end c.args.steps.now c.args.line.now c.loop-step.step-index c.loop-step.rest.now c.loop-step.fields c.loop-step.invariant (Literal 0) c.loop-step-test.true
-    c.in-FieldUpTo.letter c.in-FieldUpTo.stop c.note-in-None.new.self c.in-FieldUpTo.is c.in-None.ensures.none c.note-in-None.ensures
+pub returns-in-None-clause-fits : goal.returns-in-None-clause-fits
+returns-in-None-clause-fits c =
+    let items = c.args.items.now in
+    let left = left-at items c.loop-at.at c.index-items-at.result (Field c.in-Field.letter) c.loop-at-test.true (sym c.index-items-at.is ∙ c.in-Field.is) in
+    let to = subst (λ (x : List FormatItem). IsReadTo items c.args.line.now x c.loop-at.rest.now c.loop-at.invariant.0) left c.loop-at.invariant.1 in
+    let ends = subst (λ next. EndsLine next c.loop-at.rest.now) (c.item_at.ensures ∙ next-at items c.loop-at.at) c.in-None.ensures.none in (
+      c.loop-at.invariant.0 ++ (c.in-Field.letter, c.loop-at.rest.now) ∷ [],
+      read-to-end items c.args.line.now c.loop-at.invariant.0 (drop (c.loop-at.at + 1) items) c.loop-at.rest.now c.in-Field.letter to ends,
+      c.note-in-None.ensures c.loop-at.invariant.0 c.loop-at.invariant.2,
+    )
 
-pub returns-in-FieldToEnd : goal.returns-in-FieldToEnd
-returns-in-FieldToEnd c =
-    fit-last c.args.steps.now c.args.line.now c.loop-step.step-index c.loop-step.rest.now c.loop-step.fields c.loop-step.invariant (Literal 0) c.loop-step-test.true
-    c.in-FieldToEnd.letter c.note-in-FieldToEnd.new.self c.in-FieldToEnd.is c.note-in-FieldToEnd.ensures
-
-pub loop-step-preserved : goal.loop-step-preserved
-loop-step-preserved c =
-    elim c.match-step.branch [
-      | in-Literal+in_ok-rest-in-Literal w ↦ fit-literal c.args.steps.now c.args.line.now c.loop-step.step-index c.loop-step.rest.now c.loop-step.fields c.loop-step.invariant (Literal 0) c.loop-step-test.true
-          w.in-Literal.b c.match-step.rest.now c.match-step.fields w.in-Literal.is
-          (w.in_ok-rest-in-Literal.ensures.found ∙ ap (λ (r : Bor (List ℕ)). w.in-Literal.b ∷ r.now) (sym w.rest-is)) w.fields-is
-      | in-FieldUpTo+in-Some w ↦ fit-field c.args.steps.now c.args.line.now c.loop-step.step-index c.loop-step.rest.now c.loop-step.fields c.loop-step.invariant (Literal 0) c.loop-step-test.true
-          w.in-FieldUpTo.letter w.in-FieldUpTo.stop w.in-Some.text.now c.match-step.rest.now c.match-step.fields w.in-FieldUpTo.is
-          (subst (λ (r : Bor (List ℕ)). EndsAt w.in-FieldUpTo.stop c.loop-step.rest.now w.in-Some.text.now r.now) (sym w.rest-is) w.in-Some.ensures.found)
-          (w.fields-is ∙ w.note.ensures)
+pub loop-at-preserved : goal.loop-at-preserved
+loop-at-preserved c =
+    let items = c.args.items.now in
+    let line = c.args.line.now in
+    let rest = c.loop-at.rest.now in
+    let before = c.loop-at.invariant.0 in
+    let more = drop (c.loop-at.at + 1) items in
+    elim c.match-item.branch [
+      | in-Literal+in_ok-rest-in-Literal w ↦
+          let left = left-at items c.loop-at.at c.index-items-at.result (Literal w.in-Literal.byte) c.loop-at-test.true (sym c.index-items-at.is ∙ w.in-Literal.is) in
+          let to = subst (λ (x : List FormatItem). IsReadTo items line x rest before) left c.loop-at.invariant.1 in
+          let begins = w.in_ok-rest-in-Literal.ensures.found ∙ ap (λ (r : Bor (List ℕ)). w.in-Literal.byte ∷ r.now) (sym w.rest-is) in
+          (before, read-literal items line before more rest w.in-Literal.byte c.match-item.rest.now begins to, subst (AreNoted before) (sym w.fields-is) c.loop-at.invariant.2)
+      | in-Skip w ↦
+          let left = left-at items c.loop-at.at c.index-items-at.result Skip c.loop-at-test.true (sym c.index-items-at.is ∙ w.in-Skip.is) in
+          let to = subst (λ (x : List FormatItem). IsReadTo items line x rest before) left c.loop-at.invariant.1 in
+          let skips = subst (λ (r : Bor (List ℕ)). SkipsSpace rest r.now) (sym w.rest-is) w.after_space-rest.ensures in
+          (before, read-space items line before more rest c.match-item.rest.now skips to, subst (AreNoted before) (sym w.fields-is) c.loop-at.invariant.2)
+      | in-Field+in-Some w ↦
+          let left = left-at items c.loop-at.at c.index-items-at.result (Field w.in-Field.letter) c.loop-at-test.true (sym c.index-items-at.is ∙ w.in-Field.is) in
+          let to = subst (λ (x : List FormatItem). IsReadTo items line x rest before) left c.loop-at.invariant.1 in
+          let ends = subst (λ next. EndsBefore next rest w.in-Some.text.now w.in-Some.after.now) (w.item_at.ensures ∙ next-at items c.loop-at.at) w.in-Some.ensures.found in
+          let read = read-field items line before more rest w.in-Field.letter to w.in-Some.text.now w.in-Some.after.now ends in (
+            before ++ (w.in-Field.letter, w.in-Some.text.now) ∷ [],
+            subst (λ (r : Bor (List ℕ)). IsReadTo items line more r.now (before ++ (w.in-Field.letter, w.in-Some.text.now) ∷ [])) (sym w.rest-is) read,
+            subst (AreNoted (before ++ (w.in-Field.letter, w.in-Some.text.now) ∷ [])) (sym w.fields-is) (w.note.ensures before c.loop-at.invariant.2),
+          )
     ]
 
-pub returns : goal.returns
-returns c = fit-done c.args.steps.now c.args.line.now c.loop-step.step-index c.loop-step.rest.now c.loop-step.fields c.loop-step.invariant (omega arith)
+pub returns-clause-fits : goal.returns-clause-fits
+returns-clause-fits c =
+    let items = c.args.items.now in
+    let none = subst (λ (x : List FormatItem). IsReadTo items c.args.line.now x c.loop-at.rest.now c.loop-at.invariant.0) (drop_all c.loop-at.at items c.loop-at-test.false) c.loop-at.invariant.1 in
+    (c.loop-at.invariant.0, read-all items c.args.line.now c.loop-at.rest.now c.loop-at.invariant.0 none, c.loop-at.invariant.2)

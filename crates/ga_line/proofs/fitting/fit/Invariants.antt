@@ -1,7 +1,7 @@
-use Rattle.std.proofs.Common.{◌↔◌, drop}
-use Rattle.ga_line.specs.Records.{FieldTexts}
-use Rattle.ga_line.specs.Fitting.{Gives, items_of, no_texts}
+use Rattle.std.proofs.Common.{List, drop}
+use Rattle.ga_line.specs.Fits.{Part}
+use Rattle.ga_line.specs.Fitting.{IsReadTo, AreNoted}
 use Rattle.ga_line.proofs.fitting.fit.Given as goal
 
-abbrev pub invariant-loop-step : goal.invariant-loop-step
-invariant-loop-step l = (all : FieldTexts) → Gives (items_of l.steps) l.fn.line no_texts all ↔ Gives (items_of (drop l.step-index l.steps)) l.rest l.fields all
+abbrev pub invariant-loop-at : goal.invariant-loop-at
+invariant-loop-at l = (before : List Part) × IsReadTo l.fn.items l.fn.line (drop l.at l.items) l.rest before × AreNoted before l.fields

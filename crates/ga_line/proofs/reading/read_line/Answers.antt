@@ -1,9 +1,31 @@
-use Rattle.std.proofs.Common.{sym, ◌∙◌}
+use Rattle.std.proofs.Common.{sym, ◌∙◌, subst}
 use Rattle.std.proofs.lemmas.Bool.{false≢true}
+use Rattle.ga_line.specs.Fits.{Fits}
+use Rattle.ga_line.specs.Records.{misfit, refused}
+use Rattle.ga_line.proofs.AcceptLemmas.{accepted-line}
 use Rattle.ga_line.proofs.ReadLemmas.{says-record}
 use Rattle.ga_line.proofs.reading.read_line.Goals as goal
 
-pub returns-in_ok-record-in-Some : goal.returns-in_ok-record-in-Some
-returns-in_ok-record-in-Some c =
-    says-record c.args.setup.now.date c.args.line.now c.in-Some.values _
-    (λ passed. false≢true (sym c.if-is_passed_over.false ∙ c.is_passed_over.ensures.1 passed)) c.in-Some.ensures.valid c.in_ok-record-in-Some.ensures
+pub returns-in_default : goal.returns-in_default
+returns-in_default c = (
+  λ passed. false≢true (sym c.if-is_passed_over.false ∙ c.is_passed_over.ensures.1 passed),
+  misfit (λ parts fits. c.in_default.ensures.misfit parts (subst (λ items. Fits items c.args.line.now parts) (sym c.items.ensures.value) fits)),
+)
+
+pub returns-in-None : goal.returns-in-None
+returns-in-None c =
+    let fits = c.in-Some.ensures.fits in (
+      λ passed. false≢true (sym c.if-is_passed_over.false ∙ c.is_passed_over.ensures.1 passed),
+      refused fits.0 (subst (λ items. Fits items c.args.line.now fits.0) c.items.ensures.value fits.1) (c.in-None.ensures.refused fits.0 fits.2),
+    )
+
+pub returns-in_ok-record_of-in-Some-numbers_of : goal.returns-in_ok-record_of-in-Some-numbers_of
+returns-in_ok-record_of-in-Some-numbers_of c =
+    let fits = c.in-Some.ensures.fits in
+    let setup = c.args.setup.now in
+    let line = c.args.line.now in
+    let all = subst (λ items. Fits items line fits.0) c.items.ensures.value fits.1 in
+    let has = c.in-Some-numbers_of.ensures.found fits.0 fits.2 in
+    says-record setup line fits.0 c.in-Some-numbers_of.numbers _
+    (λ passed. false≢true (sym c.if-is_passed_over.false ∙ c.is_passed_over.ensures.1 passed)) (accepted-line setup line fits.0 c.if-line-gt-MAX_LINE.false all has.accepted) all has
+    c.in_ok-record_of-in-Some-numbers_of.ensures.numbers (c.in_ok-record_of-in-Some-numbers_of.ensures.texts fits.0 fits.2)
