@@ -2,5 +2,5 @@ mod UnitLemmas
 mod RowLemmas
 mod Reading
 mod Faults
-mod Answering
+pub mod Answering
 mod EveryText

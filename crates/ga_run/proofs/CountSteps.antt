@@ -1,21 +1,21 @@
 -- What one more line does to the sum of a log's lines.
-use Rattle.std.proofs.Common.{◌≡◌, ◌↔◌, ℕ, Bool, true, false, List, [], ◌∷◌, ◌++◌, refl, ap, sym, ◌∙◌, subst, Option, Some, None, IfSome, Result, Ok, Err, OnOk, arith, append_assoc, append-nil, cond, zero, suc, decimal, add_assoc, add-zero, zero-add}
+use Rattle.std.proofs.Common.{◌≡◌, ◌↔◌, ◌≤◌, ℕ, Bool, true, false, List, [], ◌∷◌, ◌++◌, refl, ap, sym, ◌∙◌, subst, Option, Some, None, IfSome, Result, Ok, Err, OnOk, arith, append_assoc, append-nil, cond, zero, suc, decimal, add_assoc, add-zero, zero-add}
 use Rattle.std.specs.Result.{IsErrOf}
 use Rattle.std.specs.Prelude.{All}
 use Rattle.std.specs.Option.{unwrap_or}
 use Rattle.ga_summary.specs.OneLine.{record_totals}
 use Rattle.std.proofs.lemmas.List.Elements.{filter_map-append}
 use Rattle.ga_base.specs.declared.counts.Counter.{Counter}
+use Rattle.ga_base.specs.declared.counts.TheConstants.{BIG}
 use Rattle.ga_base.specs.declared.counts.Totals.{Totals}
 use Rattle.ga_base.specs.declared.key.Key.{Key}
 use Rattle.ga_base.specs.declared.key.Visitor.{Visitor}
 use Rattle.ga_base.specs.declared.record.Record.{Record}
 use Rattle.ga_base.specs.declared.record.Line.{Line}
 use Rattle.ga_base.specs.declared.record.Line.TheVariants.{Skipped, Failed, Good}
-use Rattle.ga_dates.specs.Items.{default_date}
-use Rattle.ga_dates.specs.declared.item.Item.{Item}
 use Rattle.ga_line.specs.Lines.{lines}
 use Rattle.ga_line.specs.Records.{IsLineOf}
+use Rattle.ga_line.specs.declared.setup.LineSetup.{LineSetup}
 use Rattle.ga_base.specs.declared.panel.Panel.TheVariants.{Visitors, Hosts}
 use Rattle.ga_line.specs.Bounds.{RecordBounds}
 use Rattle.ga_panels.specs.Form.{HasEightDigits, AreKeysOfDay, key_cmp as form_cmp, is_same_panel as form_same}
@@ -75,6 +75,10 @@ forms rec digits zero d h = day-form rec digits
 forms rec digits (suc zero) d h = host-form rec digits
 forms rec digits (suc (suc k)) d h = absurd (omega arith)
 
+micros-within : (o : Option ℕ) → IfSome o (λ micros. micros ≤ BIG) → unwrap_or o 0 ≤ BIG
+micros-within None h = omega arith
+micros-within (Some m) h = h
+
 -- the keys of a record may be counted on its day
 pub countable : (rec : Record) → RecordBounds rec → AreKeysOfDay rec.date (table_keys rec) → IsCountable rec.date (hit_of (table_keys rec) (visitor_in rec) rec)
 unfolding key_cmp form_cmp is_same_panel form_same
@@ -86,7 +90,7 @@ countable rec bounds keys = record {
   layers = λ layer. keys.layers layer.panel layer.groups;
   visitor = λ x e. visit-date (is_client_error rec.status) _ x e;
   bytes = bounds.bytes;
-  micros = rw bounds.micros (omega arith);
+  micros = micros-within rec.micros bounds.micros;
 }
 
 -- what both sides of a result hold together
@@ -126,24 +130,24 @@ over-append t (x ∷ xs) ys e =
     ap (λ (o : Option (Counter × ℕ)). or_else o (over more (xs ++ ys))) parts.0 ∙ rest ∙ ap (λ (u : Totals). over u ys) sums
 
 -- the lines up to those that are left are counted
-pub record CountedTo (dates : List Item) (all rest : List (List ℕ)) (sum : SummaryValue) : Type 0 where
+pub record CountedTo (setup : LineSetup) (all rest : List (List ℕ)) (sum : SummaryValue) : Type 0 where
   pub seen : List (List ℕ)
   pub said : List Line
   pub split : all ≡ seen ++ rest
-  pub reads : Say dates seen said
+  pub reads : Say setup seen said
   pub is_sum : IsSumOf (outcomes_in said) sum
   pub fits : over no_totals (outcomes_in said) ≡ None
 
-pub counted-none : (dates : List Item) (all : List (List ℕ)) (sum : SummaryValue) → IsSumOf [] sum → CountedTo dates all all sum
-counted-none dates all sum is = record { seen = []; said = []; split = refl; reads = tt; is_sum = is; fits = refl }
+pub counted-none : (setup : LineSetup) (all : List (List ℕ)) (sum : SummaryValue) → IsSumOf [] sum → CountedTo setup all all sum
+counted-none setup all sum is = record { seen = []; said = []; split = refl; reads = tt; is_sum = is; fits = refl }
 
 -- one more line is read
-Say-push : (dates : List Item) (seen : List (List ℕ)) (said : List Line) (line : List ℕ) (s : Line) → Say dates seen said → IsLineOf dates line s
-    → Say dates (seen ++ line ∷ []) (said ++ s ∷ [])
-Say-push dates [] [] line s h one = (one, tt)
-Say-push dates [] (x ∷ said) line s h one = absurd h
-Say-push dates (l ∷ seen) [] line s h one = absurd h
-Say-push dates (l ∷ seen) (x ∷ said) line s h one = (h.0, Say-push dates seen said line s h.1 one)
+Say-push : (setup : LineSetup) (seen : List (List ℕ)) (said : List Line) (line : List ℕ) (s : Line) → Say setup seen said → IsLineOf setup line s
+    → Say setup (seen ++ line ∷ []) (said ++ s ∷ [])
+Say-push setup [] [] line s h one = (one, tt)
+Say-push setup [] (x ∷ said) line s h one = absurd h
+Say-push setup (l ∷ seen) [] line s h one = absurd h
+Say-push setup (l ∷ seen) (x ∷ said) line s h one = (h.0, Say-push setup seen said line s h.1 one)
 
 -- the totals before a line
 over-line : (said : List Line) (s : Line) (sum : SummaryValue) → IsSumOf (outcomes_in said) sum → over no_totals (outcomes_in said) ≡ None
@@ -169,36 +173,36 @@ over-full (Good rec) t o p e h =
     ap (λ (q : Option (Counter × ℕ)). or_else q None) (ap (λ (x : Outcome). passes (totals_plus t (totals_of (x ∷ [])))) same ∙ h)
 
 -- one line more
-pub counted-line : (dates : List Item) (all rest next : List (List ℕ)) (line : List ℕ) (old new : SummaryValue) → CountedTo dates all rest old → rest ≡ line ∷ next
-    → CountsLine dates line old new → CountedTo dates all next new
-counted-line dates all rest next line old new before e one = record {
+pub counted-line : (setup : LineSetup) (all rest next : List (List ℕ)) (line : List ℕ) (old new : SummaryValue) → CountedTo setup all rest old → rest ≡ line ∷ next
+    → CountsLine setup line old new → CountedTo setup all next new
+counted-line setup all rest next line old new before e one = record {
   seen = before.seen ++ line ∷ [];
   said = before.said ++ one.said ∷ [];
   split = before.split ∙ ap (λ (x : List (List ℕ)). before.seen ++ x) e ∙ sym (append_assoc before.seen (line ∷ []) next);
-  reads = Say-push dates before.seen before.said line one.said before.reads one.says;
+  reads = Say-push setup before.seen before.said line one.said before.reads one.says;
   is_sum = subst (λ (os : List Outcome). IsSumOf os new) (sym (filter_map-append outcome_in before.said (one.said ∷ []))) (one.sum (outcomes_in before.said) before.is_sum);
   fits = over-line before.said one.said old before.is_sum before.fits ∙ over-one one.said old.totals one.fits;
 }
 
 -- a line that fills a counter
-pub fills-line : (log : List ℕ) (rest next : List (List ℕ)) (line : List ℕ) (old : SummaryValue) (which : Counter) (total : ℕ)
-    → CountedTo default_date (lines log true) rest old → rest ≡ line ∷ next → FillsAtLine default_date line old which total → FillsCounter log which total
-fills-line log rest next line old which total before e one = record {
+pub fills-line : (setup : LineSetup) (log : List ℕ) (rest next : List (List ℕ)) (line : List ℕ) (old : SummaryValue) (which : Counter) (total : ℕ)
+    → CountedTo setup (lines log true) rest old → rest ≡ line ∷ next → FillsAtLine setup line old which total → FillsCounter setup log which total
+fills-line setup log rest next line old which total before e one = record {
   front = before.seen ++ line ∷ [];
   back = next;
   split = before.split ∙ ap (λ (x : List (List ℕ)). before.seen ++ x) e ∙ sym (append_assoc before.seen (line ∷ []) next);
   said = before.said ++ one.said ∷ [];
-  reads = Say-push default_date before.seen before.said line one.said before.reads one.says;
+  reads = Say-push setup before.seen before.said line one.said before.reads one.says;
   full = over-line before.said one.said old before.is_sum before.fits ∙ over-full one.said old.totals one.outcome (which, total) one.is one.full;
 }
 
 -- all lines are counted
-pub counted-all : (log : List ℕ) (sum : SummaryValue) → CountedTo default_date (lines log true) [] sum → CountsLog log sum
-counted-all log sum before =
+pub counted-all : (setup : LineSetup) (log : List ℕ) (sum : SummaryValue) → CountedTo setup (lines log true) [] sum → CountsLog setup log sum
+counted-all setup log sum before =
     let whole : lines log true ≡ before.seen = before.split ∙ append-nil before.seen in
     record {
       said = before.said;
-      reads = subst (λ (x : List (List ℕ)). Say default_date x before.said) (sym whole) before.reads;
+      reads = subst (λ (x : List (List ℕ)). Say setup x before.said) (sym whole) before.reads;
       is_sum = before.is_sum;
       fits = before.fits;
     }

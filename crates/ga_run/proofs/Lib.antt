@@ -1,5 +1,6 @@
 pub mod CountSteps
 pub mod DaySteps
+pub mod FormatLemmas
 pub mod HostArrangement
 pub mod HostOrder
 pub mod HostSums
@@ -8,3 +9,4 @@ pub mod RowTexts
 pub mod Runs
 pub mod Takes
 pub mod TallySteps
+pub mod WordLemmas

@@ -5,10 +5,9 @@ use Rattle.ga_base.specs.declared.counts.Counter.{Counter}
 use Rattle.ga_base.specs.declared.counts.Totals.{Totals}
 use Rattle.ga_base.specs.declared.record.Line.{Line}
 use Rattle.ga_base.specs.declared.record.Line.TheVariants.{Skipped, Failed, Good}
-use Rattle.ga_dates.specs.Items.{default_date}
-use Rattle.ga_dates.specs.declared.item.Item.{Item}
 use Rattle.ga_line.specs.Lines.{lines}
 use Rattle.ga_line.specs.Records.{IsLineOf}
+use Rattle.ga_line.specs.declared.setup.LineSetup.{LineSetup}
 use Rattle.ga_panels.specs.Table.{table_keys}
 use Rattle.ga_panels.specs.Visitors.{visitor_in}
 use Rattle.ga_summary.specs.Limits.{over, passes}
@@ -17,12 +16,12 @@ use Rattle.ga_summary.specs.Outcomes as outcomes
 use Rattle.ga_summary.specs.Rows.{SummaryValue, totals_plus}
 use Rattle.ga_summary.specs.Sums.{IsSumOf}
 
--- each line says what stands at its place
-abbrev pub Say : List Item → List (List ℕ) → List Line → Type 0
-Say dates [] [] = Unit {0}
-Say dates [] (said ∷ more) = ⊥
-Say dates (line ∷ lines) [] = ⊥
-Say dates (line ∷ lines) (said ∷ more) = IsLineOf dates line said × Say dates lines more
+-- each line says what stands at its place, read with this setup
+abbrev pub Say : LineSetup → List (List ℕ) → List Line → Type 0
+Say setup [] [] = Unit {0}
+Say setup [] (said ∷ more) = ⊥
+Say setup (line ∷ lines) [] = ⊥
+Say setup (line ∷ lines) (said ∷ more) = IsLineOf setup line said × Say setup lines more
 
 -- a record counts under the keys that the panels' table gives it, for its visitor
 abbrev pub outcome_in : Line → Option Outcome
@@ -37,32 +36,32 @@ abbrev pub no_totals : Totals
 no_totals = record { lines = 0; failed = 0; excluded = 0; hits = 0; bytes = 0; micros = 0 }
 
 -- the summary is the sum of all the lines of a log, and no counter passes its limit on the way
-pub record CountsLog (log : List ℕ) (sum : SummaryValue) : Type 0 where
+pub record CountsLog (setup : LineSetup) (log : List ℕ) (sum : SummaryValue) : Type 0 where
   pub said : List Line
-  pub reads : Say default_date (lines log true) said
+  pub reads : Say setup (lines log true) said
   pub is_sum : IsSumOf (outcomes_in said) sum
   pub fits : over no_totals (outcomes_in said) ≡ None
 
 -- the lines of a log up to some line fill a counter, which would have this value
-pub record FillsCounter (log : List ℕ) (which : Counter) (total : ℕ) : Type 0 where
+pub record FillsCounter (setup : LineSetup) (log : List ℕ) (which : Counter) (total : ℕ) : Type 0 where
   pub front : List (List ℕ)
   pub back : List (List ℕ)
   pub split : lines log true ≡ front ++ back
   pub said : List Line
-  pub reads : Say default_date front said
+  pub reads : Say setup front said
   pub full : over no_totals (outcomes_in said) ≡ Some (which, total)
 
 -- one line more was counted
-pub record CountsLine (dates : List Item) (line : List ℕ) (old new : SummaryValue) : Type 0 where
+pub record CountsLine (setup : LineSetup) (line : List ℕ) (old new : SummaryValue) : Type 0 where
   pub said : Line
-  pub says : IsLineOf dates line said
+  pub says : IsLineOf setup line said
   pub sum : (before : List Outcome) → IsSumOf before old → IsSumOf (before ++ outcomes_in (said ∷ [])) new
   pub fits : IfSome (outcome_in said) (λ outcome. passes (totals_plus old.totals (totals_of (outcome ∷ []))) ≡ None)
 
 -- one line more would fill a counter
-pub record FillsAtLine (dates : List Item) (line : List ℕ) (old : SummaryValue) (which : Counter) (total : ℕ) : Type 0 where
+pub record FillsAtLine (setup : LineSetup) (line : List ℕ) (old : SummaryValue) (which : Counter) (total : ℕ) : Type 0 where
   pub said : Line
-  pub says : IsLineOf dates line said
+  pub says : IsLineOf setup line said
   pub outcome : Outcome
   pub is : outcome_in said ≡ Some outcome
   pub full : passes (totals_plus old.totals (totals_of (outcome ∷ []))) ≡ Some (which, total)

@@ -1,4 +1,5 @@
 pub mod Counting
+pub mod Formats
 pub mod Hosts
 pub mod Printing
 pub mod Reading
@@ -6,3 +7,4 @@ pub mod Report
 pub mod Run
 pub mod Statuses
 pub mod Tallies
+pub mod Words

@@ -18,14 +18,13 @@ use ga_summary::{MergeFault, Summary};
 use std::alloc::Global;
 
 /// The sum of all lines of a log.
-pub fn count_log(alloc: Global, log: &[u8]) -> Result<Summary, MergeFault>
-    ensures ok { IfOk result (CountsLog log.now) }
-    ensures full { (which : Counter) (total : ℕ) → IsErrOf result (MergeFault.CounterFull which total) → FillsCounter log.now which total }
+pub fn count_log(alloc: Global, setup: &LineSetup, log: &[u8]) -> Result<Summary, MergeFault>
+    ensures ok { IfOk result (CountsLog setup.now log.now) }
+    ensures full { (which : Counter) (total : ℕ) → IsErrOf result (MergeFault.CounterFull which total) → FillsCounter setup.now log.now which total }
 {
-    let setup = LineSetup::common(alloc)?;
     let mut summary = Summary::empty(alloc);
     for line in Lines::of(log, true) {
-        count_line(alloc, &setup, line, &mut summary)?;
+        count_line(alloc, setup, line, &mut summary)?;
     }
     Ok(summary)
 }
@@ -37,8 +36,8 @@ fn count_line(
     line: &[u8],
     summary: &mut Summary,
 ) -> Result<(), MergeFault>
-    ensures ok { OnOk result (CountsLine setup.now.date line.now summary.old summary.new) }
-    ensures full { (which : Counter) (total : ℕ) → IsErrOf result (MergeFault.CounterFull which total) → FillsAtLine setup.now.date line.now summary.old which total }
+    ensures ok { OnOk result (CountsLine setup.now line.now summary.old summary.new) }
+    ensures full { (which : Counter) (total : ℕ) → IsErrOf result (MergeFault.CounterFull which total) → FillsAtLine setup.now line.now summary.old which total }
 {
     match read_line(alloc, setup, line)? {
         Line::Skipped => Ok(()),

@@ -1,11 +1,12 @@
 ghost use Rattle.std.specs.Prelude.{◌≡◌, ◌≤◌, map};
 ghost use Rattle.ga_ports.specs.declared.outs.To.TheVariants.{Stderr};
 ghost use Rattle.ga_run.specs.Printing.{ChangesOnly, TakesOrStops};
-ghost use Rattle.ga_run.specs.Statuses.{counter_name, fault_line, joined, target_name};
+ghost use Rattle.ga_format.specs.FormatOf.{place_of};
+ghost use Rattle.ga_run.specs.Statuses.{counter_name, fault_line, format_fault, format_name, joined, target_name};
 
 use crate::printing::print;
-use crate::{Input, Status};
-use ga_base::Counter;
+use crate::{Status, Which};
+use ga_base::{Counter, FormatFault, Needed};
 use ga_ports::{Outs, To};
 use itoa::Buffer;
 
@@ -20,6 +21,17 @@ pub fn tell<O: Outs>(outs: &mut O, name: &[u8], status: &Status)
     match status {
         Status::Done => say(outs, &[]),
         Status::Unbuilt => say(outs, &[b"goaccess: not built\n"]),
+        Status::BadFormat { which, fault } => {
+            let format = format_name(*which);
+            let text = format_fault(*fault);
+            match place_of(*fault) {
+                None => say(outs, &[b"goaccess: ", format, text]),
+                Some(at) => {
+                    let at = digits.format(at).as_bytes();
+                    say(outs, &[b"goaccess: ", format, b", byte ", at, text])
+                }
+            }
+        }
         Status::FileFault { .. } => say(outs, &[b"goaccess: ", name, b": read failed\n"]),
         Status::FileShort { at, .. } => {
             let at = digits.format(*at).as_bytes();
@@ -66,6 +78,50 @@ fn counter_name(which: Counter) -> &'static [u8]
         Counter::Bytes => b"bytes ",
         Counter::Micros => b"micros ",
         Counter::Generations => b"generations ",
+    }
+}
+
+fn format_name(which: Which) -> &'static [u8]
+    ensures { result.now ≡ format_name which }
+{
+    match which {
+        Which::Log => b"log format",
+        Which::Date => b"date format",
+        Which::Time => b"time format",
+    }
+}
+
+/// The byte of a format's text at which a fault stands, if it has a place.
+fn place_of(fault: FormatFault) -> Option<u64>
+    ensures { result ≡ place_of fault }
+{
+    match fault {
+        FormatFault::UnknownSpecifier { at }
+        | FormatFault::Repeated { at }
+        | FormatFault::NoDelimiter { at }
+        | FormatFault::BadDirective { at } => Some(at),
+        FormatFault::Missing { .. } | FormatFault::NoMemory => None,
+    }
+}
+
+fn format_fault(fault: FormatFault) -> &'static [u8]
+    ensures { result.now ≡ format_fault fault }
+{
+    match fault {
+        FormatFault::UnknownSpecifier { .. } => b": unknown specifier\n",
+        FormatFault::Repeated { .. } => b": repeated\n",
+        FormatFault::NoDelimiter { .. } => b": no delimiter\n",
+        FormatFault::Missing {
+            field: Needed::Host,
+        } => b": no host\n",
+        FormatFault::Missing {
+            field: Needed::Date,
+        } => b": no date\n",
+        FormatFault::Missing {
+            field: Needed::Request,
+        } => b": no request\n",
+        FormatFault::BadDirective { .. } => b": bad directive\n",
+        FormatFault::NoMemory => b": no memory\n",
     }
 }
 

@@ -1,4 +1,4 @@
-//! One run of goaccess: from the words of the command line to the report.
+//! One run of goaccess: from the words of the command line, with the formats that they say, to the report.
 //!
 //! Start with `goaccess_run`, the call that the program makes. What it does is one record, `IsRun` of `specs/Run.antt`,
 //! over plain views of the files and the targets.
@@ -7,6 +7,7 @@
 mod counting;
 mod days;
 mod faults;
+mod formats;
 mod hosts;
 pub mod laws;
 mod panel_row;
@@ -21,4 +22,4 @@ mod words;
 
 pub use printing::print;
 pub use run::goaccess_run;
-pub use status::{Input, Status};
+pub use status::{Input, Status, Which};

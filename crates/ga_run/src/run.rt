@@ -3,26 +3,29 @@ ghost use Rattle.ga_base.specs.declared.counts.Counter.{Counter};
 ghost use Rattle.ga_run.specs.Counting.{FillsCounter};
 ghost use Rattle.ga_run.specs.Hosts.{AreHostRows, day_rows};
 ghost use Rattle.ga_run.specs.Report.{text_of};
-ghost use Rattle.ga_run.specs.Run.{IsRun, EndsLog, IsReportOf};
+ghost use Rattle.ga_run.specs.Run.{IsRun, EndsLog, EndsRun, IsReportOf};
+ghost use Rattle.ga_run.specs.Words.{said_by};
 
 use crate::counting::count_log;
 use crate::days::day_rows;
 use crate::faults::tell;
+use crate::formats::{SetupFault, setup_of};
 use crate::hosts::host_rows;
 use crate::printing::print;
 use crate::reading::{LogFault, read_log};
 use crate::text::report_text;
-use crate::words::log_name;
+use crate::words::{RunWords, run_words};
 use crate::{Input, Status};
 use ga_base::{NoMemory, Text};
+use ga_line::LineSetup;
 use ga_ports::{Files, Outs, To};
 use ga_summary::{MergeFault, Summary};
 use std::alloc::Global;
 
 /// Runs goaccess over the words of a command line, without the program's name.
 ///
-/// The words are `-o`, `csv` and the name of a log in the common format; the report goes to standard output. With
-/// any status but `Done` a fault line goes to standard error.
+/// The words are `--log-format=F`, perhaps `--date-format=D`, perhaps `--time-format=T`, `-o`, `csv` and the name of a log,
+/// in this order; the report goes to standard output. With any status but `Done` a fault line goes to standard error.
 pub fn goaccess_run<F: Files, O: Outs>(
     alloc: Global,
     words: &[Text],
@@ -31,22 +34,45 @@ pub fn goaccess_run<F: Files, O: Outs>(
 ) -> Status
     ensures { IsRun words.now (F.view files.old) (F.view files.new) (O.view outs.old) (O.view outs.new) result }
 {
-    match log_name(words) {
+    match run_words(words) {
         None => {
             tell(outs, b"", &Status::Unbuilt);
             Status::Unbuilt
         }
-        Some(name) => {
-            let status = run_log(alloc, name, files, outs);
-            tell(outs, name.bytes(), &status);
+        Some(said) => {
+            let status = run_said(alloc, &said, files, outs);
+            tell(outs, said.name.bytes(), &status);
             status
         }
     }
 }
 
+/// Runs as the words say: their formats first, then the log.
+fn run_said<F: Files, O: Outs>(
+    alloc: Global,
+    said: &RunWords,
+    files: &mut F,
+    outs: &mut O,
+) -> Status
+    ensures { EndsRun (said_by said.now) (F.view files.old) (F.view files.new) (O.view outs.old) (O.view outs.new) result }
+{
+    match setup_of(alloc, said) {
+        Ok(setup) => run_log(alloc, &setup, said.name, files, outs),
+        Err(SetupFault::Forwarded) => Status::Unbuilt,
+        Err(SetupFault::Refused { which, fault }) => Status::BadFormat { which, fault },
+        Err(SetupFault::NoMemory) => Status::NoMemory,
+    }
+}
+
 /// Reads a log, and prints its report.
-fn run_log<F: Files, O: Outs>(alloc: Global, name: &Text, files: &mut F, outs: &mut O) -> Status
-    ensures { EndsLog name.now (F.view files.old) (F.view files.new) (O.view outs.old) (O.view outs.new) result }
+fn run_log<F: Files, O: Outs>(
+    alloc: Global,
+    setup: &LineSetup,
+    name: &Text,
+    files: &mut F,
+    outs: &mut O,
+) -> Status
+    ensures { EndsLog setup.now name.now (F.view files.old) (F.view files.new) (O.view outs.old) (O.view outs.new) result }
 {
     let log = match read_log(alloc, files, name) {
         Ok(log) => log,
@@ -59,7 +85,7 @@ fn run_log<F: Files, O: Outs>(alloc: Global, name: &Text, files: &mut F, outs: &
         },
         Err(LogFault::NoMemory) => return Status::NoMemory,
     };
-    let text = match log_report(alloc, &log) {
+    let text = match log_report(alloc, setup, &log) {
         Ok(text) => text,
         Err(MergeFault::CounterFull { which, total }) => return Status::CounterFull {
             which,
@@ -74,11 +100,11 @@ fn run_log<F: Files, O: Outs>(alloc: Global, name: &Text, files: &mut F, outs: &
 }
 
 /// The text of the report on a log.
-fn log_report(alloc: Global, log: &[u8]) -> Result<Vec<u8>, MergeFault>
-    ensures ok { IfOk result (λ text. IsReportOf log.now text.items) }
-    ensures full { (which : Counter) (total : ℕ) → IsErrOf result (MergeFault.CounterFull which total) → FillsCounter log.now which total }
+fn log_report(alloc: Global, setup: &LineSetup, log: &[u8]) -> Result<Vec<u8>, MergeFault>
+    ensures ok { IfOk result (λ text. IsReportOf setup.now log.now text.items) }
+    ensures full { (which : Counter) (total : ℕ) → IsErrOf result (MergeFault.CounterFull which total) → FillsCounter setup.now log.now which total }
 {
-    let summary = count_log(alloc, log)?;
+    let summary = count_log(alloc, setup, log)?;
     let text = summary_text(alloc, &summary)?;
     Ok(text)
 }

@@ -1,7 +1,7 @@
 ghost use Rattle.std.specs.Prelude.{◌≡◌};
 ghost use Rattle.ga_run.specs.Statuses.{code_of};
 
-use ga_base::Counter;
+use ga_base::{Counter, FormatFault};
 use ga_ports::To;
 
 /// A file that a run reads.
@@ -11,13 +11,26 @@ pub enum Input {
     Log(u64),
 }
 
+/// One of the formats that the words say.
+#[derive(Clone, Copy, Debug, PartialEq, Eq)]
+pub enum Which {
+    /// That of lines.
+    Log,
+    /// That of `%d`.
+    Date,
+    /// That of `%t`.
+    Time,
+}
+
 /// How a run ended.
 #[derive(Clone, Copy, Debug, PartialEq, Eq)]
 pub enum Status {
     /// The log was read to its size and all bytes of the report were taken.
     Done,
-    /// The words are of no form that is built.
+    /// The words are of no form that is built, or their log format has a forwarded host.
     Unbuilt,
+    /// That format of the words is refused, and those before it are good. The fault is never want of memory.
+    BadFormat { which: Which, fault: FormatFault },
     /// A call on this file failed.
     FileFault { file: Input },
     /// This file gave no byte at a place below its size.
@@ -37,7 +50,7 @@ impl Status {
     {
         match self {
             Status::Done => 0,
-            Status::Unbuilt => 1,
+            Status::Unbuilt | Status::BadFormat { .. } => 1,
             Status::FileFault { .. } | Status::FileShort { .. } => 2,
             Status::OutFault { .. } => 4,
             Status::CounterFull { .. } => 5,

@@ -1,10 +1,11 @@
+use Rattle.std.proofs.Common.{sym, ◌∙◌}
 use Rattle.ga_run.proofs.faults.tell.Goals as goal
 
 pub returns-in-FileFault-clause-line : goal.returns-in-FileFault-clause-line
 returns-in-FileFault-clause-line g c = rw c.in-FileFault.is c.say-in-FileFault.ensures.line
 
 pub returns-in-FileShort-clause-line : goal.returns-in-FileShort-clause-line
-returns-in-FileShort-clause-line g c = rw (c.in-FileShort.is, ← c.format.ensures.text, ← c.as_bytes-at.ensures.value) c.say-in-FileShort.ensures.line
+returns-in-FileShort-clause-line g c = rw (c.in-FileShort.is, ← c.format-in-FileShort.ensures.text, ← c.as_bytes-at-in-FileShort.ensures.value) c.say-in-FileShort.ensures.line
 
 pub returns-in-OutFault-clause-line : goal.returns-in-OutFault-clause-line
 returns-in-OutFault-clause-line g c =
@@ -16,3 +17,13 @@ returns-in-NoMemory-clause-line g c = rw c.in-NoMemory.is c.say-in-NoMemory.ensu
 pub returns-in-CounterFull-clause-line : goal.returns-in-CounterFull-clause-line
 returns-in-CounterFull-clause-line g c =
     rw (c.in-CounterFull.is, ← c.format-in-CounterFull.ensures.text, ← c.as_bytes-total.ensures.value, ← c.counter_name-counter.ensures) c.say-in-CounterFull.ensures.line
+
+pub returns-in-None-clause-line : goal.returns-in-None-clause-line
+returns-in-None-clause-line g c =
+    let place = sym c.place_of.ensures ∙ c.in-None.is in
+    rw (c.in-BadFormat.is, place, ← c.format_name-format.ensures, ← c.format_fault-text.ensures) c.say-in-None.ensures.line
+
+pub returns-in-Some-clause-line : goal.returns-in-Some-clause-line
+returns-in-Some-clause-line g c =
+    let place = sym c.place_of.ensures ∙ c.in-Some.is in
+    rw (c.in-BadFormat.is, place, ← c.format_name-format.ensures, ← c.format_fault-text.ensures, ← c.format.ensures.text, ← c.as_bytes-at.ensures.value) c.say-in-Some.ensures.line
