@@ -136,6 +136,13 @@ one-of-words : (words : List (List ℕ)) (said other : Said) (a b : Result LineS
 one-of-words words said other a b h k come comes =
     one-outcome other a b (subst (λ (s : Said). ComeTo s a) (one-said words said other h k) come) comes
 
+-- words say one run, and its formats one setup
+pub one-setup : (words : List (List ℕ)) (said other : Said) (a b : LineSetup) → SaysRun words said → SaysRun words other → IsSetupOf said a → IsSetupOf other b → (said ≡ other) × (a ≡ b)
+one-setup words said other a b h k is of =
+    let e = one-of-words words said other (Ok a) (Ok b) h k is of in
+    let same : a ≡ b = cc in
+    (one-said words said other h k, same)
+
 -- the words say a run, whose formats come to this
 module _ (words : List (List ℕ)) (said : Said) (named : SaysRun words said) (answer : Result LineSetup SetupFault) (come : ComeTo said answer) where
   when-unbuilt : AreUnbuilt words → answer ≡ Err Forwarded

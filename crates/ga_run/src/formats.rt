@@ -69,7 +69,10 @@ fn log_format(alloc: Global, word: &str) -> Result<Format, SetupFault>
 fn has_forwarded(format: &Format) -> bool
     ensures { result ≡ list_any is_forwarded format.now }
 {
-    format.items().iter().any(|item| matches!(item, FormatItem::Forwarded(_)))
+    format
+        .items()
+        .iter()
+        .any(|item| matches!(item, FormatItem::Forwarded(_)))
 }
 
 fn date_format(alloc: Global, text: &str) -> Result<DateFormat, SetupFault>

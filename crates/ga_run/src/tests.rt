@@ -1,5 +1,5 @@
-use crate::{Input, Status, goaccess_run};
-use ga_base::{Counter, NoMemory, Text, Texts};
+use crate::{Input, Status, Which, goaccess_run};
+use ga_base::{Counter, FormatFault, Needed, NoMemory, Text, Texts};
 use ga_ports::{Failed, FileCounts, Files, MemFiles, MemOuts, To, is_short};
 
 mod sample;
@@ -53,18 +53,18 @@ struct Case {
 /// A line that ends in CR LF, a comment, an empty line, lines that fail, a size with more behind it, a visit that
 /// isn't counted, the greatest size and one more, a host that CSV quotes, and a last line with no end.
 const ODD_LINES: &str = "\
-a - - [01/Jan/2024:t z] \"r\" 200 7\r
+a - - [01/Jan/2024:00:00:00 z] \"r\" 200 7\r
 # note
 
 nothing fits
-b - - [02/Jan/2024:t z] \"r\" 200 5 more
-b - - [02/Jan/2024:t z] \"\" 200 5
- - - [01/Jan/2024:t z] \"r\" 200 5
-c,d - - [01/Jan/2024:t z] \"r\" 404 1000000000000000000
-c,d - - [01/Jan/2024:t z] \"r\" 200 1000000000000000001
-b - - [31/Feb/2024:t z] \"r\" 200 5
-b - - [01/Jan/2024:t z] \"r\" 99 5
-a - - [02/Jan/2024:t z] \"r\\\"s\" 200 3";
+b - - [02/Jan/2024:00:00:00 z] \"r\" 200 5 more
+b - - [02/Jan/2024:00:00:00 z] \"\" 200 5
+ - - [01/Jan/2024:00:00:00 z] \"r\" 200 5
+c,d - - [01/Jan/2024:00:00:00 z] \"r\" 404 1000000000000000000
+c,d - - [01/Jan/2024:00:00:00 z] \"r\" 200 1000000000000000001
+b - - [31/Feb/2024:00:00:00 z] \"r\" 200 5
+b - - [01/Jan/2024:00:00:00 z] \"r\" 99 5
+a - - [02/Jan/2024:00:00:00 z] \"r\\\"s\" 200 3";
 
 const ODD_HOSTS: &str = "\
 id,parent_id,panel,hits,hits%,visitors,visitors%,bytes,bytes%,avgts,cumts,maxts,method,protocol,data
@@ -75,7 +75,36 @@ id,parent_id,panel,hits,hits%,visitors,visitors%,bytes,bytes%,avgts,cumts,maxts,
 2,,hosts,1,,0,,1000000000000000000,,,,,,,\"c,d\"
 ";
 
-const LOG_WORDS: &[&str] = &["-o", "csv", "a.log"];
+/// Two clients, and dates as `%F`.
+const DASHED_LINES: &str = "\
+a - - [2024-01-01:00:00:00 z] \"r\" 200 7
+b - - [01/Jan/2024:00:00:00 z] \"r\" 200 7
+";
+
+const ONE_DASHED: &str = "\
+id,parent_id,panel,hits,hits%,visitors,visitors%,bytes,bytes%,avgts,cumts,maxts,method,protocol,data
+0,,visitors,1,,1,,7,,,,,,,20240101
+0,,hosts,1,,1,,7,,,,,,,a
+";
+
+const COMBINED_LINES: &str = "\
+192.0.2.1 - - [01/Jan/2024:00:00:00 +0000] \"GET /a HTTP/1.1\" 200 - \"-\" \"Mozilla/5.0\"
+192.0.2.1 - - [01/Jan/2024:00:00:09 +0000] \"GET /b HTTP/1.1\" 200 - \"https://example.org/\" \"Mozilla/5.0\"
+198.51.100.4 - - [02/Jan/2024:00:00:00 +0000] \"GET /c HTTP/1.1\" 200 - \"-\" \"curl/8.0\"
+";
+
+const COMBINED_REPORT: &str = "\
+id,parent_id,panel,hits,hits%,visitors,visitors%,bytes,bytes%,avgts,cumts,maxts,method,protocol,data
+0,,visitors,1,,1,,0,,,,,,,20240102
+1,,visitors,2,,1,,0,,,,,,,20240101
+0,,hosts,2,,1,,0,,,,,,,192.0.2.1
+1,,hosts,1,,1,,0,,,,,,,198.51.100.4
+";
+
+/// The common format, which most logs here have.
+const COMMON: &str = "--log-format=COMMON";
+
+const LOG_WORDS: &[&str] = &[COMMON, "-o", "csv", "a.log"];
 
 const READ_FAULT: Status = Status::FileFault {
     file: Input::Log(0),
@@ -164,6 +193,33 @@ fn runs_end_as_their_causes_say(rt: HostRuntime) -> Result<(), Fail> {
             ..PLAIN
         },
         Case {
+            words: &[
+                "--log-format=%h %^[%d:%t %^] \"%r\" %s %b",
+                "--date-format=%d/%b/%Y",
+                "--time-format=%T",
+                "-o",
+                "csv",
+                "a.log",
+            ],
+            ..PLAIN
+        },
+        Case {
+            words: &[COMMON, "--time-format=%T", "-o", "csv", "a.log"],
+            ..PLAIN
+        },
+        Case {
+            words: &[COMMON, "--date-format=%F", "-o", "csv", "a.log"],
+            log: DASHED_LINES,
+            stdout: ONE_DASHED,
+            ..PLAIN
+        },
+        Case {
+            words: &["--log-format=COMBINED", "-o", "csv", "a.log"],
+            log: COMBINED_LINES,
+            stdout: COMBINED_REPORT,
+            ..PLAIN
+        },
+        Case {
             rooms: (Some(20), None),
             status: Status::OutFault {
                 to: To::Stdout,
@@ -174,7 +230,7 @@ fn runs_end_as_their_causes_say(rt: HostRuntime) -> Result<(), Fail> {
             ..PLAIN
         },
         Case {
-            words: &["-o", "csv", "b.log"],
+            words: &[COMMON, "-o", "csv", "b.log"],
             status: READ_FAULT,
             stdout: "",
             stderr: "goaccess: b.log: read failed\n",
@@ -188,7 +244,7 @@ fn runs_end_as_their_causes_say(rt: HostRuntime) -> Result<(), Fail> {
             ..PLAIN
         },
         Case {
-            words: &["-o", "json", "a.log"],
+            words: &[COMMON, "-o", "json", "a.log"],
             rooms: (None, Some(12)),
             status: Status::Unbuilt,
             stdout: "",
@@ -198,6 +254,192 @@ fn runs_end_as_their_causes_say(rt: HostRuntime) -> Result<(), Fail> {
     ];
     for case in &cases {
         check(&rt, case)?;
+    }
+    Ok(())
+}
+
+/// Runs over no file, so that a file which is asked for is a fault.
+fn check_refusal<R: Abort + AllocGlobal>(
+    rt: &R,
+    words: &Texts,
+    status: Status,
+    line: &str,
+) -> Result<(), Fail> {
+    let alloc = rt.alloc();
+    let mut files = MemFiles::new(alloc);
+    let mut outs = MemOuts::new(alloc);
+    let ended = goaccess_run(alloc, words.items(), &mut files, &mut outs);
+    assert_eq!(rt; ended, status, "{line}");
+    assert_eq!(rt; ended.code(), 1);
+    assert_eq!(rt; outs.taken(To::Stdout), b"".as_slice());
+    assert_eq!(rt; outs.taken(To::Stderr), line.as_bytes());
+    Ok(())
+}
+
+#[test]
+fn words_of_another_form_are_unbuilt(rt: HostRuntime) -> Result<(), Fail> {
+    let alloc = rt.alloc();
+    let cases: [&[&str]; 19] = [
+        &[],
+        &[COMMON],
+        &["-o", "csv", "a.log"],
+        &["--log-format", "COMMON", "-o", "csv", "a.log"],
+        &["--LOG-FORMAT=COMMON", "-o", "csv", "a.log"],
+        &[COMMON, COMMON, "-o", "csv", "a.log"],
+        &[
+            COMMON,
+            "--date-format=%F",
+            "--date-format=%F",
+            "-o",
+            "csv",
+            "a.log",
+        ],
+        &[
+            COMMON,
+            "--time-format=%T",
+            "--time-format=%T",
+            "-o",
+            "csv",
+            "a.log",
+        ],
+        &[
+            COMMON,
+            "--time-format=%T",
+            "--date-format=%F",
+            "-o",
+            "csv",
+            "a.log",
+        ],
+        &["--date-format=%F", COMMON, "-o", "csv", "a.log"],
+        &[COMMON, "--date-format", "%F", "-o", "csv", "a.log"],
+        &[COMMON, "-o", "csv", "--date-format=%F", "a.log"],
+        &["-o", "csv", "a.log", COMMON],
+        &[COMMON, "--output", "csv", "a.log"],
+        &[COMMON, "-o", "csv"],
+        &[COMMON, "-o", "csv", ""],
+        &[COMMON, "-o", "csv", "-"],
+        &[COMMON, "-o", "csv", "a.log", "b.log"],
+        // a forwarded host, even where the date format is bad
+        &[
+            "--log-format=~h{, } [%d] \"%r\"",
+            "--date-format=",
+            "-o",
+            "csv",
+            "a.log",
+        ],
+    ];
+    for words in cases {
+        check_refusal(
+            &rt,
+            &words_of(alloc, words)?,
+            Status::Unbuilt,
+            "goaccess: not built\n",
+        )?;
+    }
+    Ok(())
+}
+
+/// The formats of a run, the fault of the first bad one, and its line.
+type BadFormat = (&'static [&'static str], Which, FormatFault, &'static str);
+
+#[test]
+fn bad_formats_end_a_run_before_it_asks_for_a_file(rt: HostRuntime) -> Result<(), Fail> {
+    let alloc = rt.alloc();
+    let cases: [BadFormat; 13] = [
+        (
+            &["--log-format=%h%d \"%r\""],
+            Which::Log,
+            FormatFault::NoDelimiter { at: 0 },
+            "goaccess: log format, byte 0: no delimiter\n",
+        ),
+        (
+            &["--log-format=%h [%d] \"%r\" %z"],
+            Which::Log,
+            FormatFault::UnknownSpecifier { at: 13 },
+            "goaccess: log format, byte 13: unknown specifier\n",
+        ),
+        (
+            &["--log-format=%h %h [%d] \"%r\""],
+            Which::Log,
+            FormatFault::Repeated { at: 3 },
+            "goaccess: log format, byte 3: repeated\n",
+        ),
+        (
+            &["--log-format="],
+            Which::Log,
+            FormatFault::Missing {
+                field: Needed::Host,
+            },
+            "goaccess: log format: no host\n",
+        ),
+        (
+            &["--log-format=%h \"%r\""],
+            Which::Log,
+            FormatFault::Missing {
+                field: Needed::Date,
+            },
+            "goaccess: log format: no date\n",
+        ),
+        (
+            &["--log-format=%h %d"],
+            Which::Log,
+            FormatFault::Missing {
+                field: Needed::Request,
+            },
+            "goaccess: log format: no request\n",
+        ),
+        // a format that isn't named is a text
+        (
+            &["--log-format=common", "--date-format=", "--time-format="],
+            Which::Log,
+            FormatFault::Missing {
+                field: Needed::Host,
+            },
+            "goaccess: log format: no host\n",
+        ),
+        (
+            &[COMMON, "--date-format=%d/%Q/%Y"],
+            Which::Date,
+            FormatFault::BadDirective { at: 3 },
+            "goaccess: date format, byte 3: bad directive\n",
+        ),
+        (
+            &[COMMON, "--date-format=%d/%m", "--time-format=%Q"],
+            Which::Date,
+            FormatFault::BadDirective { at: 5 },
+            "goaccess: date format, byte 5: bad directive\n",
+        ),
+        (
+            &[COMMON, "--date-format="],
+            Which::Date,
+            FormatFault::BadDirective { at: 0 },
+            "goaccess: date format, byte 0: bad directive\n",
+        ),
+        (
+            &[COMMON, "--date-format=%F", "--time-format=%H:%M:%H"],
+            Which::Time,
+            FormatFault::BadDirective { at: 6 },
+            "goaccess: time format, byte 6: bad directive\n",
+        ),
+        (
+            &[COMMON, "--time-format=%d"],
+            Which::Time,
+            FormatFault::BadDirective { at: 0 },
+            "goaccess: time format, byte 0: bad directive\n",
+        ),
+        (
+            &[COMMON, "--time-format="],
+            Which::Time,
+            FormatFault::BadDirective { at: 0 },
+            "goaccess: time format, byte 0: bad directive\n",
+        ),
+    ];
+    for (formats, which, fault, line) in cases {
+        let mut words = words_of(alloc, formats)?;
+        for word in ["-o", "csv", "a.log"] {
+            words.push(Text::of(alloc, word)?)?;
+        }
+        check_refusal(&rt, &words, Status::BadFormat { which, fault }, line)?;
     }
     Ok(())
 }
