@@ -19,21 +19,27 @@ const HELP: &[u8] = b"\
 goaccess: visitors of each day, and hosts, in a web log, as CSV
 
 Usage:
-  goaccess -o csv LOG
+  goaccess --log-format=F [--date-format=D] [--time-format=T] -o csv LOG
   goaccess --help | --version
 
-  -o csv      writes the report as CSV to standard output; no default
-  LOG         a log in the common format, '%h %^[%d:%t %^] \"%r\" %s %b';
-              its name isn't empty and doesn't begin with a dash
-  --help      shows this text
-  --version   shows the version
+  --log-format=F    how a line is written: COMMON, COMBINED, VCOMMON or
+                    VCOMBINED, or a text as '%h %^[%d:%t %^] \"%r\" %s %b';
+                    no default, and ~h{C} isn't built
+  --date-format=D   how %d is written; '%d/%b/%Y' where it is left out
+  --time-format=T   how %t is written; '%H:%M:%S' where it is left out
+  -o csv            writes the report as CSV to standard output; no default
+  LOG               a log; its name isn't empty and doesn't begin with a dash
+  --help            shows this text
+  --version         shows the version
 
-Exit status: 0 done, 1 words of another form, 2 the log can't be read,
-4 the report can't be written, 5 a counter is full, 7 no memory. With any
-but 0 one line on standard error says why.
+The words stand in this order.
+
+Exit status: 0 done, 1 words of another form or a bad format, 2 the log
+can't be read, 4 the report can't be written, 5 a counter is full, 7 no
+memory. With any but 0 one line on standard error says why.
 
 Example:
-  goaccess -o csv access.log
+  goaccess --log-format=COMBINED -o csv access.log
 ";
 
 /// The version, as `--version` shows it.
