@@ -16,11 +16,10 @@ use Rattle.ga_format.specs.FormatOf.{FormatOf}
 use Rattle.ga_format.specs.Named.{StandsFor}
 use Rattle.ga_format.proofs.Answering.{one_answer}
 use Rattle.ga_line.specs.declared.setup.LineSetup.{LineSetup}
-use Rattle.ga_run.specs.Formats.{date_text, time_text, LogMeans, PartMeans, is_forwarded, IsSetupOf, IsRefused, IsSetupFault, IsLogFault, IsRefusal}
+use Rattle.ga_run.specs.Formats.{date_text, time_text, LogMeans, PartMeans, is_forwarded, IsSetupOf, IsSetupFault}
 use Rattle.ga_run.specs.Words.{Said}
 use Rattle.ga_run.specs.declared.formats.SetupFault.{SetupFault}
 use Rattle.ga_run.specs.declared.formats.SetupFault.TheVariants.{Forwarded, Refused, NoMemory}
-use Rattle.ga_run.specs.declared.status.Which.{Which}
 use Rattle.ga_run.specs.declared.status.Which.TheVariants.{Log, Date, Time}
 
 same-or-not : (x y : List ℕ) → (x ≡ y) ⊎ (x ≢ y)

@@ -1,5 +1,5 @@
 -- Words say one run at the most, and what is read of them from the front is that run.
-use Rattle.std.proofs.Common.{◌≡◌, ◌≢◌, ℕ, List, [], ◌∷◌, ◌++◌, refl, ap, sym, ◌∙◌, subst, Option, Some, None, codes, arith}
+use Rattle.std.proofs.Common.{◌≡◌, ◌≢◌, ℕ, List, ◌∷◌, ◌++◌, refl, ap, sym, ◌∙◌, Option, Some, None, codes, arith}
 use Rattle.std.proofs.lemmas.List.{append_cancel_left}
 use Rattle.ga_run.specs.Words.{log_option, date_option, time_option, Said, optional, log_words, SaysRun, NoRun, TakesOption, NameLog, NameNone}
 

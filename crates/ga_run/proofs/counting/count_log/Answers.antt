@@ -1,4 +1,4 @@
-use Rattle.std.proofs.Common.{◌≡◌, ◌∙◌, sym, subst, true, [], ap, Err}
+use Rattle.std.proofs.Common.{◌≡◌, ◌∙◌, sym, subst, true, ap, Err}
 use Rattle.std.proofs.lemmas.Result.{err_from_is_err_and}
 use Rattle.ga_line.specs.Lines.{lines}
 use Rattle.ga_summary.specs.declared.fault.MergeFault.TheVariants.{CounterFull}
