@@ -87,18 +87,19 @@ id,parent_id,panel,hits,hits%,visitors,visitors%,bytes,bytes%,avgts,cumts,maxts,
 0,,hosts,1,,1,,7,,,,,,,a
 ";
 
+/// A client with two agents on one day, which are two visitors, and another client.
 const COMBINED_LINES: &str = "\
-192.0.2.1 - - [01/Jan/2024:00:00:00 +0000] \"GET /a HTTP/1.1\" 200 - \"-\" \"Mozilla/5.0\"
-192.0.2.1 - - [01/Jan/2024:00:00:09 +0000] \"GET /b HTTP/1.1\" 200 - \"https://example.org/\" \"Mozilla/5.0\"
-198.51.100.4 - - [02/Jan/2024:00:00:00 +0000] \"GET /c HTTP/1.1\" 200 - \"-\" \"curl/8.0\"
+192.0.2.1 - - [01/Jan/2024:00:00:00 +0000] \"GET /a HTTP/1.1\" 200 10 \"-\" \"Mozilla/5.0\"
+192.0.2.1 - - [01/Jan/2024:00:00:09 +0000] \"GET /b HTTP/1.1\" 200 5 \"https://example.org/\" \"curl/8.0\"
+198.51.100.4 - - [02/Jan/2024:00:00:00 +0000] \"GET /c HTTP/1.1\" 200 7 \"-\" \"curl/8.0\"
 ";
 
 const COMBINED_REPORT: &str = "\
 id,parent_id,panel,hits,hits%,visitors,visitors%,bytes,bytes%,avgts,cumts,maxts,method,protocol,data
-0,,visitors,1,,1,,0,,,,,,,20240102
-1,,visitors,2,,1,,0,,,,,,,20240101
-0,,hosts,2,,1,,0,,,,,,,192.0.2.1
-1,,hosts,1,,1,,0,,,,,,,198.51.100.4
+0,,visitors,1,,1,,7,,,,,,,20240102
+1,,visitors,2,,2,,15,,,,,,,20240101
+0,,hosts,2,,2,,15,,,,,,,192.0.2.1
+1,,hosts,1,,1,,7,,,,,,,198.51.100.4
 ";
 
 /// The common format, which most logs here have.
