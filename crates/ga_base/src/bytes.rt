@@ -37,6 +37,13 @@ impl Bytes {
     {
         &self.inner
     }
+
+    /// Gives the bytes back.
+    pub fn into_vec(self) -> Vec<u8>
+        ensures { result.items ≡ self }
+    {
+        self.inner
+    }
 }
 
 impl From<Vec<u8>> for Bytes {

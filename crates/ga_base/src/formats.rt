@@ -1,4 +1,5 @@
-ghost use Rattle.std.specs.Prelude.{◌≡◌};
+ghost use Rattle.std.specs.Prelude.{◌≡◌, Some};
+ghost use Rattle.ga_base.specs.FormatFaults.{fault_line, fault_place, fault_text};
 ghost use Rattle.ga_base.specs.declared.formats.FormatFault.TheVariants.{NoMemory as FormatNoMemory};
 
 use crate::{Bytes, NoMemory};
@@ -47,23 +48,50 @@ pub enum FormatFault {
     NoMemory,
 }
 
-impl fmt::Display for FormatFault {
-    fn fmt<W: fmt::Write>(&self, f: &mut fmt::Formatter<W>) -> fmt::Result {
+impl FormatFault {
+    /// The byte of the format's text, from 0, at which the fault stands, if it has a place.
+    pub fn place(&self) -> Option<u64>
+        ensures { result ≡ fault_place self.now }
+    {
         match self {
-            FormatFault::UnknownSpecifier { at } => write!(f, "byte {at}: unknown specifier"),
-            FormatFault::Repeated { at } => write!(f, "byte {at}: repeated"),
-            FormatFault::NoDelimiter { at } => write!(f, "byte {at}: no delimiter"),
+            FormatFault::UnknownSpecifier { at }
+            | FormatFault::Repeated { at }
+            | FormatFault::NoDelimiter { at }
+            | FormatFault::BadDirective { at } => Some(*at),
+            FormatFault::Missing { .. } | FormatFault::NoMemory => None,
+        }
+    }
+
+    /// What is wrong, without the place.
+    pub fn text(&self) -> &'static str
+        ensures { result.now ≡ fault_text self.now }
+    {
+        match self {
+            FormatFault::UnknownSpecifier { .. } => "unknown specifier",
+            FormatFault::Repeated { .. } => "repeated",
+            FormatFault::NoDelimiter { .. } => "no delimiter",
             FormatFault::Missing {
                 field: Needed::Host,
-            } => write!(f, "no host"),
+            } => "no host",
             FormatFault::Missing {
                 field: Needed::Date,
-            } => write!(f, "no date"),
+            } => "no date",
             FormatFault::Missing {
                 field: Needed::Request,
-            } => write!(f, "no request"),
-            FormatFault::BadDirective { at } => write!(f, "byte {at}: bad directive"),
-            FormatFault::NoMemory => write!(f, "no memory"),
+            } => "no request",
+            FormatFault::BadDirective { .. } => "bad directive",
+            FormatFault::NoMemory => "no memory",
+        }
+    }
+}
+
+impl fmt::Display for FormatFault {
+    ghost output = { λ fault. Some (fault_line fault) };
+
+    fn fmt<W: fmt::Write>(&self, f: &mut fmt::Formatter<W>) -> fmt::Result {
+        match self.place() {
+            Some(at) => write!(f, "byte {}: {}", at, self.text()),
+            None => write!(f, "{}", self.text()),
         }
     }
 }

@@ -6,20 +6,34 @@
 
 mod bytes;
 mod counts;
+mod entry;
 mod formats;
 mod key;
+pub mod laws;
 mod listing;
+mod name;
 mod no_memory;
+mod noted;
 mod panel;
+mod panel_set;
 mod record;
+mod steps;
 mod text;
 
 pub use bytes::Bytes;
 pub use counts::{Amounts, BIG, Counter, LIMIT, Sums, Totals};
+pub use entry::{Entries, Entry};
 pub use formats::{FormatFault, FormatItem, Needed};
 pub use key::{Key, Keys, Visitor};
 pub use listing::{Listing, Texts};
+pub use name::{Name, Names};
 pub use no_memory::NoMemory;
+pub use noted::Noted;
 pub use panel::Panel;
-pub use record::{Line, MAX_LINE, Record};
+pub use panel_set::PanelSet;
+pub use record::{Line, MAX_LINE, Record, Statuses};
+pub use steps::Steps;
 pub use text::Text;
+
+#[cfg(test)]
+mod tests;

@@ -37,6 +37,13 @@ impl<T> Listing<T> {
     {
         &self.inner
     }
+
+    /// Gives the items back.
+    pub fn into_vec(self) -> Vec<T>
+        ensures { result.items ≡ self }
+    {
+        self.inner
+    }
 }
 
 impl<T: Drop> Listing<T> {

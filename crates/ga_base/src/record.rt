@@ -1,7 +1,10 @@
-use crate::Text;
+use crate::{Listing, Text};
 
 /// The longest line that is read, in bytes. A longer one is a failed line (own profile).
 pub const MAX_LINE: usize = 65_535;
+
+/// A list of status codes.
+pub type Statuses = Listing<u32>;
 
 /// What a line of a log says.
 #[derive(Debug, PartialEq, Eq, Clone, Drop)]

@@ -1,0 +1,15 @@
+use crate::Listing;
+
+/// How far a log was counted, and how it is known again when it comes under another name.
+#[derive(Clone, Copy, Debug, PartialEq, Eq)]
+pub struct Entry {
+    /// How many of the log's first bytes the digest is of: 4096, or the offset where that is less.
+    pub lead: u16,
+    /// The SHA-256 of those bytes.
+    pub digest: [u8; 32],
+    /// The place behind the last byte that was counted, at least 1.
+    pub offset: u64,
+}
+
+/// A list of entries, one for each log that was counted.
+pub type Entries = Listing<Entry>;
