@@ -1,3 +1,5 @@
+ghost use Rattle.std.specs.Prelude.{◌≡◌, ◌≤◌, min};
+
 use crate::Listing;
 
 /// How far a log was counted, and how it is known again when it comes under another name.
@@ -9,6 +11,8 @@ pub struct Entry {
     pub digest: [u8; 32],
     /// The place behind the last byte that was counted, at least 1.
     pub offset: u64,
+    ghost leads: { lead ≡ min offset 4096 },
+    ghost counted: { 1 ≤ offset },
 }
 
 /// A list of entries, one for each log that was counted.
