@@ -1,2 +1,5 @@
-pub mod Contents
+pub mod Places
+pub mod FileStretches
+pub mod Listing
+pub mod OutStretches
 pub mod Results

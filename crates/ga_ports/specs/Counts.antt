@@ -1,5 +1,5 @@
 -- Counts of a form, each of which stands still at its last value, and the calls that are listed to fail.
-use Rattle.std.specs.Prelude.{ℕ, ◌+◌, ◌-◌, ◌^◌, ◌≤◌, ◌==◌, Bool, List, max, min}
+use Rattle.std.specs.Prelude.{◌≡◌, ℕ, ◌+◌, ◌-◌, ◌^◌, ◌≤◌, ◌==◌, Bool, false, List, Option, Some, None, max, min}
 use Rattle.std.specs.List.{list_any}
 
 -- the count after n more: it stops at its last value
@@ -13,3 +13,8 @@ Rose before now = min (before + 1) (2 ^ 64 - 1) ≤ now
 -- the call after so many calls is listed to fail
 abbrev pub is_due : List ℕ → ℕ → Bool
 is_due listed calls = list_any (λ call. call == raised calls 1) listed
+
+-- no call from now on is listed to fail, where that is told
+abbrev pub NoneDue : Option (List ℕ) → ℕ → Type 0
+NoneDue None calls = ⊥
+NoneDue (Some listed) calls = (later : ℕ) → calls ≤ later → is_due listed later ≡ false

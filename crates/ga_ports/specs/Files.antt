@@ -1,13 +1,19 @@
 -- What a form of `Files` is to the program, and what each call does to that.
-use Rattle.std.specs.Prelude.{◌≡◌, ℕ, ◌+◌, ◌-◌, ◌<◌, ◌≤◌, ◌==◌, ◌&&◌, ◌||◌, Bool, true, false, if◌then◌else◌, List, [], ◌∷◌, length, take, drop, Option, Some, None, is_none, nat_lt, Result, OnOk, OnErr, IfOk, IfSome}
+use Rattle.std.specs.Prelude.{◌≡◌, ℕ, ◌-◌, ◌<◌, ◌≤◌, ◌==◌, ◌&&◌, ◌||◌, Bool, true, false, if◌then◌else◌, List, [], ◌∷◌, length, take, drop, min, Option, Some, None, is_none, nat_lt, Result, OnOk, OnErr, IfOk, IfSome}
 use Rattle.std.specs.Result.{is_err}
 use Rattle.std.specs.Str.{bytes_eq}
 use Rattle.ga_ports.specs.Counts.{raised, is_due}
 use Rattle.ga_ports.specs.declared.file_counts.FileCounts.{FileCounts}
 
+-- what each name gives: those that are named, the first of a name counting, and all the others
+pub record Contents : Type 0 where
+  pub named : List (List ℕ × List ℕ)
+  -- None where nothing is there, Some [] where an empty file is
+  pub others : Option (List ℕ)
+
 pub record FilesView : Type 0 where
-  -- the contents by name, the first of a name counting; None where the form doesn't tell
-  pub contents : Option (List (List ℕ × List ℕ))
+  -- None where the form doesn't tell
+  pub contents : Option Contents
   -- the calls, counted from 1, that are listed to fail; None where the form doesn't tell
   pub listed : Option (List ℕ)
   pub is_open : Bool
@@ -17,19 +23,23 @@ pub record FilesView : Type 0 where
   pub measured : Option ℕ
   pub counts : FileCounts
 
-abbrev pub content_of : List ℕ → List (List ℕ × List ℕ) → Option (List ℕ)
-content_of name [] = None
-content_of name (c ∷ cs) = if bytes_eq c.0 name then Some c.1 else content_of name cs
+-- the bytes of the first of that name, or what all others give
+abbrev pub found : List ℕ → Option (List ℕ) → List (List ℕ × List ℕ) → Option (List ℕ)
+found name others [] = others
+found name others (c ∷ cs) = if bytes_eq c.0 name then Some c.1 else found name others cs
+
+abbrev pub content_of : List ℕ → Contents → Option (List ℕ)
+content_of name contents = found name contents.others contents.named
 
 -- the bytes behind a name, where told
-abbrev pub told : List ℕ → Option (List (List ℕ × List ℕ)) → Option (List ℕ)
+abbrev pub told : List ℕ → Option Contents → Option (List ℕ)
 told name None = None
-told name (Some cs) = content_of name cs
+told name (Some contents) = content_of name contents
 
--- contents are told, and the name isn't among them
-abbrev pub is_absent : List ℕ → Option (List (List ℕ × List ℕ)) → Bool
+-- contents are told, and nothing is there of that name
+abbrev pub is_absent : List ℕ → Option Contents → Bool
 is_absent name None = false
-is_absent name (Some cs) = is_none (content_of name cs)
+is_absent name (Some contents) = is_none (content_of name contents)
 
 -- one more call
 abbrev pub calls_once : FileCounts → FileCounts
@@ -51,18 +61,33 @@ gives short at n c = record c {
   short_at = if short then at else c.short_at;
 }
 
+-- a size was answered
+abbrev pub measures : ℕ → FileCounts → FileCounts
+measures size c = record c { sizes = raised c.sizes size }
+
 pub record Opens {E : Type 0} (name : List ℕ) (old new : FilesView) (result : Result (Unit {0}) E) : Type 0 where
   pub ok : OnOk result ((is_absent name old.contents ≡ false)
-      × (new ≡ record old { is_open = true; bytes = told name old.contents; measured = None; counts = asks false (calls_once old.counts) }))
+      × (new ≡ record old {
+        is_open = true;
+        bytes = told name old.contents;
+        measured = None;
+        counts = asks false (calls_once old.counts);
+      }))
   -- the former file is let go all the same
-  pub failed : OnErr result (new ≡ record old { is_open = false; bytes = None; measured = None; counts = asks (is_absent name old.contents) (fails_once old.counts) })
+  pub failed : OnErr result (new ≡ record old {
+    is_open = false;
+    bytes = None;
+    measured = None;
+    counts = asks (is_absent name old.contents) (fails_once old.counts);
+  })
 
 -- the call failed, and nothing else changed
 abbrev pub Fails : FilesView → FilesView → Type 0
 Fails old new = new ≡ record old { counts = fails_once old.counts }
 
 pub record Sizes {E : Type 0} (old new : FilesView) (result : Result ℕ E) : Type 0 where
-  pub ok : IfOk result (λ size. (new ≡ record old { measured = Some size; counts = calls_once old.counts }) × IfSome old.bytes (λ bytes. size ≡ length bytes))
+  pub ok : IfOk result (λ size. (new ≡ record old { measured = Some size; counts = measures size (calls_once old.counts) })
+      × IfSome old.bytes (λ bytes. size ≡ length bytes))
   pub failed : OnErr result (Fails old new)
 
 -- a short read: nothing came at a place below the size last answered, though room was there
@@ -85,6 +110,15 @@ pub record Reads {E : Type 0} (at : ℕ) (buffer : List ℕ) (old new : FilesVie
 abbrev pub FailsIfListed : {A E : Type 0} → FilesView → Result A E → Type 0
 FailsIfListed old result = IfSome old.listed (λ listed. is_err result ≡ is_due listed old.counts.calls)
 
--- the same for an `open`, which fails for a name that isn't there too
+-- where it is told which calls are listed, a read fails exactly where it is listed, and else gives all that fits
+pub record ReadsExactly {E : Type 0} (at : ℕ) (buffer listed : List ℕ) (old : FilesView) (result : Result ℕ E) : Type 0 where
+  pub fails : is_err result ≡ is_due listed old.counts.calls
+  pub fits : IfOk result (λ n. IfSome old.bytes (λ bytes. n ≡ min (length buffer) (length bytes - at)))
+
+abbrev pub ReadsIfListed : {E : Type 0} → ℕ → List ℕ → FilesView → Result ℕ E → Type 0
+ReadsIfListed at buffer old result = IfSome old.listed (λ listed. ReadsExactly at buffer listed old result)
+
+-- as of a size, for an `open`, which fails for a name that isn't there too
 abbrev pub OpenFailsIfListed : {A E : Type 0} → List ℕ → FilesView → Result A E → Type 0
-OpenFailsIfListed name old result = IfSome old.listed (λ listed. is_err result ≡ (is_due listed old.counts.calls || is_absent name old.contents))
+OpenFailsIfListed name old result =
+    IfSome old.listed (λ listed. is_err result ≡ (is_due listed old.counts.calls || is_absent name old.contents))

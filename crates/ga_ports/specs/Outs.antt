@@ -89,7 +89,8 @@ after_making name v = record (calls_once v) {
 
 pub record Creates {E : Type 0} (name : List ℕ) (old new : OutsView) (result : Result (Unit {0}) E) : Type 0 where
   pub ok : OnOk result (new ≡ after_making name old)
-  pub failed : OnErr result ((new ≡ record (after_failure File new.starved old) { made = raised old.made 1 }) × (old.starved ≤ new.starved))
+  pub failed : OnErr result ((new ≡ record (after_failure File new.starved old) { made = raised old.made 1 })
+      × (old.starved ≤ new.starved))
 
 -- a call fails where it is bound to, and else for want of memory alone, which is counted
 pub record FailsExactly {A E : Type 0} (bound : Bool) (old new : OutsView) (result : Result A E) : Type 0 where
@@ -98,7 +99,7 @@ pub record FailsExactly {A E : Type 0} (bound : Bool) (old new : OutsView) (resu
 
 -- where it is told which calls are listed, a write fails where it is listed or nothing is left of the target's room,
 -- and else takes what fits
-pub record WritesExactly {E : Type 0} (to : To) (piece : List ℕ) (listed : List ℕ) (old new : OutsView) (result : Result ℕ E) : Type 0 where
+pub record WritesExactly {E : Type 0} (to : To) (piece listed : List ℕ) (old new : OutsView) (result : Result ℕ E) : Type 0 where
   pub fails : FailsExactly (is_due listed old.calls || is_full (target to old).room) old new result
   pub fits : IfOk result (λ n. n ≡ fitting (target to old).room (length piece))
 

@@ -1,7 +1,7 @@
 ghost use Rattle.std.specs.Prelude.{◌≡◌};
 ghost use Rattle.ga_ports.specs.Counts.{raised};
 ghost use Rattle.ga_ports.specs.Files as files;
-ghost use Rattle.ga_ports.specs.Files.{asks, calls_once, fails_once, gives};
+ghost use Rattle.ga_ports.specs.Files.{asks, calls_once, fails_once, gives, measures};
 
 /// The counts of a form of `Files`. Each stands still at `2^64 - 1`.
 #[derive(Clone, Copy, Debug, PartialEq, Eq)]
@@ -12,13 +12,15 @@ pub struct FileCounts {
     pub faults: u64,
     /// The bytes handed out.
     pub given: u64,
+    /// The sum of the sizes answered.
+    pub sizes: u64,
     /// The calls of `open`.
     pub asked: u64,
     /// The short reads.
     pub shorts: u64,
     /// The place of the last short read.
     pub short_at: u64,
-    /// The calls of `open` for a name that isn't among the told contents.
+    /// The calls of `open` for a name that is told to be absent.
     pub absent: u64,
 }
 
@@ -28,6 +30,7 @@ impl FileCounts {
         calls: 0,
         faults: 0,
         given: 0,
+        sizes: 0,
         asked: 0,
         shorts: 0,
         short_at: 0,
@@ -57,6 +60,13 @@ impl FileCounts {
         if absent {
             self.absent = self.absent.saturating_add(1);
         }
+    }
+
+    /// Counts a size that was answered.
+    pub fn measure(&mut self, size: u64)
+        ensures { self.new ≡ measures size self.old }
+    {
+        self.sizes = self.sizes.saturating_add(size);
     }
 
     /// Counts the bytes that a read gave from a place, and whether it was a short one.

@@ -1,5 +1,5 @@
 ghost use Rattle.std.specs.Prelude.{IsTrue};
-ghost use Rattle.ga_ports.specs.Files.{FilesView, Opens, Sizes, Reads, OpenFailsIfListed, FailsIfListed};
+ghost use Rattle.ga_ports.specs.Files.{FilesView, Opens, Sizes, Reads, OpenFailsIfListed, FailsIfListed, ReadsIfListed};
 
 use ga_base::Text;
 
@@ -27,10 +27,11 @@ pub trait Files {
 
     /// Reads bytes of the open file from the place `at` on, and answers how many came.
     ///
-    /// Where the content is told, at least one byte comes below its size. A read that isn't of an empty slice,
-    /// below the size last answered, and that gives nothing is a short read, which is counted with its place.
+    /// Where the content is told, at least one byte comes below its size, and all that fits where it is told which
+    /// calls are listed to fail. A read that isn't of an empty slice, below the size last answered, and that gives
+    /// nothing is a short read, which is counted with its place.
     fn read_at(&mut self, at: u64, into: &mut [u8]) -> Result<usize, Failed>
         requires { IsTrue (view self.old).is_open }
         ensures reads { Reads at into.new (view self.old) (view self.new) result }
-        ensures exact { FailsIfListed (view self.old) result };
+        ensures exact { ReadsIfListed at into.new (view self.old) result };
 }

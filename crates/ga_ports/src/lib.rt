@@ -6,12 +6,15 @@
 
 mod file_counts;
 mod files;
+pub mod laws;
 mod listed;
 mod mem_files;
 mod mem_outs;
 mod outs;
 mod sink;
 mod target_counts;
+#[cfg(test)]
+mod tests;
 
 pub use file_counts::{FileCounts, is_short};
 pub use files::{Failed, Files};

@@ -1,8 +1,8 @@
-ghost use Rattle.std.specs.Prelude.{◌≡◌, ◌≤◌, ◌<◌, OnOk, OnErr, IfSome, is_none, length};
+ghost use Rattle.std.specs.Prelude.{◌≡◌, ℕ, ◌-◌, ◌<◌, Option, OnOk, OnErr, IfSome, is_none, length, min};
 ghost use Rattle.std.specs.Option.{ForSome};
-ghost use Rattle.ga_ports.specs.Contents.{pairs, bytes_at, place_of};
-ghost use Rattle.ga_ports.specs.Files.{AreBytesAt, content_of};
-ghost use Rattle.ga_ports.specs.MemFiles.{no_files, after_growth, after_renaming, after_listing, grown, renamed};
+ghost use Rattle.ga_ports.specs.Places.{pairs, bytes_at, place_of};
+ghost use Rattle.ga_ports.specs.Files.{AreBytesAt};
+ghost use Rattle.ga_ports.specs.MemFiles.{no_files, after_growth, after_renaming, after_listing, bytes_of, grown, renamed, files_view};
 
 use crate::listed::is_due;
 use crate::{Failed, FileCounts, Files, is_short};
@@ -30,18 +30,17 @@ pub struct MemFiles {
 }
 
 impl Model for MemFiles {
-    ghost use Rattle.std.specs.Prelude.{◌<◌, is_some, Some, vec_len};
+    ghost use Rattle.std.specs.Prelude.{◌<◌, vec_len};
     ghost use Rattle.std.specs.Option.{ForSome};
-    ghost use Rattle.ga_ports.specs.Files.{FilesView};
-    ghost use Rattle.ga_ports.specs.Contents.{pairs, bytes_at};
+    ghost use Rattle.ga_ports.specs.Places.{pairs, bytes_at};
+    ghost use Rattle.ga_ports.specs.MemFiles.{FilesState};
 
-    ghost Value = { FilesView };
+    ghost Value = { FilesState };
 
     ghost view = { λ m. record {
-      contents = Some (pairs m.contents.items);
-      listed = Some m.failing.items;
-      is_open = is_some m.current;
-      bytes = bytes_at m.current (pairs m.contents.items);
+      contents = pairs m.contents.items;
+      listed = m.failing.items;
+      opened = bytes_at m.current (pairs m.contents.items);
       measured = m.measured;
       counts = m.counts;
     } };
@@ -76,7 +75,7 @@ impl MemFiles {
         Ok(())
     }
 
-    /// Changes the name of a file, where `from` is there and `to` isn't. The open file is let go.
+    /// Changes the name of a file, where `from` is there and `to` isn't, and else nothing. The open file stays open.
     /// After an `Err` the files are as they were.
     pub fn rename(&mut self, from: &Text, to: &Text) -> Result<(), NoMemory>
         ensures ok { OnOk result (self.new ≡ after_renaming from.now to.now self.old) }
@@ -84,8 +83,6 @@ impl MemFiles {
     {
         let name = to.clone()?;
         change_name(&mut self.contents, from, name);
-        self.current = None;
-        self.measured = None;
         Ok(())
     }
 
@@ -108,7 +105,7 @@ impl MemFiles {
 }
 
 impl Files for MemFiles {
-    ghost view = { λ m. m };
+    ghost view = { files_view };
 
     fn open(&mut self, name: &Text) -> Result<(), Failed> {
         let found = find(&self.contents, name);
@@ -132,6 +129,7 @@ impl Files for MemFiles {
         }
         self.counts.call();
         let size = open_bytes(&self.contents, self.current).len() as u64;
+        self.counts.measure(size);
         self.measured = Some(size);
         Ok(size)
     }
@@ -152,8 +150,8 @@ impl Files for MemFiles {
 /// The place of the first file of this name.
 fn find(contents: &[Content], name: &Text) -> Option<usize>
     ensures place { result ≡ place_of name.now contents.now }
-    ensures absent { is_none result ≡ is_none (content_of name.now (pairs contents.now)) }
-    ensures bytes { bytes_at result (pairs contents.now) ≡ content_of name.now (pairs contents.now) }
+    ensures absent { is_none result ≡ is_none (bytes_of name.now (pairs contents.now)) }
+    ensures bytes { bytes_at result (pairs contents.now) ≡ bytes_of name.now (pairs contents.now) }
     ensures within { ForSome result (λ place. place < length contents.now) }
 {
     first(contents, name)
@@ -185,9 +183,12 @@ fn append(
     Ok(())
 }
 
-/// Changes the first name `from`, where there is one and no `to`.
+/// Changes the first name `from`, where there is one and no `to`. The bytes at each place stay.
 fn change_name(contents: &mut Vec<Content>, from: &Text, to: Text)
-    ensures { pairs contents.new.items ≡ renamed from.now to (pairs contents.old.items) }
+    ensures names { pairs contents.new.items ≡ renamed from.now to (pairs contents.old.items) }
+    ensures count { length contents.new.items ≡ length contents.old.items }
+    ensures bytes { (place : Option ℕ)
+        → bytes_at place (pairs contents.new.items) ≡ bytes_at place (pairs contents.old.items) }
 {
     if find(contents, &to).is_some() {
         return;
@@ -210,7 +211,7 @@ fn open_bytes(contents: &[Content], current: Option<usize>) -> &[u8]
 /// Copies as many bytes as fit from a place on, and answers how many.
 fn copy_from(bytes: &[u8], at: u64, into: &mut [u8]) -> usize
     ensures bytes { AreBytesAt at result into.new bytes.now }
-    ensures fits { result ≤ length into.old }
+    ensures all { result ≡ min (length into.old) (length bytes.now - at) }
 {
     let start = bytes.len().min(at as usize);
     let count = into.len().min(bytes.len() - start);

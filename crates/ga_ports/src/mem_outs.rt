@@ -1,6 +1,5 @@
-ghost use Rattle.std.specs.Prelude.{◌≡◌, OnOk, OnErr, IfSome, option_map};
-ghost use Rattle.ga_ports.specs.Outs.{target};
-ghost use Rattle.ga_ports.specs.MemOuts.{no_outs, after_room, after_listing};
+ghost use Rattle.std.specs.Prelude.{◌≡◌, OnOk, OnErr, option_map};
+ghost use Rattle.ga_ports.specs.MemOuts.{no_outs, after_room, after_listing, outs_view, sink};
 
 use crate::listed::is_due;
 use crate::sink::Sink;
@@ -24,20 +23,18 @@ pub struct MemOuts {
 }
 
 impl Model for MemOuts {
-    ghost use Rattle.std.specs.Prelude.{Some};
-    ghost use Rattle.ga_ports.specs.Outs.{OutsView};
-    ghost use Rattle.ga_ports.specs.MemOuts.{sink_view};
+    ghost use Rattle.ga_ports.specs.MemOuts.{OutsState, sink_state};
 
-    ghost Value = { OutsView };
+    ghost Value = { OutsState };
 
     ghost view = { λ m. record {
-      stdout = sink_view m.stdout;
-      stderr = sink_view m.stderr;
-      file = sink_view m.file;
+      stdout = sink_state m.stdout;
+      stderr = sink_state m.stderr;
+      file = sink_state m.file;
       is_made = m.is_made;
       made = m.made;
-      name = Some m.name;
-      listed = Some m.failing.items;
+      name = m.name;
+      listed = m.failing.items;
       calls = m.calls;
       starved = m.starved;
     } };
@@ -85,7 +82,7 @@ impl MemOuts {
 
     /// The bytes that a target holds.
     pub fn taken(&self, to: To) -> &[u8]
-        ensures { IfSome (target to self.now).bytes (λ bytes. result.now ≡ bytes) }
+        ensures { result.now ≡ (sink to self.now).bytes }
     {
         match to {
             To::Stdout => &self.stdout.bytes,
@@ -110,14 +107,14 @@ impl MemOuts {
 
     /// The name of the file made last, that of the last `create` that answered Ok.
     pub fn last_made(&self) -> Option<&Text>
-        ensures { IfSome self.now.name (λ name. option_map (λ t. t.now) result ≡ name) }
+        ensures { option_map (λ t. t.now) result ≡ self.now.name }
     {
         self.name.as_ref()
     }
 }
 
 impl Outs for MemOuts {
-    ghost view = { λ m. m };
+    ghost view = { outs_view };
 
     fn create(&mut self, name: &Text) -> Result<(), Failed> {
         let due = is_due(&self.failing, self.calls);

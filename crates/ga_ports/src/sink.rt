@@ -1,6 +1,6 @@
 ghost use Rattle.std.specs.Prelude.{◌≡◌, ℕ, length};
 ghost use Rattle.ga_ports.specs.Outs as outs;
-ghost use Rattle.ga_ports.specs.MemOuts.{TakesFront, empty_target, sink_view};
+ghost use Rattle.ga_ports.specs.MemOuts.{TakesFront, empty_sink, sink_state, sink_view};
 
 use crate::{Failed, TargetCounts};
 use std::alloc::Global;
@@ -17,7 +17,7 @@ pub struct Sink {
 impl Sink {
     /// A target that holds nothing and has no room set.
     pub fn new(alloc: Global) -> Sink
-        ensures { sink_view result ≡ empty_target }
+        ensures { sink_state result ≡ empty_sink }
     {
         Sink {
             bytes: Vec::new(alloc),
@@ -29,7 +29,8 @@ impl Sink {
     /// Takes the front of the piece that fits, where the call isn't due to fail and something of the room is left.
     /// Want of memory is counted in `starved`.
     pub fn take(&mut self, due: bool, starved: &mut u64, piece: &[u8]) -> Result<usize, Failed>
-        ensures { TakesFront due piece.now (sink_view self.old) (sink_view self.new) starved.old starved.new result }
+        ensures { let old = sink_view (sink_state self.old) in let new = sink_view (sink_state self.new) in
+            TakesFront due piece.now old new starved.old starved.new result }
     {
         if due || self.room == Some(0) {
             self.counts.fail();

@@ -1,7 +1,7 @@
 use Rattle.std.proofs.Common.{arith, refl, sym, ap, ◌∙◌, ◌≡◌, ◌<◌, ◌++◌, ◌∷◌, [], length, Some, None}
-use Rattle.ga_ports.specs.Contents.{pairs, place_of}
-use Rattle.ga_ports.specs.Files.{content_of}
-use Rattle.ga_ports.proofs.Contents.{grown-at, grown-absent, same-at}
+use Rattle.ga_ports.specs.Places.{pairs, place_of}
+use Rattle.ga_ports.specs.MemFiles.{bytes_of}
+use Rattle.ga_ports.proofs.Places.{grown-at, grown-absent, same-at}
 use Rattle.std.proofs.lemmas.List.{map-append}
 use Rattle.ga_ports.proofs.Results.{on_err}
 use Rattle.ga_ports.proofs.mem_files.append.Goals as goal
@@ -20,7 +20,7 @@ returns-in-Some-clause-ok c =
 
 pub returns-clause-ok : goal.returns-clause-ok
 returns-clause-ok c =
-    let absent : content_of c.args.name.now (pairs c.args.contents.now.items) ≡ None = sym (rw c.deref.ensures.value at c.in_default.ensures.bytes) in
+    let absent : bytes_of c.args.name.now (pairs c.args.contents.now.items) ≡ None = sym (rw c.deref.ensures.value at c.in_default.ensures.bytes) in
     let named : c.in_ok-name.name ≡ c.args.name.now = grind arith in
     let pushed = ap pairs c.in_ok-push.ensures.items in
     let pushed_pairs : pairs c.push.new.self.items ≡ pairs c.args.contents.now.items ++ (c.args.name.now, c.args.bytes.now) ∷ [] =

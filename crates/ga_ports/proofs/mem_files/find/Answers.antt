@@ -1,6 +1,6 @@
 use Rattle.std.proofs.Common.{ap, ◌∙◌}
 use Rattle.std.specs.Option.{is_none}
-use Rattle.ga_ports.proofs.Contents.{bytes_at-place_of, is_none-place_of, grown-at, grown-absent, moved-at, moved-absent, same-at}
+use Rattle.ga_ports.proofs.Places.{bytes_at-place_of, is_none-place_of}
 use Rattle.ga_ports.proofs.mem_files.find.Goals as goal
 
 pub returns-clause-absent : goal.returns-clause-absent

@@ -1,6 +1,6 @@
-use Rattle.std.proofs.Common.{refl, arith, sym, ap, ◌∙◌}
+use Rattle.std.proofs.Common.{arith, sym, ap, ◌∙◌}
 use Rattle.ga_ports.specs.declared.mem_files.Content.{Content}
-use Rattle.ga_ports.proofs.Contents.{bytes_at-within, bytes_at-past}
+use Rattle.ga_ports.proofs.Places.{bytes_at-within, bytes_at-past}
 use Rattle.ga_ports.proofs.mem_files.open_bytes.Goals as goal
 use Rattle.ga_ports.proofs.mem_files.open_bytes.Goals.{in_default-via-in-Some+else-place-contents, in_default-via-in_default}
 

@@ -1,4 +1,5 @@
-use Rattle.std.proofs.Common.{refl, arith}
+use Rattle.std.proofs.Common.{◌≡◌, ◌-◌, min, length, refl, arith}
+use Rattle.std.proofs.lemmas.Grind.{common_steps}
 use Rattle.ga_ports.specs.Files.{AreBytesAt}
 use Rattle.ga_ports.proofs.Results.{if_some-along}
 use Rattle.ga_ports.proofs.mem_files.MemFilesFiles.read_at.Goals as goal
@@ -8,9 +9,18 @@ returns-clause-reads c =
     let bytes = rw c.deref-2.ensures.value at c.open_bytes.ensures in
     rw (← c.self.view_is) (record {
       ok = (
-        omega (arith, c.copy_from-count.ensures.fits),
+        omega (arith, c.copy_from-count.ensures.all),
         if_some-along (AreBytesAt c.args.at c.copy_from-count.result c.copy_from-count.new.into) _ c.open_bytes.result.now bytes c.copy_from-count.ensures.bytes,
         rw (c.give.ensures, c.call.ensures, c.is_short-short.ensures) refl,
       );
       failed = tt;
+    })
+
+pub returns-clause-exact : goal.returns-clause-exact
+returns-clause-exact c =
+    let bytes = rw c.deref-2.ensures.value at c.open_bytes.ensures in
+    let count : c.copy_from-count.result ≡ min (length c.copy_from-count.new.into) (length c.open_bytes.result.now - c.args.at) = omega (arith, c.copy_from-count.ensures.all) in
+    rw (← c.self.view_is) (record {
+      fails = grind (arith, common_steps);
+      fits = if_some-along (λ bytes. c.copy_from-count.result ≡ min (length c.copy_from-count.new.into) (length bytes - c.args.at)) _ c.open_bytes.result.now bytes count;
     })

@@ -6,6 +6,6 @@ pub returns-clause-sizes : goal.returns-clause-sizes
 returns-clause-sizes c =
     let bytes = rw c.deref-2.ensures.value at c.open_bytes.ensures in
     rw (← c.self.view_is) (record {
-      ok = (rw c.call.ensures refl, if_some-along (λ bytes. length c.open_bytes.result.now ≡ length bytes) _ c.open_bytes.result.now bytes refl);
+      ok = (rw (c.measure.ensures, c.call.ensures) refl, if_some-along (λ bytes. length c.open_bytes.result.now ≡ length bytes) _ c.open_bytes.result.now bytes refl);
       failed = tt;
     })

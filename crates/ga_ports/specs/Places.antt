@@ -1,4 +1,4 @@
--- The contents that `MemFiles` keeps, as names with their bytes.
+-- The places of the files that `MemFiles` keeps, as names with their bytes.
 use Rattle.std.specs.Prelude.{ℕ, Bool, List, map, slice_get, Option, option_map}
 use Rattle.std.specs.List.{position}
 use Rattle.std.specs.Option.{option_and_then}

@@ -1,0 +1,25 @@
+-- A call is due where its number is in the list.
+use Rattle.std.proofs.Common.{◌≡◌, ℕ, ◌<◌, ◌≤◌, refl, Bool, ◌==◌, true, List, Some, ◌∙◌, arith, false, subst, get_or, eq-eqb, eqb-true}
+use Rattle.std.specs.List.{Contains}
+use Rattle.std.proofs.lemmas.List.Folds.{Any-from_list_any, list_any_at}
+use Rattle.ga_ports.specs.Counts.{raised, is_due, NoneDue}
+
+pub due-contains : (listed : List ℕ) (calls : ℕ) → is_due listed calls ≡ true → Contains listed (raised calls 1)
+due-contains listed calls due =
+    let found = Any-from_list_any (λ call. call == raised calls 1) listed due in
+    let same : found.1 ≡ raised calls 1 = eqb-true found.1 (raised calls 1) found.4 in
+    subst (λ q. Contains listed q) same (found.0, found.2, found.3)
+
+pub contains-due : (listed : List ℕ) (calls call : ℕ) → Contains listed call → call ≡ raised calls 1 → is_due listed calls ≡ true
+contains-due listed calls call has is =
+    list_any_at (λ c. c == raised calls 1) listed has.0 call has.1 (eq-eqb (get_or listed has.0 call) (raised calls 1) (has.2 ∙ is))
+
+not-due : (listed : List ℕ) (calls later : ℕ) → ((call : ℕ) → Contains listed call → call < raised calls 1) → calls ≤ later → (due : Bool)
+    → is_due listed later ≡ due → is_due listed later ≡ false
+not-due listed calls later made le true is =
+    let before : raised later 1 < raised calls 1 = made (raised later 1) (due-contains listed later is) in
+    absurd (omega arith)
+not-due listed calls later made le false is = is
+
+pub none-due : (listed : List ℕ) (calls : ℕ) → ((call : ℕ) → Contains listed call → call < raised calls 1) → NoneDue (Some listed) calls
+none-due listed calls made = λ later le. not-due listed calls later made le (is_due listed later) refl

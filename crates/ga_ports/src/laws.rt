@@ -1,0 +1,38 @@
+//! What holds of all stretches of calls. Each function's contract is the law, and its body is empty.
+
+ghost use Rattle.std.specs.Prelude.{◌≡◌, ◌<◌, List, ℕ, Some};
+ghost use Rattle.std.specs.List.{Contains};
+ghost use Rattle.ga_ports.specs.Counts.{raised, NoneDue};
+ghost use Rattle.ga_ports.specs.Files.{FilesView};
+ghost use Rattle.ga_ports.specs.Outs.{OutsView};
+ghost use Rattle.ga_ports.specs.Stretch.{FilesWent, FilesStay, FilesFailAsListed, OutsWent, OutsStay, OutsFailAsListed};
+
+/// No call of `Files` changes the contents or the list of calls, and no count falls.
+pub fn files_stay()
+    ensures { (old new : FilesView) → FilesWent old new → FilesStay old new }
+{}
+
+/// Where it is told which calls are listed, the count of faults of `Files` rises exactly where one of them was made or
+/// a name was absent.
+pub fn files_fail_as_listed()
+    ensures { (listed : List ℕ) (old new : FilesView) → old.listed ≡ Some listed → FilesWent old new
+        → FilesFailAsListed listed old new }
+{}
+
+/// No call of `Outs` changes the list of calls, no count falls, and no room widens.
+pub fn outs_stay()
+    ensures { (old new : OutsView) → OutsWent old new → OutsStay old new }
+{}
+
+/// Where it is told which calls are listed, a target's count of faults rises only where one of them was made, its room
+/// is used up or a call found no memory, and some target's does where one was made or found none.
+pub fn outs_fail_as_listed()
+    ensures { (listed : List ℕ) (old new : OutsView) → old.listed ≡ Some listed → OutsWent old new
+        → OutsFailAsListed listed old new }
+{}
+
+/// No call from now on is due to fail where each that is listed was made already.
+pub fn none_due()
+    ensures { (listed : List ℕ) (calls : ℕ) → ((call : ℕ) → Contains listed call → call < raised calls 1)
+        → NoneDue (Some listed) calls }
+{}
