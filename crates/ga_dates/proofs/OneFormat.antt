@@ -8,7 +8,7 @@ use Rattle.ga_base.specs.declared.formats.FormatFault.TheVariants.{UnknownSpecif
 use Rattle.ga_dates.specs.declared.item.Item.{Item}
 use Rattle.ga_dates.specs.declared.kind.Kind.{Kind}
 use Rattle.ga_dates.specs.Items.{AreOnce, IsComplete}
-use Rattle.ga_dates.specs.Grammar.{Token, Byte, Directive, text_of, items_of, IsNamed, IsRow, IsFormat, directive_of, GivesAgain, IsBadDirective, BreaksAt, LacksAt, IsFaultAt, IsFormatFault, UnlessNoMemory}
+use Rattle.ga_dates.specs.Grammar.{Token, Byte, Directive, text_of, items_of, IsNamed, IsRow, IsFormat, directive_of, GivesAgain, IsBadDirective, BreaksAt, LacksAt, IsFaultAt, IsFormatFault, IsAnswer, UnlessNoMemory}
 use Rattle.ga_dates.proofs.PartLemmas.{once_front, once_new}
 
 -- a row stops at the text's end and at a bad directive
@@ -112,6 +112,25 @@ one_fault kind text at at' (inl b) (inl b') =
 one_fault kind text at at' (inl b) (inr l) = absurd (lacks_or_breaks kind text at' at l b)
 one_fault kind text at at' (inr l) (inl b) = absurd (lacks_or_breaks kind text at at' l b)
 one_fault kind text at at' (inr l) (inr l') = l.place ∙ sym l'.place
+
+-- an answer that is no format is a bad directive
+fault_at : (kind : Kind) (text : List ℕ) (fault : FormatFault) → IsAnswer kind text (Err fault) → (at : ℕ) × (fault ≡ BadDirective at) × IsFaultAt kind text at
+fault_at kind text (BadDirective at) h = (at, refl, h)
+fault_at kind text _ h = absurd h
+
+-- so a text has one answer at most
+pub one_answer : (kind : Kind) (text : List ℕ) (answer other : Result (List Item) FormatFault) → IsAnswer kind text answer → IsAnswer kind text other → answer ≡ other
+one_answer kind text (Ok items) (Ok items') h k = ap Ok (one_format kind text items items' h k)
+one_answer kind text (Ok items) (Err fault) h k =
+    let bad = fault_at kind text fault k in
+    absurd (format_or_fault kind text items bad.0 h bad.2)
+one_answer kind text (Err fault) (Ok items) h k =
+    let bad = fault_at kind text fault h in
+    absurd (format_or_fault kind text items bad.0 k bad.2)
+one_answer kind text (Err fault) (Err fault') h k =
+    let one = fault_at kind text fault h in
+    let two = fault_at kind text fault' k in
+    ap (λ (f : FormatFault). Err f) (one.1 ∙ (ap BadDirective (one_fault kind text one.0 two.0 one.2 two.2) ∙ sym two.1))
 
 -- so what is answered is the only answer
 pub only_format : (kind : Kind) (text : List ℕ) (r : Result (List Item) FormatFault) → IfOk r (IsFormat kind text) → IfErr r (IsFormatFault kind text)

@@ -10,7 +10,7 @@ use Rattle.ga_dates.specs.declared.item.Part.{Part}
 use Rattle.ga_dates.specs.declared.item.Part.TheVariants.{Day as PartDay, Month as PartMonth, Year as PartYear, Hour as PartHour, Minute as PartMinute, Second as PartSecond}
 use Rattle.ga_dates.specs.declared.kind.Kind.{Kind}
 use Rattle.ga_dates.specs.Items.{part_of, is_part, gives, AreOnce, IsComplete, needed_parts}
-use Rattle.ga_dates.specs.Compile.{is_given}
+use Rattle.ga_dates.specs.Steps.Compile.{is_given}
 use Rattle.ga_dates.specs.Grammar.{GivesAgain}
 
 pub count-cons : (q : Part) (item : Item) (items : List Item) → count_by (gives q) (item ∷ items) ≡ cond (gives q item) 1 0 + count_by (gives q) items
@@ -36,7 +36,7 @@ pub not_counted : (q : Part) (items : List Item) → list_any (gives q) items �
 not_counted q [] h = refl
 not_counted q (item ∷ items) h = count-cons q item items ∙ counts_none (gives q item) (list_any (gives q) items) (count_by (gives q) items) (not_counted q items) h
 
-true_or_false : (b : Bool) → (b ≡ true) ⊎ (b ≡ false)
+pub true_or_false : (b : Bool) → (b ≡ true) ⊎ (b ≡ false)
 true_or_false true = inl refl
 true_or_false false = inr refl
 
@@ -86,7 +86,7 @@ or_none true any h = cc
 or_none false any h = (refl, h)
 
 -- some item that is added gives a part again exactly where the two lists share a part
-again_found : (before added : List Item) → list_any (is_given before) added ≡ true → GivesAgain before added
+pub again_found : (before added : List Item) → list_any (is_given before) added ≡ true → GivesAgain before added
 again_found before [] h = cc
 again_found before (item ∷ more) h =
     elim (true_or_false (is_given before item)) [
@@ -99,7 +99,7 @@ again_found before (item ∷ more) h =
           (later.0, later.1, omega (arith, count-cons later.0 item more, later.2))
     ]
 
-not_again : (before added : List Item) → list_any (is_given before) added ≡ false → GivesAgain before added → ⊥
+pub not_again : (before added : List Item) → list_any (is_given before) added ≡ false → GivesAgain before added → ⊥
 not_again before [] h (q, one, none) = omega (arith, none)
 not_again before (item ∷ more) h (q, one, other) =
     let none = or_none (is_given before item) (list_any (is_given before) more) h in

@@ -17,9 +17,9 @@ use Rattle.ga_dates.specs.declared.parts.Parts.{Parts}
 use Rattle.ga_dates.specs.declared.kind.Kind.TheVariants.{Date, Time}
 use Rattle.ga_dates.specs.Calendar.{IsDay, number_of_day}
 use Rattle.ga_dates.specs.Items.{part_of, is_part, gives, AreOnce, IsComplete, number_at, number_of}
-use Rattle.ga_dates.specs.Reading.{width_of, with_part, with_number}
+use Rattle.ga_dates.specs.Steps.Reading.{width_of, with_part, with_number}
 use Rattle.ga_dates.specs.Spelling.{SpellsNumber, IsMonthName, month_names, Spells}
-use Rattle.ga_dates.specs.Reading.{BeginsWith, AreSameParts}
+use Rattle.ga_dates.specs.Steps.Reading.{BeginsWith, AreSameParts}
 
 -- from the parts p the items of the text's front make g, and leave the rest
 abbrev pub Reads : List Item → List ℕ → Parts → Parts → List ℕ → Type 0

@@ -1,16 +1,18 @@
 -- Rows of tokens: how they grow, and that a text has one.
-use Rattle.std.proofs.Common.{◌≡◌, ◌≢◌, ◌+◌, ◌<◌, ◌≤◌, ℕ, Bool, true, false, List, [], ◌∷◌, ◌++◌, Option, Some, length, take, drop, get_or, ap, sym, ◌∙◌, refl, subst, arith, cond, inl, inr, append_assoc, lit≤}
-use Rattle.std.specs.Prelude.{count_by, ◌==◌, IsSome, MatchOption, unwrap_or}
+use Rattle.std.proofs.Common.{◌≡◌, ◌≢◌, ◌+◌, ◌<◌, ◌≤◌, ℕ, Bool, true, false, List, [], ◌∷◌, ◌++◌, Option, Some, length, take, drop, get_or, ap, sym, ◌∙◌, refl, subst, arith, cond, inl, inr, append_assoc, lit≤, codes, None}
+use Rattle.std.specs.Prelude.{count_by, IsSome, MatchOption, unwrap_or}
 use Rattle.std.specs.List.{list_all, list_any, AllByRecursion}
+use Rattle.std.specs.Option.{option_map, option_or}
+use Rattle.std.specs.Str.{bytes_eq}
 use Rattle.std.proofs.lemmas.List.{flat_map_more, take_more, take-append-drop, length-take-le}
 use Rattle.ga_dates.specs.declared.item.Item.{Item}
-use Rattle.ga_dates.specs.declared.item.Item.TheVariants.{Literal, Day, SpacedDay, Month, MonthName, Year, ShortYear, Hour, Minute, Second}
+use Rattle.ga_dates.specs.declared.item.Item.TheVariants.{Literal}
 use Rattle.ga_dates.specs.declared.item.Part.TheVariants.{Day as PartDay, Month as PartMonth, Year as PartYear, Hour as PartHour, Minute as PartMinute, Second as PartSecond}
 use Rattle.ga_dates.specs.declared.kind.Kind.{Kind}
 use Rattle.ga_dates.specs.declared.kind.Kind.TheVariants.{Date, Time}
 use Rattle.ga_dates.specs.Items.{gives, needed_parts, AreOnce}
-use Rattle.ga_dates.specs.Grammar.{Token, Byte, Directive, text_of, items_of, IsNamed, IsRow, IsFormat, directive_of, GivesAgain, IsFaultAt, IsFormatFault}
-use Rattle.ga_dates.specs.Compile.{AddsToken, IsTokenFault}
+use Rattle.ga_dates.specs.Grammar.{Token, Byte, Directive, text_of, items_of, IsNamed, IsRow, IsFormat, date_letters, date_forms, time_letters, time_forms, at_letter, form_items, directive_of, GivesAgain, IsFaultAt, IsFormatFault}
+use Rattle.ga_dates.specs.Steps.Compile.{AddsToken, IsTokenFault}
 use Rattle.ga_base.specs.declared.formats.FormatFault.{FormatFault}
 use Rattle.ga_base.specs.declared.formats.FormatFault.TheVariants.{UnknownSpecifier, Repeated, NoDelimiter, Missing, BadDirective, NoMemory}
 use Rattle.ga_dates.proofs.PartLemmas.{count-cons, once_append, complete, incomplete}
@@ -20,35 +22,39 @@ named_more kind [] token named h = (h, tt)
 named_more kind (t ∷ tokens) token (first, named) h = (first, named_more kind tokens token named h)
 
 -- a row grows by a token that gives nothing again
+pub row_snoc : (kind : Kind) (tokens : List Token) (front : List ℕ) (before : List Item) (token : Token) → IsRow kind tokens front before → IsNamed kind token
+    → AreOnce (before ++ items_of kind token) → IsRow kind (tokens ++ token ∷ []) (front ++ text_of token) (before ++ items_of kind token)
+row_snoc kind tokens front before token row named once = record {
+  spelt = ap (λ (s : List ℕ). s ++ text_of token) row.spelt ∙ flat_map_more text_of [] tokens token;
+  given = ap (λ (s : List Item). s ++ items_of kind token) row.given ∙ flat_map_more (items_of kind) [] tokens token;
+  named = named_more kind tokens token row.named named;
+  once = once;
+}
+
 pub row_more : (kind : Kind) (tokens : List Token) (text : List ℕ) (at next : ℕ) (before after : List Item)
     → IsRow kind tokens (take at text) before → (a : AddsToken kind text at next before after) → IsRow kind (tokens ++ a.token ∷ []) (take next text) after
-row_more kind tokens text at next before after row a = record {
-  spelt = a.spelt ∙ (ap (λ (s : List ℕ). s ++ text_of a.token) row.spelt ∙ flat_map_more text_of [] tokens a.token);
-  given = a.added ∙ (ap (λ (s : List Item). s ++ items_of kind a.token) row.given ∙ flat_map_more (items_of kind) [] tokens a.token);
-  named = named_more kind tokens a.token row.named a.named;
-  once = a.once;
-}
+row_more kind tokens text at next before after row a =
+    subst (λ (s : List ℕ). IsRow kind (tokens ++ a.token ∷ []) s after) (sym a.spelt)
+    (subst (λ (xs : List Item). IsRow kind (tokens ++ a.token ∷ []) (take at text ++ text_of a.token) xs) (sym a.added)
+    (row_snoc kind tokens (take at text) before a.token row a.named (subst (λ (xs : List Item). AreOnce xs) a.added a.once)))
 
 -- the empty row
 pub row_none : (kind : Kind) → IsRow kind [] [] []
 row_none kind = record { spelt = refl; given = refl; named = tt; once = λ q. omega arith }
 
 -- no directive gives a part twice
-abbrev OnceIfNamed : Option (List Item) → Type 0
+abbrev pub OnceIfNamed : Option (List Item) → Type 0
 OnceIfNamed o = MatchOption o (Unit {0}) AreOnce
-
-once_if : (b : Bool) (named others : Option (List Item)) → OnceIfNamed named → OnceIfNamed others → OnceIfNamed (cond b named others)
-once_if true named others h k = h
-once_if false named others h k = k
 
 at_most_one : (b : Bool) → cond b 1 0 ≤ 1
 at_most_one true = lit≤ tt
 at_most_one false = lit≤ tt
 
-once_one : (item : Item) → AreOnce (item ∷ [])
+pub once_one : (item : Item) → AreOnce (item ∷ [])
 once_one item q = omega (arith, count-cons q item [], at_most_one (gives q item))
 
-once_long_date : AreOnce (Year ∷ Literal 45 ∷ Month ∷ Literal 45 ∷ Day ∷ [])
+-- the forms of `%F`, `%D`, `%T` and `%R`
+once_long_date : AreOnce (form_items date_letters (codes "Y-m-d"))
 once_long_date PartDay = lit≤ tt
 once_long_date PartMonth = lit≤ tt
 once_long_date PartYear = lit≤ tt
@@ -56,7 +62,7 @@ once_long_date PartHour = lit≤ tt
 once_long_date PartMinute = lit≤ tt
 once_long_date PartSecond = lit≤ tt
 
-once_short_date : AreOnce (Month ∷ Literal 47 ∷ Day ∷ Literal 47 ∷ ShortYear ∷ [])
+once_short_date : AreOnce (form_items date_letters (codes "m/d/y"))
 once_short_date PartDay = lit≤ tt
 once_short_date PartMonth = lit≤ tt
 once_short_date PartYear = lit≤ tt
@@ -64,7 +70,7 @@ once_short_date PartHour = lit≤ tt
 once_short_date PartMinute = lit≤ tt
 once_short_date PartSecond = lit≤ tt
 
-once_long_time : AreOnce (Hour ∷ Literal 58 ∷ Minute ∷ Literal 58 ∷ Second ∷ [])
+once_long_time : AreOnce (form_items time_letters (codes "H:M:S"))
 once_long_time PartDay = lit≤ tt
 once_long_time PartMonth = lit≤ tt
 once_long_time PartYear = lit≤ tt
@@ -72,7 +78,7 @@ once_long_time PartHour = lit≤ tt
 once_long_time PartMinute = lit≤ tt
 once_long_time PartSecond = lit≤ tt
 
-once_short_time : AreOnce (Hour ∷ Literal 58 ∷ Minute ∷ [])
+once_short_time : AreOnce (form_items time_letters (codes "H:M"))
 once_short_time PartDay = lit≤ tt
 once_short_time PartMonth = lit≤ tt
 once_short_time PartYear = lit≤ tt
@@ -80,16 +86,32 @@ once_short_time PartHour = lit≤ tt
 once_short_time PartMinute = lit≤ tt
 once_short_time PartSecond = lit≤ tt
 
-directive_once : (kind : Kind) (letter : ℕ) → OnceIfNamed (directive_of kind letter)
-directive_once Date letter =
-    once_if (letter == 100) _ _ (once_one Day) (once_if (letter == 101) _ _ (once_one SpacedDay) (once_if (letter == 109) _ _ (once_one Month)
-    (once_if (letter == 98) _ _ (once_one MonthName) (once_if (letter == 89) _ _ (once_one Year) (once_if (letter == 121) _ _ (once_one ShortYear)
-    (once_if (letter == 70) _ _ once_long_date (once_if (letter == 68) _ _ once_short_date (once_if (letter == 37) _ _ (once_one (Literal 37)) tt))))))))
-directive_once Time letter =
-    once_if (letter == 72) _ _ (once_one Hour) (once_if (letter == 77) _ _ (once_one Minute) (once_if (letter == 83) _ _ (once_one Second)
-    (once_if (letter == 84) _ _ once_long_time (once_if (letter == 82) _ _ once_short_time (once_if (letter == 37) _ _ (once_one (Literal 37)) tt)))))
+once_letter : (item : Option Item) → OnceIfNamed (option_map (λ i. i ∷ []) item)
+once_letter None = tt
+once_letter (Some item) = once_one item
 
-no_part_again : (before : List Item) (byte : ℕ) → ¬ GivesAgain before (Literal byte ∷ [])
+once_form : (letters : List (List ℕ × Item)) (b : Bool) (row : List ℕ) (others : Option (List ℕ)) → AreOnce (form_items letters row)
+    → OnceIfNamed (option_map (form_items letters) others) → OnceIfNamed (option_map (form_items letters) (cond b (Some row) others))
+once_form letters true row others h k = h
+once_form letters false row others h k = k
+
+once_forms : (letters : List (List ℕ × Item)) (rows : List (List ℕ × List ℕ)) (letter : ℕ) → AllByRecursion (λ row. AreOnce (form_items letters row.1)) rows
+    → OnceIfNamed (option_map (form_items letters) (at_letter letter rows))
+once_forms letters [] letter h = tt
+once_forms letters (row ∷ rows) letter (first, later) =
+    once_form letters (bytes_eq row.0 (letter ∷ [])) row.1 (at_letter letter rows) first (once_forms letters rows letter later)
+
+once_either : (one other : Option (List Item)) → OnceIfNamed one → OnceIfNamed other → OnceIfNamed (option_or one other)
+once_either None other h k = k
+once_either (Some items) other h k = h
+
+pub directive_once : (kind : Kind) (letter : ℕ) → OnceIfNamed (directive_of kind letter)
+directive_once Date letter =
+    once_either _ _ (once_letter (at_letter letter date_letters)) (once_forms date_letters date_forms letter (once_long_date, (once_short_date, tt)))
+directive_once Time letter =
+    once_either _ _ (once_letter (at_letter letter time_letters)) (once_forms time_letters time_forms letter (once_long_time, (once_short_time, tt)))
+
+pub no_part_again : (before : List Item) (byte : ℕ) → ¬ GivesAgain before (Literal byte ∷ [])
 no_part_again before byte (q, some, other) = let none : count_by (gives q) (Literal byte ∷ []) ≡ 0 = refl in omega (arith, other, none)
 
 -- a byte other than % is a token
@@ -115,7 +137,7 @@ take_two text at lt percent =
     ∙ (append_assoc (take at text) (get_or text at 0 ∷ []) (get_or text (at + 1) 0 ∷ [])
     ∙ ap (λ (b : ℕ). take at text ++ b ∷ get_or text (at + 1) 0 ∷ []) percent)))
 
-named_some : {A : Type 0} (o : Option A) (x : A) → o ≡ Some x → IsSome o
+pub named_some : {A : Type 0} (o : Option A) (x : A) → o ≡ Some x → IsSome o
 named_some {A = A} o x e = subst (λ (p : Option A). IsSome p) (sym e) refl
 
 -- and so is a % with a letter that is named and gives nothing again

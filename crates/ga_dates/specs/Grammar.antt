@@ -1,6 +1,9 @@
 -- Which items the text of a format stands for.
-use Rattle.std.specs.Prelude.{ℕ, ◌≡◌, ◌≢◌, ◌≤◌, ◌==◌, if◌then◌else◌, ◌⊎◌, count_by, length, List, [], ◌∷◌, ◌++◌, Option, Some, None, IsSome, MatchOption, unwrap_or, Result, Err}
+use Rattle.std.specs.Prelude.{ℕ, ◌≡◌, ◌≢◌, ◌≤◌, ◌⊎◌, count_by, length, List, [], ◌∷◌, ◌++◌, map, codes, Option, IsSome, MatchOption, unwrap_or, Result, Ok, Err}
 use Rattle.std.specs.List.{flat_map, AllByRecursion}
+use Rattle.std.specs.Map.{lookup}
+use Rattle.std.specs.Option.{option_map, option_or}
+use Rattle.std.specs.Str.{bytes_eq}
 use Rattle.ga_base.specs.declared.formats.FormatFault.{FormatFault}
 use Rattle.ga_base.specs.declared.formats.FormatFault.TheVariants.{BadDirective, NoMemory}
 use Rattle.ga_dates.specs.declared.item.Item.{Item}
@@ -10,34 +13,51 @@ use Rattle.ga_dates.specs.declared.kind.Kind.{Kind}
 use Rattle.ga_dates.specs.declared.kind.Kind.TheVariants.{Date, Time}
 use Rattle.ga_dates.specs.Items.{gives, AreOnce, IsComplete}
 
--- what the letter behind a % stands for in a date format; the numbers are the codes of the letters
-abbrev pub date_directive : ℕ → Option (List Item)
-date_directive letter =
-    if letter == 100 then Some (Day ∷ [])  -- d
-    else (if letter == 101 then Some (SpacedDay ∷ [])  -- e
-    else (if letter == 109 then Some (Month ∷ [])  -- m
-    else (if letter == 98 then Some (MonthName ∷ [])  -- b
-    else (if letter == 89 then Some (Year ∷ [])  -- Y
-    else (if letter == 121 then Some (ShortYear ∷ [])  -- y
-    else (if letter == 70 then Some (Year ∷ Literal 45 ∷ Month ∷ Literal 45 ∷ Day ∷ [])  -- F is %Y-%m-%d
-    else (if letter == 68 then Some (Month ∷ Literal 47 ∷ Day ∷ Literal 47 ∷ ShortYear ∷ [])  -- D is %m/%d/%y
-    else (if letter == 37 then Some (Literal 37 ∷ [])  -- %
-    else None))))))))
+-- The directives of a date format by their letters, each with its item.
+abbrev pub date_letters : List (List ℕ × Item)
+date_letters =
+    (codes "d", Day)
+    ∷ (codes "e", SpacedDay)
+    ∷ (codes "m", Month)
+    ∷ (codes "b", MonthName)
+    ∷ (codes "Y", Year)
+    ∷ (codes "y", ShortYear)
+    ∷ (codes "%", Literal 37)
+    ∷ []
 
--- and in a time format
-abbrev pub time_directive : ℕ → Option (List Item)
-time_directive letter =
-    if letter == 72 then Some (Hour ∷ [])  -- H
-    else (if letter == 77 then Some (Minute ∷ [])  -- M
-    else (if letter == 83 then Some (Second ∷ [])  -- S
-    else (if letter == 84 then Some (Hour ∷ Literal 58 ∷ Minute ∷ Literal 58 ∷ Second ∷ [])  -- T is %H:%M:%S
-    else (if letter == 82 then Some (Hour ∷ Literal 58 ∷ Minute ∷ [])  -- R is %H:%M
-    else (if letter == 37 then Some (Literal 37 ∷ [])  -- %
-    else None)))))
+-- Those of a time format.
+abbrev pub time_letters : List (List ℕ × Item)
+time_letters =
+    (codes "H", Hour)
+    ∷ (codes "M", Minute)
+    ∷ (codes "S", Second)
+    ∷ (codes "%", Literal 37)
+    ∷ []
+
+-- The directives that are short for a longer form: `%F` for `%Y-%m-%d`, which stands here without its percent signs.
+abbrev pub date_forms : List (List ℕ × List ℕ)
+date_forms = (codes "F", codes "Y-m-d") ∷ (codes "D", codes "m/d/y") ∷ []
+
+-- Those of a time format.
+abbrev pub time_forms : List (List ℕ × List ℕ)
+time_forms = (codes "T", codes "H:M:S") ∷ (codes "R", codes "H:M") ∷ []
+
+-- what stands in a table's row of this letter
+abbrev pub at_letter : {X : Type 0} → ℕ → List (List ℕ × X) → Option X
+at_letter letter table = lookup (λ name. bytes_eq name (letter ∷ [])) table
+
+-- the items of a form: a letter of the table is its directive, any other byte stands for itself
+abbrev pub form_items : List (List ℕ × Item) → List ℕ → List Item
+form_items letters form = map (λ byte. unwrap_or (at_letter byte letters) (Literal byte)) form
+
+-- what the letter behind a % stands for by these tables: its item, or the items of its form
+abbrev pub named_items : List (List ℕ × Item) → List (List ℕ × List ℕ) → ℕ → Option (List Item)
+named_items letters forms letter =
+    option_or (option_map (λ item. item ∷ []) (at_letter letter letters)) (option_map (form_items letters) (at_letter letter forms))
 
 abbrev pub directive_of : Kind → ℕ → Option (List Item)
-directive_of Date letter = date_directive letter
-directive_of Time letter = time_directive letter
+directive_of Date letter = named_items date_letters date_forms letter
+directive_of Time letter = named_items time_letters time_forms letter
 
 -- a format's text is a row of tokens: a byte other than %, which stands for itself, or % and a letter
 pub data Token : Type 0 where
@@ -102,6 +122,12 @@ pub record LacksAt (kind : Kind) (text : List ℕ) (at : ℕ) : Type 0 where
 
 abbrev pub IsFaultAt : Kind → List ℕ → ℕ → Type 0
 IsFaultAt kind text at = BreaksAt kind text at ⊎ LacksAt kind text at
+
+-- the answer to a text: the items of the format that it is, or its fault
+abbrev pub IsAnswer : Kind → List ℕ → Result (List Item) FormatFault → Type 0
+IsAnswer kind text (Ok items) = IsFormat kind text items
+IsAnswer kind text (Err (BadDirective at)) = IsFaultAt kind text at
+IsAnswer kind text (Err _) = ⊥
 
 -- an error is a bad directive at its place, or want of memory
 abbrev pub IsFormatFault : Kind → List ℕ → FormatFault → Type 0

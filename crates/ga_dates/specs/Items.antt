@@ -63,11 +63,3 @@ number_at PartSecond p = p.second
 -- the number of the part that an item gives; 0 for a literal byte
 abbrev pub number_of : Item → Parts → ℕ
 number_of item p = option_map_or (λ part. number_at part p) (part_of item) 0
-
--- the items of %d/%b/%Y
-abbrev pub default_date : List Item
-default_date = Day ∷ Literal 47 ∷ MonthName ∷ Literal 47 ∷ Year ∷ []
-
--- the items of %H:%M:%S
-abbrev pub default_time : List Item
-default_time = Hour ∷ Literal 58 ∷ Minute ∷ Literal 58 ∷ Second ∷ []

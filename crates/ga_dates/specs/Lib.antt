@@ -2,5 +2,4 @@ pub mod Items
 pub mod Calendar
 pub mod Spelling
 pub mod Grammar
-pub mod Reading
-pub mod Compile
+pub mod Steps

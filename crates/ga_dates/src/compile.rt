@@ -4,7 +4,7 @@ ghost use Rattle.ga_base.specs.declared.formats.FormatFault.{FormatFault as Faul
 ghost use Rattle.ga_dates.specs.declared.item.Item.{Item as ItemSpec};
 ghost use Rattle.ga_dates.specs.Items.{AreOnce, gives, needed_parts};
 ghost use Rattle.ga_dates.specs.Grammar.{IsFormat, IsFormatFault, Token, IsRow};
-ghost use Rattle.ga_dates.specs.Compile.{AddsToken, IsTokenFault};
+ghost use Rattle.ga_dates.specs.Steps.Compile.{AddsToken, IsTokenFault};
 
 use crate::directive::{directive_at, gives_part};
 use crate::{Item, Kind};

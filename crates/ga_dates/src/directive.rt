@@ -1,9 +1,10 @@
 ghost use Rattle.std.specs.Prelude.{◌≡◌, ◌+◌, ◌<◌, ◌≤◌, drop, length, slice_index, Some, IfSome, IfNone};
 ghost use Rattle.std.specs.List.{list_any};
 ghost use Rattle.std.specs.Option.{option_copied};
+ghost use Rattle.ga_dates.specs.declared.kind.Kind.TheVariants.{Date, Time};
 ghost use Rattle.ga_dates.specs.Items.{gives};
-ghost use Rattle.ga_dates.specs.Compile.{is_given};
-ghost use Rattle.ga_dates.specs.Grammar.{directive_of, date_directive, time_directive, GivesAgain, IsBadDirective};
+ghost use Rattle.ga_dates.specs.Steps.Compile.{is_given};
+ghost use Rattle.ga_dates.specs.Grammar.{directive_of, GivesAgain, IsBadDirective};
 
 use crate::{Item, Kind, Part};
 
@@ -62,7 +63,7 @@ fn directive(kind: Kind, letter: u8) -> Option<&'static [Item]>
 }
 
 fn date_directive(letter: u8) -> Option<&'static [Item]>
-    ensures { option_copied result ≡ date_directive letter }
+    ensures { option_copied result ≡ directive_of Date letter }
 {
     match letter {
         b'd' => Some(&[Item::Day]),
@@ -91,7 +92,7 @@ fn date_directive(letter: u8) -> Option<&'static [Item]>
 }
 
 fn time_directive(letter: u8) -> Option<&'static [Item]>
-    ensures { option_copied result ≡ time_directive letter }
+    ensures { option_copied result ≡ directive_of Time letter }
 {
     match letter {
         b'H' => Some(&[Item::Hour]),

@@ -5,14 +5,14 @@ ghost use Rattle.ga_dates.specs.Grammar.{IsFormat, IsFaultAt, IsFormatFault, Unl
 
 use crate::compile::compile;
 use crate::{Item, Kind};
-use ga_base::{FormatFault, NoMemory, Text};
+use ga_base::{FormatFault, Text};
 use std::alloc::Global;
 use std::marker::Model;
 
-/// GoAccess's default date format, as in `29/Feb/2024`.
+/// The date format where none is given (own profile), as in `29/Feb/2024`.
 pub const DEFAULT_DATE: &str = "%d/%b/%Y";
 
-/// GoAccess's default time format, as in `23:50:00`.
+/// The time format where none is given (own profile), as in `23:50:00`.
 pub const DEFAULT_TIME: &str = "%H:%M:%S";
 
 /// What `compile_date` makes of a text such as `%d/%b/%Y`: items that give the day, the month and the year, each once.
@@ -57,28 +57,8 @@ impl Model for TimeFormat {
 
 impl DateFormat {
     ghost use Rattle.ga_dates.specs.declared.kind.Kind.TheVariants.{Date};
-    ghost use Rattle.std.specs.Prelude.{◌≡◌, IfOk};
-    ghost use Rattle.ga_dates.specs.Items.{IsComplete, default_date};
-    ghost use Rattle.ga_dates.specs.Grammar.{IsFormat};
-
-    /// The format of `DEFAULT_DATE`.
-    pub fn default_format(alloc: Global) -> Result<DateFormat, NoMemory>
-        ensures items { IfOk result (λ format. format ≡ default_date) }
-        ensures format { IfOk result (IsFormat Date DEFAULT_DATE.now) }
-    {
-        Ok(DateFormat {
-            items: Vec::from_slice(
-                alloc,
-                &[
-                    Item::Day,
-                    Item::Literal(b'/'),
-                    Item::MonthName,
-                    Item::Literal(b'/'),
-                    Item::Year,
-                ],
-            )?,
-        })
-    }
+    ghost use Rattle.std.specs.Prelude.{◌≡◌};
+    ghost use Rattle.ga_dates.specs.Items.{IsComplete};
 
     /// Lends the items, which give the day, the month and the year once each.
     pub fn items(&self) -> &[Item]
@@ -91,28 +71,8 @@ impl DateFormat {
 
 impl TimeFormat {
     ghost use Rattle.ga_dates.specs.declared.kind.Kind.TheVariants.{Time};
-    ghost use Rattle.std.specs.Prelude.{◌≡◌, IfOk};
-    ghost use Rattle.ga_dates.specs.Items.{IsComplete, default_time};
-    ghost use Rattle.ga_dates.specs.Grammar.{IsFormat};
-
-    /// The format of `DEFAULT_TIME`.
-    pub fn default_format(alloc: Global) -> Result<TimeFormat, NoMemory>
-        ensures items { IfOk result (λ format. format ≡ default_time) }
-        ensures format { IfOk result (IsFormat Time DEFAULT_TIME.now) }
-    {
-        Ok(TimeFormat {
-            items: Vec::from_slice(
-                alloc,
-                &[
-                    Item::Hour,
-                    Item::Literal(b':'),
-                    Item::Minute,
-                    Item::Literal(b':'),
-                    Item::Second,
-                ],
-            )?,
-        })
-    }
+    ghost use Rattle.std.specs.Prelude.{◌≡◌};
+    ghost use Rattle.ga_dates.specs.Items.{IsComplete};
 
     /// Lends the items, which give the hour and the minute once each, and no part twice.
     pub fn items(&self) -> &[Item]

@@ -1,6 +1,6 @@
 ghost use Rattle.std.specs.Prelude.{◌≡◌};
 ghost use Rattle.ga_dates.specs.Items.{part_of, gives};
-ghost use Rattle.ga_dates.specs.Reading.{width_of};
+ghost use Rattle.ga_dates.specs.Steps.Reading.{width_of};
 
 /// A part of a date or of a time of day.
 #[derive(Clone, Copy, Debug, PartialEq, Eq)]
@@ -20,7 +20,7 @@ pub enum Part {
 }
 
 /// One item of a date or time format, after GoAccess's `--date-format` and `--time-format`.
-#[derive(Clone, Copy, Debug, PartialEq, Eq)]
+#[derive(Clone, Copy, Debug)]
 pub enum Item {
     /// This byte has to come next.
     Literal(u8),
@@ -46,7 +46,7 @@ pub enum Item {
 
 impl Item {
     /// The part that the item gives; a literal byte gives none.
-    pub fn part(self) -> Option<Part>
+    pub(crate) fn part(self) -> Option<Part>
         ensures { result ≡ part_of self }
     {
         match self {
@@ -61,7 +61,7 @@ impl Item {
     }
 
     /// Whether the item gives the part.
-    pub fn gives(self, part: Part) -> bool
+    pub(crate) fn gives(self, part: Part) -> bool
         ensures { result ≡ gives part self }
     {
         self.part() == Some(part)

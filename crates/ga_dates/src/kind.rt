@@ -4,7 +4,7 @@ ghost use Rattle.ga_dates.specs.Items.{needed_parts};
 use crate::Part;
 
 /// Whether a format is of dates or of times of day: contracts say by it which directives and which parts are meant.
-#[derive(Clone, Copy, Debug, PartialEq, Eq)]
+#[derive(Clone, Copy, Debug)]
 pub enum Kind {
     /// A date format gives day, month and year.
     Date,

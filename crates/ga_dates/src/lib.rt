@@ -3,7 +3,7 @@
 //!
 //! Start with `DateFormat`, which contracts see as the list of its items. `specs/Grammar.antt` says which items a format's
 //! text stands for and where its fault is, `specs/Spelling.antt` which texts the items spell, and `specs/Calendar.antt` which
-//! days there are. `proofs/OneFormat.antt` shows that a text is at most one format, or has at most one fault.
+//! days there are. `laws` says that a text is one format or has one fault, and spells one date and one time at most.
 #![tactic(auto)]
 
 mod calendar;
@@ -12,6 +12,7 @@ mod directive;
 mod format;
 mod item;
 mod kind;
+pub mod laws;
 mod number;
 mod parts;
 mod read;

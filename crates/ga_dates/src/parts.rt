@@ -1,11 +1,11 @@
 ghost use Rattle.std.specs.Prelude.{◌≡◌};
-ghost use Rattle.ga_dates.specs.Reading.{with_number, with_part};
+ghost use Rattle.ga_dates.specs.Steps.Reading.{with_number, with_part};
 
 use crate::{Item, Part};
 
 /// The parts of a date and of a time of day: contracts name by them what a text spells. In the code a part that isn't given
 /// is 0.
-#[derive(Clone, Copy, Debug, PartialEq, Eq)]
+#[derive(Clone, Copy, Debug)]
 pub struct Parts {
     /// The day of the month.
     pub day: u16,

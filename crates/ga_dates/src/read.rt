@@ -3,7 +3,7 @@ ghost use Rattle.ga_dates.specs.declared.parts.Parts.{Parts as PartsSpec};
 ghost use Rattle.ga_dates.specs.Items.{AreOnce};
 ghost use Rattle.ga_dates.specs.Calendar.{IsDay, number_of_day};
 ghost use Rattle.ga_dates.specs.Spelling.{SpellsDate, SpellsTime, SpellsBoth};
-ghost use Rattle.ga_dates.specs.Reading.{BeginsWith, AreSameParts};
+ghost use Rattle.ga_dates.specs.Steps.Reading.{BeginsWith, AreSameParts};
 
 use crate::calendar::is_day;
 use crate::number::number_in;

@@ -1,17 +1,21 @@
 -- A text has one answer, and its items are sound.
 use Rattle.std.proofs.Common.{◌≡◌, ℕ, ◌-◌, ◌<◌, ◌≤◌, Bool, true, false, List, [], ◌∷◌, ◌++◌, length, refl, sym, ◌∙◌, ap, subst, arith, inl, inr, ◌⊎◌, Option, Some, None, Result, Ok, Err, IfOk, IfErr, cond, eqb}
-use Rattle.std.specs.List.{list_any}
+use Rattle.std.specs.Prelude.{if◌then◌else◌, ◌==◌}
+use Rattle.std.specs.List.{list_any, AllByRecursion}
+use Rattle.std.proofs.lemmas.Bool.Decides.{Decides-eqb}
+use Rattle.ga_base.specs.declared.formats.FormatItem.TheVariants.{Skip, Field}
 use Rattle.std.proofs.lemmas.Bool.{false≢true}
+use Rattle.ga_base.specs.FormatFaults.{fault_place}
 use Rattle.ga_base.specs.declared.formats.FormatItem.{FormatItem}
 use Rattle.ga_base.specs.declared.formats.FormatFault.{FormatFault}
 use Rattle.ga_base.specs.declared.formats.FormatFault.TheVariants.{UnknownSpecifier, Repeated, NoDelimiter, Missing, BadDirective, NoMemory}
 use Rattle.ga_base.specs.declared.formats.Needed.{Needed}
 use Rattle.ga_base.specs.declared.formats.Needed.TheVariants.{Host, Date, Request}
-use Rattle.ga_format.specs.Units.{FormatUnit, IsRow, item_of, items_of}
+use Rattle.ga_format.specs.Units.{FormatUnit, Plain, Tab, Specifier, ForwardedFor, IsUnit, IsRow, item_of, items_of}
 use Rattle.ga_format.specs.Parts.{runs_into, repeats, gives}
-use Rattle.ga_format.specs.FormatOf.{Lacks, HasFault, IsFormat, IsFirstFault, FormatOf, IsBefore, Precedes, place_of, rank_of}
-use Rattle.ga_format.specs.Checks.{IsWhole, IsFirstMissing}
-use Rattle.ga_format.specs.Sound.{IsSound}
+use Rattle.ga_format.specs.FormatOf.{Lacks, HasFault, IsFormat, IsFirstFault, FormatOf, IsBefore, Precedes, rank_of}
+use Rattle.ga_format.specs.Steps.Checks.{IsWhole, IsFirstMissing}
+use Rattle.ga_format.specs.Sound.{IsNamed, IsSound}
 use Rattle.ga_format.proofs.RowLemmas.{row_same, row_no_longer}
 
 -- a part that one row of the text lacks is lacking in these items
@@ -89,7 +93,7 @@ fault_of : Option ℕ → ℕ → FormatFault
 fault_of (Some at) rank = cond (eqb rank 0) (UnknownSpecifier at) (cond (eqb rank 1) (Repeated at) (cond (eqb rank 2) (NoDelimiter at) (BadDirective at)))
 fault_of None rank = cond (eqb rank 4) (Missing Host) (cond (eqb rank 5) (Missing Date) (cond (eqb rank 6) (Missing Request) NoMemory))
 
-fault_again : (f : FormatFault) → fault_of (place_of f) (rank_of f) ≡ f
+fault_again : (f : FormatFault) → fault_of (fault_place f) (rank_of f) ≡ f
 unfolding fault_of
 fault_again (UnknownSpecifier at) = refl
 fault_again (Repeated at) = refl
@@ -101,14 +105,14 @@ fault_again (Missing Request) = refl
 fault_again NoMemory = refl
 
 -- a fault is fixed by its place and its rank
-fault_same : (f g : FormatFault) → (place_of f ≡ place_of g) × (rank_of f ≡ rank_of g) → f ≡ g
-fault_same f g e = sym (fault_again f) ∙ (ap (λ (p : Option ℕ). fault_of p (rank_of f)) e.0 ∙ (ap (λ (r : ℕ). fault_of (place_of g) r) e.1 ∙ fault_again g))
+fault_same : (f g : FormatFault) → (fault_place f ≡ fault_place g) × (rank_of f ≡ rank_of g) → f ≡ g
+fault_same f g e = sym (fault_again f) ∙ (ap (λ (p : Option ℕ). fault_of p (rank_of f)) e.0 ∙ (ap (λ (r : ℕ). fault_of (fault_place g) r) e.1 ∙ fault_again g))
 
 pub one_answer : (text : List ℕ) (a b : Result (List FormatItem) FormatFault) → FormatOf text a → FormatOf text b → a ≡ b
 one_answer text (Ok xs) (Ok ys) f g = ap Ok (f.gives_items ∙ (ap items_of (row_same f.row g.row text f.whole g.whole) ∙ sym g.gives_items))
 one_answer text (Ok xs) (Err e) f g = absurd (f.faultless e g.stands)
 one_answer text (Err d) (Ok ys) f g = absurd (g.faultless d f.stands)
-one_answer text (Err d) (Err e) f g = ap Err (fault_same d e (tie (place_of d) (place_of e) (rank_of d) (rank_of e) (g.first d f.stands) (f.first e g.stands)))
+one_answer text (Err d) (Err e) f g = ap Err (fault_same d e (tie (fault_place d) (fault_place e) (rank_of d) (rank_of e) (g.first d f.stands) (f.first e g.stands)))
 
 -- a row of units is cut where its items are
 record Cut (row : List FormatUnit) (before : List FormatItem) (item : FormatItem) (after : List FormatItem) : Type 0 where
@@ -150,8 +154,24 @@ false_else : (b : Bool) → (b ≡ true → ⊥) → b ≡ false
 false_else true h = absurd (h refl)
 false_else false h = refl
 
+-- the item of a unit is one of the grammar
+unit_named : (unit : FormatUnit) (after : List ℕ) → IsUnit unit after → IsNamed (item_of unit)
+unit_named (Plain byte) after is = tt
+unit_named Tab after is = tt
+unit_named (Specifier letter) after is = skipped (letter == 126) refl
+  where
+    skipped : (b : Bool) → (letter == 126) ≡ b → IsNamed (if b then Skip else Field letter)
+    skipped true e = tt
+    skipped false e = (is, λ same. false≢true (sym e ∙ (Decides-eqb letter 126).1 same))
+unit_named (ForwardedFor separators) after is = is
+
+row_named : (row : List FormatUnit) (text after : List ℕ) → IsRow row text after → AllByRecursion IsNamed (items_of row)
+row_named [] text after is = tt
+row_named (unit ∷ units) text after (more, begins, later) = (unit_named unit more begins.is_unit, row_named units more after later)
+
 pub formats_are_sound : (text : List ℕ) (items : List FormatItem) → IsFormat text items → IsSound items
 formats_are_sound text items f = record {
+  named = subst (λ (r : List FormatItem). AllByRecursion IsNamed r) (sym f.gives_items) (row_named f.row text [] f.whole);
   needs = λ need. true_else _ (λ none. f.faultless (Missing need) (record { row = f.row; whole = f.whole; none = ap (λ (r : List FormatItem). list_any (gives need) r) (sym f.gives_items) ∙ none }));
   delimited = delimited;
   single = single;

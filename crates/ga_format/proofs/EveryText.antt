@@ -9,10 +9,11 @@ use Rattle.ga_base.specs.declared.formats.FormatFault.{FormatFault}
 use Rattle.ga_base.specs.declared.formats.FormatFault.TheVariants.{UnknownSpecifier, Repeated, NoDelimiter, Missing}
 use Rattle.ga_base.specs.declared.formats.Needed.{Needed}
 use Rattle.ga_base.specs.declared.formats.Needed.TheVariants.{Host, Date, Request}
-use Rattle.ga_format.specs.Units.{Tab, Specifier, IsUnknown, item_of, has, letters}
-use Rattle.ga_format.specs.Parts.{repeats, is_literal, gives}
+use Rattle.ga_format.specs.Specifiers.{has, letters}
+use Rattle.ga_format.specs.Units.{Tab, Specifier, IsUnknown, item_of}
+use Rattle.ga_format.specs.Parts.{repeats, gives}
 use Rattle.ga_format.specs.FormatOf.{FormatOf}
-use Rattle.ga_format.specs.Checks.{GivesUnit, Ends, IsWhole}
+use Rattle.ga_format.specs.Steps.Checks.{GivesUnit, Ends, IsWhole, is_literal}
 use Rattle.ga_format.proofs.UnitLemmas.{heads, gives_plain, gives_specifier, gives_forwarded, unknown_end, unknown_letter, unclosed, nothing_inside}
 use Rattle.ga_format.proofs.RowLemmas.{begins_shorter, row_no_longer}
 use Rattle.ga_format.proofs.Reading.{HasRead, opened, read_nothing, read_more}

@@ -1,7 +1,8 @@
 -- A text is cut into units in one way only.
 use Rattle.std.proofs.Common.{◌≡◌, ℕ, ◌<◌, ◌≤◌, Bool, true, false, List, [], ◌∷◌, ◌++◌, length, refl, sym, ◌∙◌, ap, append_assoc, subst, arith, length-append, append-nil, ◌==◌, ◌||◌, codes}
 use Rattle.std.proofs.lemmas.Bool.{false≢true, eq-eqb}
-use Rattle.ga_format.specs.Units.{FormatUnit, Plain, Tab, Specifier, ForwardedFor, has, Begins, IsRow}
+use Rattle.ga_format.specs.Specifiers.{has}
+use Rattle.ga_format.specs.Units.{FormatUnit, Plain, Tab, Specifier, ForwardedFor, Begins, IsRow}
 use Rattle.ga_format.proofs.UnitLemmas.{heads, apart}
 
 -- two bytes strings without `}` before a `}` are one

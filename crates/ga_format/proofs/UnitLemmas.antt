@@ -13,8 +13,9 @@ use Rattle.std.proofs.lemmas.Bool.Decides.{Decides-eqb}
 use Rattle.std.specs.Cmp.Lexicographic.{pointwise}
 use Rattle.ga_base.specs.declared.formats.FormatItem.{FormatItem}
 use Rattle.ga_base.specs.declared.formats.FormatItem.TheVariants.{Literal, Forwarded}
-use Rattle.ga_format.specs.Checks.{GivesUnit}
-use Rattle.ga_format.specs.Units.{FormatUnit, Plain, Tab, Specifier, ForwardedFor, item_of, has, letters, Begins, IsUnknown}
+use Rattle.ga_format.specs.Steps.Checks.{GivesUnit}
+use Rattle.ga_format.specs.Specifiers.{has, letters}
+use Rattle.ga_format.specs.Units.{FormatUnit, Plain, Tab, Specifier, ForwardedFor, item_of, Begins, IsUnknown}
 
 -- what `strip_prefix` says where it finds nothing
 pub not_front : (s p : List ℕ) → pointwise nat_eq (take (length p) s) p ≡ false → (rest : List ℕ) → s ≢ p ++ rest

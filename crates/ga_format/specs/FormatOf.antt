@@ -1,6 +1,7 @@
 -- What a format text means: its items, or its first fault.
 use Rattle.std.specs.Prelude.{◌≡◌, ◌+◌, ◌<◌, ℕ, true, false, List, [], length, ◌⊎◌, Option, Some, None, Result, Ok, Err}
 use Rattle.std.specs.List.{list_any}
+use Rattle.ga_base.specs.FormatFaults.{fault_place}
 use Rattle.ga_base.specs.declared.formats.FormatItem.{FormatItem}
 use Rattle.ga_base.specs.declared.formats.FormatFault.{FormatFault}
 use Rattle.ga_base.specs.declared.formats.FormatFault.TheVariants.{UnknownSpecifier, Repeated, NoDelimiter, Missing, BadDirective, NoMemory}
@@ -59,15 +60,6 @@ HasFault text (Missing need) = Lacks text need
 HasFault text (BadDirective at) = ⊥
 HasFault text NoMemory = ⊥
 
--- the place of a fault, which what is missing has not
-abbrev pub place_of : FormatFault → Option ℕ
-place_of (UnknownSpecifier at) = Some at
-place_of (Repeated at) = Some at
-place_of (NoDelimiter at) = Some at
-place_of (Missing need) = None
-place_of (BadDirective at) = Some at
-place_of NoMemory = None
-
 -- the order of the faults at one place, and of what is missing
 abbrev pub rank_of : FormatFault → ℕ
 rank_of (UnknownSpecifier at) = 0
@@ -87,7 +79,7 @@ IsBefore None i (Some b) j = ⊥
 IsBefore None i None j = i < j
 
 abbrev pub Precedes : FormatFault → FormatFault → Type 0
-Precedes fault other = IsBefore (place_of fault) (rank_of fault) (place_of other) (rank_of other)
+Precedes fault other = IsBefore (fault_place fault) (rank_of fault) (fault_place other) (rank_of other)
 
 -- the text is a row of units with these items, and nothing is wrong with it
 pub record IsFormat (text : List ℕ) (items : List FormatItem) : Type 0 where

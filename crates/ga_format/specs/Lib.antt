@@ -1,6 +1,7 @@
+pub mod Specifiers
 pub mod Units
 pub mod Parts
 pub mod FormatOf
 pub mod Sound
-pub mod Checks
 pub mod Named
+pub mod Steps

@@ -1,11 +1,11 @@
 -- What the items of a format are to one another, and what they give.
-use Rattle.std.specs.Prelude.{◌==◌, ◌&&◌, ◌||◌, ℕ, Bool, true, false, not, codes, List}
+use Rattle.std.specs.Prelude.{ℕ, Bool, true, false, codes, List, []}
 use Rattle.std.specs.List.{list_any}
 use Rattle.ga_base.specs.declared.formats.FormatItem.{FormatItem}
 use Rattle.ga_base.specs.declared.formats.FormatItem.TheVariants.{Literal, Skip, Field, Forwarded}
 use Rattle.ga_base.specs.declared.formats.Needed.{Needed}
 use Rattle.ga_base.specs.declared.formats.Needed.TheVariants.{Host, Date, Request}
-use Rattle.ga_format.specs.Units.{has}
+use Rattle.ga_format.specs.Specifiers.{has, kinds_of_letter}
 
 -- all specifiers are fields but `%~`
 abbrev pub is_field : FormatItem → Bool
@@ -21,48 +21,31 @@ runs_into item Skip = is_field item
 runs_into item (Field letter) = is_field item
 runs_into item (Forwarded separators) = is_field item
 
--- whether the byte of a literal has to come next
-abbrev pub is_literal : FormatItem → Bool
-is_literal (Literal byte) = true
-is_literal Skip = false
-is_literal (Field letter) = false
-is_literal (Forwarded separators) = false
+-- the kinds of field that an item gives; `~h{C}` gives the host, as `%h` does
+abbrev pub kinds_of : FormatItem → List ℕ
+kinds_of (Literal byte) = []
+kinds_of Skip = []
+kinds_of (Field letter) = kinds_of_letter letter
+kinds_of (Forwarded separators) = codes "h"
 
--- what may stand any number of times: literals, `%~`, `%^`, `%D`, `%T` and `%L`
-abbrev pub may_repeat : FormatItem → Bool
-may_repeat (Literal byte) = true
-may_repeat Skip = true
-may_repeat (Field letter) = has letter (codes "^DTL")
-may_repeat (Forwarded separators) = false
+-- whether the two have a kind in common
+abbrev pub share : List ℕ → List ℕ → Bool
+share kinds others = list_any (λ kind. has kind others) kinds
 
--- `%x` (120) gives what `%d` and `%t` give, and `%r` (114) what `%m`, `%U`, `%q` and `%H` give
-abbrev pub gives_part : ℕ → ℕ → Bool
-gives_part whole part = (whole == 120 && has part (codes "dt")) || (whole == 114 && has part (codes "mUqH"))
-
--- whether two items are of one kind, or one gives a part of the other, or both give the host, as `%h` (104) and `~h{C}` do
+-- two items overlap where they share a kind of field
 abbrev pub overlap : FormatItem → FormatItem → Bool
-overlap (Field a) (Field b) = a == b || (gives_part a b || gives_part b a)
-overlap (Field a) (Forwarded separators) = a == 104
-overlap (Forwarded separators) (Field b) = b == 104
-overlap (Forwarded separators) (Forwarded others) = true
-overlap (Field a) (Literal byte) = false
-overlap (Field a) Skip = false
-overlap (Forwarded separators) (Literal byte) = false
-overlap (Forwarded separators) Skip = false
-overlap (Literal byte) item = false
-overlap Skip item = false
+overlap item other = share (kinds_of item) (kinds_of other)
 
--- the item may not stand behind these
+-- the item may not stand behind these, since it gives what one of them gives
 abbrev pub repeats : List FormatItem → FormatItem → Bool
-repeats earlier item = not (may_repeat item) && list_any (λ e. overlap e item) earlier
+repeats earlier item = list_any (overlap item) earlier
 
--- the items that give what every format needs: `%h` and `~h{C}`, `%d` and `%x`, `%r` and `%U`
+-- what every format needs, as a kind of field: the client's address, the day and the URL
+abbrev pub needed_kind : Needed → List ℕ
+needed_kind Host = codes "h"
+needed_kind Date = codes "d"
+needed_kind Request = codes "U"
+
+-- whether the item gives what is needed: `%h` and `~h{C}`, `%d` and `%x`, `%r` and `%U` do
 abbrev pub gives : Needed → FormatItem → Bool
-gives Host (Field letter) = has letter (codes "h")
-gives Date (Field letter) = has letter (codes "dx")
-gives Request (Field letter) = has letter (codes "rU")
-gives Host (Forwarded separators) = true
-gives Date (Forwarded separators) = false
-gives Request (Forwarded separators) = false
-gives need (Literal byte) = false
-gives need Skip = false
+gives need item = share (needed_kind need) (kinds_of item)

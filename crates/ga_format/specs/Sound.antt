@@ -1,11 +1,22 @@
 -- What holds of the items of every format.
-use Rattle.std.specs.Prelude.{◌≡◌, true, false, List, ◌∷◌, ◌++◌}
-use Rattle.std.specs.List.{list_any}
+use Rattle.std.specs.Prelude.{◌≡◌, ◌≢◌, true, false, List, [], ◌∷◌, ◌++◌}
+use Rattle.std.specs.List.{list_any, AllByRecursion}
 use Rattle.ga_base.specs.declared.formats.FormatItem.{FormatItem}
+use Rattle.ga_base.specs.declared.formats.FormatItem.TheVariants.{Literal, Skip, Field, Forwarded}
 use Rattle.ga_base.specs.declared.formats.Needed.{Needed}
+use Rattle.ga_format.specs.Specifiers.{has, letters}
 use Rattle.ga_format.specs.Parts.{runs_into, repeats, gives}
 
+-- the item is one of the grammar: a field's letter is a specifier's, and separators hold a byte and no `}` (125)
+abbrev pub IsNamed : FormatItem → Type 0
+IsNamed (Literal byte) = Unit {0}
+IsNamed Skip = Unit {0}
+IsNamed (Field letter) = (has letter letters ≡ true) × (letter ≢ 126)
+IsNamed (Forwarded separators) = (separators ≢ []) × (has 125 separators ≡ false)
+
 pub record IsSound (items : List FormatItem) : Type 0 where
+  -- each item is one of the grammar
+  pub named : AllByRecursion IsNamed items
   -- a host, a date and a request are among the items
   pub needs : (need : Needed) → list_any (gives need) items ≡ true
   -- no field stands directly before a field or `%~`

@@ -1,6 +1,6 @@
 -- The grammar of a format text: it is a row of units, one behind the other.
-use Rattle.std.specs.Prelude.{◌≡◌, ◌≢◌, ◌==◌, ℕ, Bool, true, false, if◌then◌else◌, List, [], ◌∷◌, ◌++◌, map, codes, ◌⊎◌}
-use Rattle.std.specs.List.{list_any}
+use Rattle.std.specs.Prelude.{◌≡◌, ◌≢◌, ◌==◌, ℕ, true, false, if◌then◌else◌, List, [], ◌∷◌, ◌++◌, map, codes, ◌⊎◌}
+use Rattle.ga_format.specs.Specifiers.{has, letters}
 use Rattle.ga_base.specs.declared.formats.FormatItem.{FormatItem}
 use Rattle.ga_base.specs.declared.formats.FormatItem.TheVariants.{Literal, Skip, Field, Forwarded}
 
@@ -27,22 +27,6 @@ item_of (ForwardedFor separators) = Forwarded separators
 
 abbrev pub items_of : List FormatUnit → List FormatItem
 items_of = map item_of
-
--- whether the byte is among these
-abbrev pub has : ℕ → List ℕ → Bool
-has byte bytes = list_any (λ b. b == byte) bytes
-
--- the letters that may follow a percent sign
-abbrev pub letters : List ℕ
-letters =
-    codes "xtd"  -- date and time, time, date
-    ++ codes "veC"  -- virtual host, remote user, cache status
-    ++ codes "h"  -- client address
-    ++ codes "rmUqH"  -- request line, method, URL path, query string, protocol
-    ++ codes "sbRu"  -- status, size, referrer, user agent
-    ++ codes "KM"  -- TLS settings, MIME type
-    ++ codes "DTL"  -- microseconds, seconds with decimals, milliseconds with decimals
-    ++ codes "^~"  -- a field that is ignored, white space that is passed over
 
 -- the text has these bytes at its front
 abbrev pub StartsWith : List ℕ → List ℕ → Type 0

@@ -2,7 +2,7 @@ ghost use Rattle.std.specs.Prelude.{◌≡◌, ◌⊎◌, false, List, Result, O
 ghost use Rattle.ga_base.specs.declared.formats.FormatItem.{FormatItem};
 ghost use Rattle.ga_base.specs.declared.formats.FormatFault.{FormatFault};
 ghost use Rattle.ga_format.specs.FormatOf.{FormatOf, IsFirstFault};
-ghost use Rattle.ga_format.specs.Checks.{Ends, IsRefused, IsWhole};
+ghost use Rattle.ga_format.specs.Steps.Checks.{Ends, IsRefused, IsWhole};
 ghost use Rattle.ga_format.specs.Parts.{repeats};
 
 use crate::format::Format;

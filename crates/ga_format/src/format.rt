@@ -1,7 +1,6 @@
 ghost use Rattle.std.specs.Prelude.{◌≡◌};
 
 use ga_base::FormatItem;
-use std::alloc::AllocError;
 use std::marker::Model;
 
 /// A log format. Contracts see the list of its items.
@@ -40,15 +39,5 @@ impl Format {
         ensures sound { IsSound self.now }
     {
         &self.inner
-    }
-}
-
-impl Clone for Format {
-    ghost is_clone = { λ s t. t ≡ s };
-
-    fn clone(&self) -> Result<Format, AllocError> {
-        Ok(Format {
-            inner: self.inner.clone()?,
-        })
     }
 }

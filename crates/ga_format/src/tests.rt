@@ -1,226 +1,120 @@
-use crate::{COMBINED, COMMON, Format, VCOMBINED, VCOMMON, compile, format_text};
-use ga_base::{Bytes, FormatFault, FormatItem, Needed, Text};
+use crate::{compile, format_text};
+use ga_base::{FormatItem, Text};
 use std::alloc::Global;
 use std::test::Fail;
 
-fn compiled(alloc: Global, text: &str) -> Result<Result<Format, FormatFault>, Fail> {
-    let text = Text::of(alloc, text)?;
-    Ok(compile(alloc, &text))
-}
-
-const UNKNOWN: [(&str, u64); 14] = [
-    ("%", 0),
-    ("%%", 0),
-    ("%z", 0),
-    ("%h%z", 2),
-    ("%h %d %r%", 8),
-    ("%h %d %r %N", 9),
-    ("~h{", 0),
-    ("~h{,", 0),
-    ("~h{}", 0),
-    ("~h{}}", 0),
-    ("a~h{}}", 1),
-    ("~h{,}%z", 5),
-    ("~h{%h} \\t%", 9),
-    ("%z%h%h %h", 0),
-];
+/// A row a line: a format text, and its items or its first fault. An item is shown as the literal byte, `<tab>`, `<x>`
+/// for a field `%x`, `<~>`, or `<h,>` for `~h{,}`.
+const FORMATS: &str = r#"%|byte 0: unknown specifier
+%%|byte 0: unknown specifier
+%z|byte 0: unknown specifier
+%h%z|byte 2: unknown specifier
+%h %d %r%|byte 8: unknown specifier
+%h %d %r %N|byte 9: unknown specifier
+~h{|byte 0: unknown specifier
+~h{,|byte 0: unknown specifier
+~h{}|byte 0: unknown specifier
+~h{}}|byte 0: unknown specifier
+a~h{}}|byte 1: unknown specifier
+~h{,}%z|byte 5: unknown specifier
+~h{%h} \t%|byte 9: unknown specifier
+%z%h%h %h|byte 0: unknown specifier
+%x %d|byte 3: repeated
+%d %x|byte 3: repeated
+%x %t|byte 3: repeated
+%t %x|byte 3: repeated
+%r %m|byte 3: repeated
+%m %r|byte 3: repeated
+%r %U|byte 3: repeated
+%U %r|byte 3: repeated
+%r %q|byte 3: repeated
+%q %r|byte 3: repeated
+%r %H|byte 3: repeated
+%H %r|byte 3: repeated
+%h ~h{,}|byte 3: repeated
+~h{,} %h|byte 6: repeated
+~h{,} ~h{;}|byte 6: repeated
+~h{%h} %h|byte 7: repeated
+%h %h%d|byte 3: repeated
+%h %h%z|byte 3: repeated
+%b %s %b|byte 6: repeated
+%d\t%t %d|byte 7: repeated
+%v a %e %C %v|byte 11: repeated
+%R %u %K %M %R|byte 12: repeated
+%^ %~%^ %D %D %T %T %L %L %u %u|byte 29: repeated
+%h%d "%r"|byte 0: no delimiter
+%h%h|byte 0: no delimiter
+%h%h%z|byte 0: no delimiter
+%^%~|byte 0: no delimiter
+%h%~ %d %r|byte 0: no delimiter
+~h{,}%d %r|byte 0: no delimiter
+%d~h{,} %r|byte 0: no delimiter
+\t%h%d|byte 2: no delimiter
+%h %d %^%^ %h|byte 6: no delimiter
+|no host
+common|no host
+%r %d|no host
+%v|no host
+~x|no host
+%h|no date
+%h "%r"|no date
+%h %t %U|no date
+~h{,} %x|no request
+%h %d %m %q %H|no request
+%h %d %r|<h> <d> <r>
+~h{, } %x %U|<h, > <x> <U>
+%~%h %d %r|<~><h> <d> <r>
+%~%~%^ %^ %h %d %U %D %D %T %T %L %L|<~><~><^> <^> <h> <d> <U> <D> <D> <T> <T> <L> <L>
+%h %d %t %m %U %q %H|<h> <d> <t> <m> <U> <q> <H>
+~h %h ~{%d} %r|~h <h> ~{<d>} <r>
+\%h\n%d\t%r|\<h>\n<d><tab><r>
+~h{\t%{} %d %r|<h\t%{> <d> <r>
+COMMON|<h> <^>[<d>:<t> <^>] "<r>" <s> <b>
+COMBINED|<h> <^>[<d>:<t> <^>] "<r>" <s> <b> "<R>" "<u>"
+VCOMMON|<v>:<^> <h> <^>[<d>:<t> <^>] "<r>" <s> <b>
+VCOMBINED|<v>:<^> <h> <^>[<d>:<t> <^>] "<r>" <s> <b> "<R>" "<u>"
+common %h %d %r|common <h> <d> <r>"#;
 
 #[test]
-fn unknown_specifiers_are_told_by_place(rt: HostRuntime) -> Result<(), Fail> {
-    for (text, at) in UNKNOWN {
-        let fault = compiled(rt.alloc(), text)?.err();
-        assert_eq!(rt; fault, Some(FormatFault::UnknownSpecifier { at }), "{text}");
+fn formats_mean_their_items_or_their_first_fault(rt: HostRuntime) -> Result<(), Fail> {
+    let alloc = rt.alloc();
+    for row in FORMATS.lines() {
+        let (word, want) = row.split_once('|').expect(&rt, "a format");
+        let text = Text::of(alloc, format_text(word))?;
+        let said = match compile(alloc, &text) {
+            Ok(format) => shown(alloc, format.items())?,
+            Err(fault) => format!(in alloc; "{fault}")?,
+        };
+        assert_eq!(rt; said.as_str(), want, "{row}");
     }
     Ok(())
 }
 
-const REPEATED: [(&str, u64); 23] = [
-    ("%x %d", 3),
-    ("%d %x", 3),
-    ("%x %t", 3),
-    ("%t %x", 3),
-    ("%r %m", 3),
-    ("%m %r", 3),
-    ("%r %U", 3),
-    ("%U %r", 3),
-    ("%r %q", 3),
-    ("%q %r", 3),
-    ("%r %H", 3),
-    ("%H %r", 3),
-    ("%h ~h{,}", 3),
-    ("~h{,} %h", 6),
-    ("~h{,} ~h{;}", 6),
-    ("~h{%h} %h", 7),
-    ("%h %h%d", 3),
-    ("%h %h%z", 3),
-    ("%b %s %b", 6),
-    ("%d\\t%t %d", 7),
-    ("%v a %e %C %v", 11),
-    ("%R %u %K %M %R", 12),
-    ("%^ %~%^ %D %D %T %T %L %L %u %u", 29),
-];
+fn shown(alloc: Global, items: &[FormatItem]) -> Result<String, Fail> {
+    let mut text = String::new(alloc);
+    for item in items {
+        show(&mut text, item)?;
+    }
+    Ok(text)
+}
 
-#[test]
-fn repetitions_are_told_by_place(rt: HostRuntime) -> Result<(), Fail> {
-    for (text, at) in REPEATED {
-        let fault = compiled(rt.alloc(), text)?.err();
-        assert_eq!(rt; fault, Some(FormatFault::Repeated { at }), "{text}");
+fn show(text: &mut String, item: &FormatItem) -> Result<(), Fail> {
+    match item {
+        FormatItem::Literal(b'\t') => text.push_str("<tab>")?,
+        FormatItem::Literal(byte) => text.push(char::from(*byte))?,
+        FormatItem::Skip => text.push_str("<~>")?,
+        FormatItem::Field(letter) => {
+            text.push('<')?;
+            text.push(char::from(*letter))?;
+            text.push('>')?;
+        }
+        FormatItem::Forwarded(separators) => {
+            text.push_str("<h")?;
+            for byte in separators.bytes() {
+                text.push(char::from(*byte))?;
+            }
+            text.push('>')?;
+        }
     }
     Ok(())
-}
-
-const UNDELIMITED: [(&str, u64); 9] = [
-    ("%h%d \"%r\"", 0),
-    ("%h%h", 0),
-    ("%h%h%z", 0),
-    ("%^%~", 0),
-    ("%h%~ %d %r", 0),
-    ("~h{,}%d %r", 0),
-    ("%d~h{,} %r", 0),
-    ("\\t%h%d", 2),
-    ("%h %d %^%^ %h", 6),
-];
-
-#[test]
-fn fields_that_run_into_the_next_are_told_by_place(rt: HostRuntime) -> Result<(), Fail> {
-    for (text, at) in UNDELIMITED {
-        let fault = compiled(rt.alloc(), text)?.err();
-        assert_eq!(rt; fault, Some(FormatFault::NoDelimiter { at }), "{text}");
-    }
-    Ok(())
-}
-
-const MISSING: [(&str, Needed); 10] = [
-    ("", Needed::Host),
-    ("common", Needed::Host),
-    ("%r %d", Needed::Host),
-    ("%v", Needed::Host),
-    ("~x", Needed::Host),
-    ("%h", Needed::Date),
-    ("%h \"%r\"", Needed::Date),
-    ("%h %t %U", Needed::Date),
-    ("~h{,} %x", Needed::Request),
-    ("%h %d %m %q %H", Needed::Request),
-];
-
-#[test]
-fn the_first_missing_part_is_told(rt: HostRuntime) -> Result<(), Fail> {
-    for (text, field) in MISSING {
-        let fault = compiled(rt.alloc(), text)?.err();
-        assert_eq!(rt; fault, Some(FormatFault::Missing { field }), "{text}");
-    }
-    let literals =
-        "aaaaaaaaaaaaaaaaaaaaaaaaaaaaaaaaaaaaaaaaaaaaaaaaaaaaaaaaaaaaaaaaaaaaaaaaaaaaaaaaaaaaaaaaaaaaaaaaaaaa";
-    let fault = compiled(rt.alloc(), literals)?.err();
-    assert_eq!(rt;
-        fault,
-        Some(FormatFault::Missing {
-            field: Needed::Host
-        })
-    );
-    Ok(())
-}
-
-const GOOD: [&str; 8] = [
-    "%h %d %r",
-    "~h{, } %x %U",
-    "%~%h %d %r",
-    "%~%~%^ %^ %h %d %U %D %D %T %T %L %L",
-    "%h %d %t %m %U %q %H",
-    "~h %h ~{%d} %r",
-    "\\%h\\n%d\\t%r",
-    "~h{\\t%{} %d %r}",
-];
-
-#[test]
-fn what_may_repeat_and_what_is_no_specifier_is_taken(rt: HostRuntime) -> Result<(), Fail> {
-    for text in GOOD {
-        let fault = compiled(rt.alloc(), text)?.err();
-        assert_eq!(rt; fault, None, "{text}");
-    }
-    Ok(())
-}
-
-#[test]
-fn items_are_what_the_text_says(rt: HostRuntime) -> Result<(), Fail> {
-    let format = compiled(rt.alloc(), "\\t~h{\\t} %~%x~%U")?.expect(&rt, "a format");
-    let items = [
-        FormatItem::Literal(b'\t'),
-        FormatItem::Forwarded(Bytes::of(rt.alloc(), b"\\t")?),
-        FormatItem::Literal(b' '),
-        FormatItem::Skip,
-        FormatItem::Field(b'x'),
-        FormatItem::Literal(b'~'),
-        FormatItem::Field(b'U'),
-    ];
-    assert_eq!(rt; format.items(), items.as_slice());
-    assert_eq!(rt; format.clone()?.items(), items.as_slice());
-    Ok(())
-}
-
-#[test]
-fn combined_is_common_and_two_more(rt: HostRuntime) -> Result<(), Fail> {
-    use FormatItem::{Field, Literal};
-    let items = [
-        Field(b'h'),
-        Literal(b' '),
-        Field(b'^'),
-        Literal(b'['),
-        Field(b'd'),
-        Literal(b':'),
-        Field(b't'),
-        Literal(b' '),
-        Field(b'^'),
-        Literal(b']'),
-        Literal(b' '),
-        Literal(b'"'),
-        Field(b'r'),
-        Literal(b'"'),
-        Literal(b' '),
-        Field(b's'),
-        Literal(b' '),
-        Field(b'b'),
-        Literal(b' '),
-        Literal(b'"'),
-        Field(b'R'),
-        Literal(b'"'),
-        Literal(b' '),
-        Literal(b'"'),
-        Field(b'u'),
-        Literal(b'"'),
-    ];
-    let combined = compiled(rt.alloc(), COMBINED)?.expect(&rt, "a format");
-    assert_eq!(rt; combined.items(), items.as_slice());
-    let common = compiled(rt.alloc(), COMMON)?.expect(&rt, "a format");
-    assert_eq!(rt; common.items(), &items[..18]);
-    Ok(())
-}
-
-#[test]
-fn with_the_virtual_host_in_front(rt: HostRuntime) -> Result<(), Fail> {
-    let front = [
-        FormatItem::Field(b'v'),
-        FormatItem::Literal(b':'),
-        FormatItem::Field(b'^'),
-        FormatItem::Literal(b' '),
-    ];
-    for (text, plain) in [(VCOMMON, COMMON), (VCOMBINED, COMBINED)] {
-        let format = compiled(rt.alloc(), text)?.expect(&rt, "a format");
-        let rest = compiled(rt.alloc(), plain)?.expect(&rt, "a format");
-        assert_eq!(rt;
-            format.items().strip_prefix(front.as_slice()),
-            Some(rest.items())
-        );
-    }
-    Ok(())
-}
-
-#[test]
-fn four_words_are_names(rt: HostRuntime) {
-    assert_eq!(rt; format_text("COMMON"), COMMON);
-    assert_eq!(rt; format_text("COMBINED"), COMBINED);
-    assert_eq!(rt; format_text("VCOMMON"), VCOMMON);
-    assert_eq!(rt; format_text("VCOMBINED"), VCOMBINED);
-    assert_eq!(rt; format_text("Common"), "Common");
-    assert_eq!(rt; COMMON, "%h %^[%d:%t %^] \"%r\" %s %b");
 }

@@ -1,7 +1,7 @@
 ghost use Rattle.std.specs.Prelude.{◌≡◌, ◌≢◌, ◌⊎◌, [], ◌++◌, ◌==◌, codes, position, IfOk, IfErr};
 ghost use Rattle.ga_base.specs.declared.formats.FormatFault.{FormatFault};
 ghost use Rattle.ga_format.specs.Units.{FormatUnit, IsUnknown, item_of};
-ghost use Rattle.ga_format.specs.Checks.{GivesUnit};
+ghost use Rattle.ga_format.specs.Steps.Checks.{GivesUnit};
 
 use ga_base::{Bytes, FormatFault, FormatItem};
 use std::alloc::Global;
@@ -10,7 +10,11 @@ use std::alloc::Global;
 const LETTERS: &[u8] = b"xtdveChrmUqHsbRuKMDTL^~";
 
 /// Reads the unit at the front of a text that isn't empty: its item, and the text after it. `at` is its place.
-pub fn read_unit(alloc: Global, text: &[u8], at: u64) -> Result<(FormatItem, &[u8]), FormatFault>
+pub(crate) fn read_unit(
+    alloc: Global,
+    text: &[u8],
+    at: u64,
+) -> Result<(FormatItem, &[u8]), FormatFault>
     requires { text.now ≢ [] }
     ensures unit { IfOk result (λ read. GivesUnit text.now read.0 read.1.now) }
     ensures fault { IfErr result (λ fault. (fault ≡ FormatFault.NoMemory) ⊎ ((fault ≡ FormatFault.UnknownSpecifier at) × IsUnknown text.now)) }

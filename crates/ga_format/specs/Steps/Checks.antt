@@ -1,13 +1,14 @@
 -- What the steps of the compiler promise to one another.
-use Rattle.std.specs.Prelude.{◌≡◌, ℕ, true, false, List, [], Option, Some, None}
+use Rattle.std.specs.Prelude.{◌≡◌, ℕ, Bool, true, false, List, [], Option, Some, None}
 use Rattle.std.specs.List.{list_any}
 use Rattle.ga_base.specs.declared.formats.FormatItem.{FormatItem}
+use Rattle.ga_base.specs.declared.formats.FormatItem.TheVariants.{Literal, Skip, Field, Forwarded}
 use Rattle.ga_base.specs.declared.formats.FormatFault.{FormatFault}
 use Rattle.ga_base.specs.declared.formats.FormatFault.TheVariants.{UnknownSpecifier, Repeated, NoDelimiter, Missing, BadDirective, NoMemory}
 use Rattle.ga_base.specs.declared.formats.Needed.{Needed}
 use Rattle.ga_base.specs.declared.formats.Needed.TheVariants.{Host, Date, Request}
 use Rattle.ga_format.specs.Units.{FormatUnit, Begins, IsRow, item_of, items_of}
-use Rattle.ga_format.specs.Parts.{is_literal, repeats, gives}
+use Rattle.ga_format.specs.Parts.{repeats, gives}
 use Rattle.ga_format.specs.FormatOf.{HasUnknown, HasRepeated, HasUndelimited}
 
 -- the unit at the front of the text gives this item, and these bytes come after it
@@ -21,6 +22,13 @@ abbrev pub IsFirstMissing : List FormatItem → Needed → Type 0
 IsFirstMissing items Host = list_any (gives Host) items ≡ false
 IsFirstMissing items Date = (list_any (gives Host) items ≡ true) × (list_any (gives Date) items ≡ false)
 IsFirstMissing items Request = (list_any (gives Host) items ≡ true) × (list_any (gives Date) items ≡ true) × (list_any (gives Request) items ≡ false)
+
+-- whether the item is a literal, whose byte has to come next
+abbrev pub is_literal : FormatItem → Bool
+is_literal (Literal byte) = true
+is_literal Skip = false
+is_literal (Field letter) = false
+is_literal (Forwarded separators) = false
 
 -- the item may come next: where a field has to end here, it is a literal
 abbrev pub Ends : Option ℕ → FormatItem → Type 0
