@@ -4,7 +4,7 @@ use Rattle.std.specs.Prelude.{decimal}
 use Rattle.std.specs.Int.Digits.{digits_of}
 use Rattle.std.proofs.lemmas.Int.Digits.{digits_of_step}
 use Rattle.std.proofs.lemmas.Fmt.{decimal-digits_of}
-use Rattle.ga_panels.specs.Form.{HasEightDigits, eight_digits}
+use Rattle.ga_base.specs.Days.{HasEightDigits, eight_digits}
 
 last_digit : (m q : ℕ) (front : List ℕ) → 0 < m → m / 10 ≡ q → digits_of 10 q ≡ front → digits_of 10 m ≡ front ++ (m % 10 ∷ [])
 last_digit m q front some tenth e = digits_of_step 10 m (omega arith) some ∙ ap (λ ds. ds ++ (m % 10 ∷ [])) (ap (digits_of 10) tenth ∙ e)

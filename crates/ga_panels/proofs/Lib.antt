@@ -1,2 +1,2 @@
-pub mod Digits
-pub mod DayKeys
+mod DayKeys
+mod Digits

@@ -1,6 +1,7 @@
 -- The panels' table, which says under which keys a record is counted. What counts is the set of those keys. They
 -- are listed in rising order, since the rows stand in the panels' order and a group comes before its entries.
-use Rattle.std.specs.Prelude.{ℕ, Bool, true, if◌then◌else◌, List, [], ◌∷◌, ◌++◌, flat_map, decimal}
+use Rattle.std.specs.Prelude.{ℕ, Bool, true, if◌then◌else◌, List, [], ◌∷◌, ◌++◌, flat_map}
+use Rattle.ga_base.specs.Days.{eight_digits}
 use Rattle.ga_base.specs.declared.key.Key.{Key}
 use Rattle.ga_base.specs.declared.record.Record.{Record}
 use Rattle.ga_base.specs.declared.panel.Panel.{Panel}
@@ -16,7 +17,7 @@ pub record PanelRow : Type 0 where
 
 abbrev pub table : Record → List PanelRow
 table rec =
-    record { panel = Visitors; has_key = true; parent = []; label = decimal rec.date } ∷
+    record { panel = Visitors; has_key = true; parent = []; label = eight_digits rec.date } ∷
     record { panel = Hosts; has_key = true; parent = []; label = rec.host } ∷
     []
 

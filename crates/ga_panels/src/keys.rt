@@ -1,5 +1,6 @@
-ghost use Rattle.std.specs.Prelude.{◌≡◌, ◌∷◌, [], IfOk, decimal};
-ghost use Rattle.ga_panels.specs.Form.{HasEightDigits, AreKeysOfDay};
+ghost use Rattle.std.specs.Prelude.{◌≡◌, ◌∷◌, [], IfOk};
+ghost use Rattle.ga_base.specs.Days.{HasEightDigits, eight_digits};
+ghost use Rattle.ga_panels.specs.Form.{AreKeysOfDay};
 ghost use Rattle.ga_panels.specs.Table.{table_keys};
 
 use ga_base::{Key, Keys, NoMemory, Panel, Record, Text};
@@ -13,29 +14,30 @@ pub fn keys_of(alloc: Global, rec: &Record) -> Result<Keys, NoMemory>
 {
     let mut keys = Keys::new(alloc);
     let day = day_text(alloc, rec.date)?;
-    let host = Text::of(alloc, rec.host.as_str())?;
-    keys.push(entry(alloc, Panel::Visitors, rec.date, day))?;
-    keys.push(entry(alloc, Panel::Hosts, rec.date, host))?;
+    let host = rec.host.clone()?;
+    keys.push(entry(Panel::Visitors, rec.date, day))?;
+    keys.push(entry(Panel::Hosts, rec.date, host))?;
     Ok(keys)
 }
 
 /// The key of an entry in a panel without groups.
-fn entry(alloc: Global, panel: Panel, date: u32, label: Text) -> Key
+fn entry(panel: Panel, date: u32, label: Text) -> Key
     ensures { result ≡ record { panel = panel; date = date; parent = []; label = label; method = []; protocol = [] } }
 {
     Key {
         panel,
         date,
-        parent: Text::new(alloc),
+        parent: Text::new(),
         label,
-        method: Text::new(alloc),
-        protocol: Text::new(alloc),
+        method: Text::new(),
+        protocol: Text::new(),
     }
 }
 
-/// The digits of a day.
+/// The eight digits of a day.
 fn day_text(alloc: Global, date: u32) -> Result<Text, NoMemory>
-    ensures { IfOk result (λ text. text ≡ decimal date) }
+    requires { HasEightDigits date }
+    ensures { IfOk result (λ text. text ≡ eight_digits date) }
 {
-    Ok(Text::from(date.to_string(alloc)?))
+    Text::from_string(alloc, date.to_string(alloc)?)
 }

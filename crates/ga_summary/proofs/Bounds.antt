@@ -10,16 +10,17 @@ use Rattle.ga_base.specs.declared.counts.TheConstants.{LIMIT}
 use Rattle.ga_base.specs.declared.key.Key.{Key}
 use Rattle.ga_base.specs.declared.panel.Panel.{Panel}
 use Rattle.ga_base.specs.declared.panel.Panel.TheVariants.{Visitors}
-use Rattle.ga_base.specs.contracts.panel.PanelEq.TheImpl.Laws.{laws-law}
 use Rattle.ga_summary.specs.declared.entry.Entry.{Entry}
-use Rattle.ga_summary.specs.Order.{name_cmp, is_same_key}
+use Rattle.ga_base.specs.Orders.{name_cmp, is_same_key}
 use Rattle.ga_summary.specs.Rows.{Row, SummaryValue, IsInOrder, row_at, sums_at, no_sums}
-use Rattle.ga_summary.specs.Entries.{rows_of, row_of}
-use Rattle.ga_summary.specs.Room.{entry_at, HasRoom, HasPlace, AllHaveRoom, AllHavePlace}
-use Rattle.ga_summary.specs.Sound.{IsSound, day_key, Layer, in_layer, is_same_panel, is_flag, is_empty}
+use Rattle.ga_summary.specs.Steps.Entries.{rows_of, row_of}
+use Rattle.ga_summary.specs.Steps.Room.{entry_at, HasRoom, HasPlace, AllHaveRoom, AllHavePlace}
+use Rattle.ga_summary.specs.Sound.{IsSound}
+use Rattle.ga_base.specs.Layers.{day_key, Layer, in_layer, is_flag, is_empty}
+use Rattle.ga_base.specs.Panels.{is_same_panel, panel_number}
 use Rattle.ga_summary.proofs.Merging.{sum_by-filter, all-row_at}
 use Rattle.ga_summary.proofs.Put.{equal_from_is_eq, find-map}
-use Rattle.ga_summary.proofs.Orders.{key_cmp_exact}
+use Rattle.ga_base.proofs.OrderLemmas.{key_cmp_exact}
 
 -- sums at most the limit
 pub record AreSmall (sums : Sums) : Type 0 where
@@ -29,7 +30,7 @@ pub record AreSmall (sums : Sums) : Type 0 where
 
 pub is_same_panel-itself : (panel : Panel) → is_same_panel panel panel ≡ true
 unfolding is_same_panel
-is_same_panel-itself panel = laws-law.refl panel
+is_same_panel-itself panel = eq-eqb (panel_number panel) (panel_number panel) refl
 
 is_flag-itself : (b : Bool) → is_flag b b ≡ true
 is_flag-itself true = refl

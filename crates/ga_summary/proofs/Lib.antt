@@ -1,4 +1,3 @@
-pub mod Orders
 pub mod Put
 pub mod RowLookups
 pub mod NameLists

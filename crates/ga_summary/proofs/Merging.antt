@@ -9,13 +9,13 @@ use Rattle.std.proofs.lemmas.List.Elements.{All-from_recursion, recursion_from_A
 use Rattle.ga_base.specs.declared.key.Key.{Key}
 use Rattle.ga_base.specs.declared.key.Visitor.{Visitor}
 use Rattle.ga_base.specs.declared.counts.Sums.{Sums}
-use Rattle.ga_summary.specs.declared.name.Name.{Name}
-use Rattle.ga_summary.specs.Order.{key_cmp, name_cmp, name_of, is_same_name, is_same_key}
+use Rattle.ga_base.specs.declared.name.Name.{Name}
+use Rattle.ga_base.specs.Orders.{key_cmp, name_cmp, name_of, is_same_name, is_same_key}
 use Rattle.ga_summary.specs.Rows.{Row, IsInOrder, row_at, sums_at, names_at, has_name, has_pair, no_sums, sums_plus}
-use Rattle.ga_summary.specs.Joined.{joined, put_row, put_rows, put_name, put_names}
+use Rattle.ga_summary.specs.Steps.Joined.{joined, put_row, put_rows, put_name, put_names}
 use Rattle.ga_summary.proofs.Put.{both_at, Some≢None, find_put_all, rises_put_all, sum_by-put_all}
 use Rattle.ga_summary.proofs.NameLists.{any-find, rising_put_names, names_rise}
-use Rattle.ga_summary.proofs.Orders.{key_cmp_total, key_cmp_exact, name_cmp_total}
+use Rattle.ga_base.proofs.OrderLemmas.{key_cmp_total, key_cmp_exact, name_cmp_total}
 
 -- a list made of two names' lists has the names of both
 pub has_name-put_names : (more names : List Name) (name : Name) → IsStrictlySortedBy name_cmp more → IsStrictlySortedBy name_cmp names → has_name (put_names more names) name ≡ (has_name names name || has_name more name)

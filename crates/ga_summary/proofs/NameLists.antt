@@ -2,12 +2,12 @@
 use Rattle.std.proofs.Common.{◌≡◌, ℕ, zero, suc, ◌<◌, List, [], ◌∷◌, Option, Some, Result, MatchResult, Bool, ◌||◌, true, false, cond, get_or, set, map, length, refl, sym, ap, ◌∙◌, subst, arith, is_some}
 use Rattle.std.specs.List.{insert, list_any, find}
 use Rattle.std.specs.List.Sorted.{IsStrictlySortedBy, IsSearchInRange, IsBinarySearchResult}
-use Rattle.ga_summary.specs.declared.name.Name.{Name}
-use Rattle.ga_summary.specs.Order.{name_cmp}
+use Rattle.ga_base.specs.declared.name.Name.{Name}
+use Rattle.ga_base.specs.Orders.{name_cmp}
 use Rattle.ga_summary.specs.Rows.{has_name}
-use Rattle.ga_summary.specs.Joined.{put_name, put_names}
-use Rattle.ga_summary.specs.Places.{Rises, StandsAt, GoesTo}
-use Rattle.ga_summary.proofs.Orders.{name_cmp_total}
+use Rattle.ga_summary.specs.Steps.Joined.{put_name, put_names}
+use Rattle.ga_summary.specs.Steps.Places.{Rises, StandsAt, GoesTo}
+use Rattle.ga_base.proofs.OrderLemmas.{name_cmp_total}
 use Rattle.ga_summary.proofs.Put.{searched, find_stands, find_goes, put_stands, put_goes, rises_put, rises_put_all}
 
 pub map-same : {A : Type 0} (xs : List A) → map (λ x. x) xs ≡ xs

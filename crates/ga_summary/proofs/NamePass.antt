@@ -1,12 +1,12 @@
 -- One step of a pass over two lists of names that rise.
 use Rattle.std.proofs.Common.{◌≡◌, ℕ, List, [], ◌∷◌, ◌++◌, Option, Some, None, Less, Equal, Greater, MatchOption, IfNone, length, refl, sym, ap, ◌∙◌, append_assoc, arith}
 use Rattle.std.specs.List.Sorted.{IsStrictlySortedBy}
-use Rattle.ga_summary.specs.declared.name.Name.{Name}
-use Rattle.ga_summary.specs.Order.{name_cmp}
-use Rattle.ga_summary.specs.Joined.{put_names}
+use Rattle.ga_base.specs.declared.name.Name.{Name}
+use Rattle.ga_base.specs.Orders.{name_cmp}
+use Rattle.ga_summary.specs.Steps.Joined.{put_names}
 use Rattle.ga_summary.proofs.Put.{put_all-less, put_all-equal, put_all-greater, put_all-into_none}
 use Rattle.ga_summary.proofs.NameLists.{names_rise}
-use Rattle.ga_summary.proofs.Orders.{name_cmp_total}
+use Rattle.ga_base.proofs.OrderLemmas.{name_cmp_total}
 
 -- the first item of what is left goes to the end of what is done
 moved : (done left rest whole : List Name) (name : Name) → left ≡ name ∷ rest → done ++ left ≡ whole → (done ++ name ∷ []) ++ rest ≡ whole

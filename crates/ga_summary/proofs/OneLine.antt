@@ -1,5 +1,5 @@
 -- The summary of one counted line is the sum of its outcome, and sound.
-use Rattle.std.proofs.Common.{◌≡◌, ℕ, zero, suc, ◌*◌, ◌<◌, ◌≤◌, Bool, true, false, cond, ◌||◌, ◌&&◌, ◌==◌, List, [], ◌∷◌, Option, Some, None, is_some, length, map, filter, sum_by, count_by, nat_lt, refl, sym, ap, ◌∙◌, subst, arith, get_or, eqb→eq, T, rules}
+use Rattle.std.proofs.Common.{◌≡◌, ℕ, zero, suc, ◌*◌, ◌<◌, ◌≤◌, Bool, true, false, cond, ◌||◌, ◌&&◌, ◌==◌, List, [], ◌∷◌, Option, Some, None, is_some, length, map, filter, sum_by, count_by, nat_lt, refl, sym, ap, ◌∙◌, subst, arith, get_or, eqb→eq, T}
 use Rattle.std.specs.List.{list_any, All, AllByRecursion, Contains}
 use Rattle.std.specs.Option.{option_map_or, ForSome}
 use Rattle.std.specs.List.Sorted.{IsStrictlySortedBy}
@@ -8,25 +8,26 @@ use Rattle.std.proofs.lemmas.Cmp.{tied_itself}
 use Rattle.std.proofs.lemmas.List.Sums.{sum_by-cons}
 use Rattle.std.proofs.lemmas.List.Elements.{All-from_recursion, recursion_from_All}
 use Rattle.std.proofs.Math.Nat.{mul-le-mul_left}
-use denote.Enum.Bare.{same_true}
-use Rattle.ga_base.specs.contracts.panel.Panel.{the_type}
+use Rattle.std.proofs.lemmas.Bool.{eqb-true}
 use Rattle.ga_base.specs.declared.counts.Sums.{Sums}
 use Rattle.ga_base.specs.declared.counts.TheConstants.{BIG}
 use Rattle.ga_base.specs.declared.key.Key.{Key}
 use Rattle.ga_base.specs.declared.key.Visitor.{Visitor}
 use Rattle.ga_base.specs.declared.panel.Panel.{Panel}
 use Rattle.ga_base.specs.declared.panel.Panel.TheVariants.{Visitors}
-use Rattle.ga_summary.specs.declared.name.Name.{Name}
-use Rattle.ga_summary.specs.Order.{key_cmp, name_cmp, is_same_key, name_of}
+use Rattle.ga_base.specs.declared.name.Name.{Name}
+use Rattle.ga_base.specs.Orders.{key_cmp, name_cmp, is_same_key, name_of}
 use Rattle.ga_summary.specs.Outcomes.{Hit, Counted, has_key, is_by, greatest_time, sums_of, has_visit}
 use Rattle.ga_summary.specs.Rows.{Row, IsInOrder, row_at, sums_at, names_at, has_name, has_pair, no_sums}
 use Rattle.ga_summary.specs.OneLine.{names_of, line_sums, line_row, line_value}
 use Rattle.ga_summary.specs.Sums.{IsSumOf}
-use Rattle.ga_summary.specs.Sound.{IsSummary, IsCountable, HasRow, HasForm, day_key, Layer, in_layer, layer_rows, day_rows, is_same_panel, SumsWithin}
+use Rattle.ga_summary.specs.Sound.{IsSummary, IsCountable, HasRow, HasForm, layer_rows, day_rows, SumsWithin}
+use Rattle.ga_base.specs.Layers.{day_key, Layer, in_layer}
+use Rattle.ga_base.specs.Panels.{is_same_panel, panel_number}
 use Rattle.ga_summary.proofs.Put.{equal_from_is_eq}
 use Rattle.ga_summary.proofs.Lines.{same_totals}
 use Rattle.ga_summary.proofs.Merging.{same_sums, sum_by-filter}
-use Rattle.ga_summary.proofs.Orders.{key_cmp_total, key_cmp_exact}
+use Rattle.ga_base.proofs.OrderLemmas.{key_cmp_total, key_cmp_exact, panel_number_exact}
 
 pub both_true : (a b : Bool) → (a && b) ≡ true → (a ≡ true) × (b ≡ true)
 both_true true b e = (refl, e)
@@ -41,7 +42,7 @@ one_name (Some w) = (tt, tt)
 -- panels that test as the same are
 pub same_panel : (a b : Panel) → is_same_panel a b ≡ true → a ≡ b
 unfolding is_same_panel
-same_panel a b e = same_true the_type (search rules) a b e
+same_panel a b e = panel_number_exact a b (eqb-true (panel_number a) (panel_number b) e)
 
 module _ (hit : Hit) where
   rows_at_key : (keys : List Key) (key : Key) → row_at (map (line_row (line_sums hit.bytes hit.micros) hit.visitor) keys) key ≡ cond (list_any (λ other. is_same_key key other) keys) (Some (line_row (line_sums hit.bytes hit.micros) hit.visitor key)) None

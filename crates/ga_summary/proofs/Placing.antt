@@ -7,16 +7,16 @@ use Rattle.std.specs.Ordering.{is_eq}
 use Rattle.std.specs.Box.{with_value}
 use Rattle.ga_base.specs.declared.key.Key.{Key}
 use Rattle.ga_summary.specs.declared.entry.Entry.{Entry}
-use Rattle.ga_summary.specs.Order.{key_cmp, is_same_key}
+use Rattle.ga_base.specs.Orders.{key_cmp, is_same_key}
 use Rattle.ga_summary.specs.Rows.{Row, row_at}
-use Rattle.ga_summary.specs.Entries.{rows_of, row_of}
-use Rattle.ga_summary.specs.Joined.{joined, put_row}
+use Rattle.ga_summary.specs.Steps.Entries.{rows_of, row_of}
+use Rattle.ga_summary.specs.Steps.Joined.{joined, put_row}
 use Rattle.std.specs.Ordering.{ordering_reverse}
-use Rattle.ga_summary.specs.Room.{room_of, entry_at, HasRoom, HasPlace, AllHavePlace, CanTake}
-use Rattle.ga_summary.specs.Places.{StandsAt, GoesTo}
+use Rattle.ga_summary.specs.Steps.Room.{room_of, entry_at, HasRoom, HasPlace, AllHavePlace, CanTake}
+use Rattle.ga_summary.specs.Steps.Places.{StandsAt, GoesTo}
 use Rattle.ga_summary.proofs.Put.{Above, find_stands, put_stands, put_goes, read_map, stands_unmap, find-set_other, find-set_here, none_unmapped, Some≢None, find_same, find-insert_other}
 use Rattle.ga_summary.proofs.NameLists.{set-same}
-use Rattle.ga_summary.proofs.Orders.{key_cmp_total}
+use Rattle.ga_base.proofs.OrderLemmas.{key_cmp_total}
 
 some_inj : {X : Type 0} {x y : X} → Some x ≡ Some y → x ≡ y
 some_inj e = cc

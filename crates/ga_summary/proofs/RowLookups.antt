@@ -3,12 +3,12 @@ use Rattle.std.proofs.Common.{◌≡◌, ℕ, List, Some, None, get_or, ap, ◌�
 use Rattle.std.proofs.lemmas.List.{length-map}
 use Rattle.ga_base.specs.declared.key.Key.{Key}
 use Rattle.ga_summary.specs.declared.entry.Entry.{Entry}
-use Rattle.ga_summary.specs.Order.{key_cmp}
+use Rattle.ga_base.specs.Orders.{key_cmp}
 use Rattle.ga_summary.specs.Rows.{Row, row_at}
-use Rattle.ga_summary.specs.Entries.{rows_of, row_of}
-use Rattle.ga_summary.specs.Places.{Rises, StandsAt, GoesTo}
+use Rattle.ga_summary.specs.Steps.Entries.{rows_of, row_of}
+use Rattle.ga_summary.specs.Steps.Places.{Rises, StandsAt, GoesTo}
 use Rattle.ga_summary.proofs.Put.{find_stands, find_goes, read_map}
-use Rattle.ga_summary.proofs.Orders.{key_cmp_total}
+use Rattle.ga_base.proofs.OrderLemmas.{key_cmp_total}
 
 module _ {A : Type 0} (entries : List (Box Entry A)) (key : Key) (i : ℕ) where
   pub row_found : (boxed : Box Entry A) → StandsAt key_cmp (λ (row : Row). row.key) key (rows_of entries) i → boxed ≡ get_or entries i boxed → row_at (rows_of entries) key ≡ Some (row_of boxed.value)

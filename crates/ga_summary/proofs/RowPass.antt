@@ -4,14 +4,14 @@ use Rattle.std.proofs.lemmas.List.{map-append}
 use Rattle.std.proofs.lemmas.Cmp.{tied_back}
 use Rattle.ga_base.specs.declared.key.Key.{Key}
 use Rattle.ga_summary.specs.declared.entry.Entry.{Entry}
-use Rattle.ga_summary.specs.Entries.{row_of, rows_of}
-use Rattle.ga_summary.specs.Joined.{joined, put_rows}
-use Rattle.ga_summary.specs.Order.{key_cmp, is_same_key}
-use Rattle.ga_summary.specs.Places.{Rises}
-use Rattle.ga_summary.specs.Room.{AllHavePlace, HasPlace, CanTake, entry_at}
+use Rattle.ga_summary.specs.Steps.Entries.{row_of, rows_of}
+use Rattle.ga_summary.specs.Steps.Joined.{joined, put_rows}
+use Rattle.ga_base.specs.Orders.{key_cmp, is_same_key}
+use Rattle.ga_summary.specs.Steps.Places.{Rises}
+use Rattle.ga_summary.specs.Steps.Room.{AllHavePlace, HasPlace, CanTake, entry_at}
 use Rattle.ga_summary.specs.Rows.{Row}
 use Rattle.ga_summary.proofs.Put.{above_more, above_same, rises_head, rises_tail, put_all-less, put_all-equal, put_all-greater, put_all-into_none}
-use Rattle.ga_summary.proofs.Orders.{key_cmp_total}
+use Rattle.ga_base.proofs.OrderLemmas.{key_cmp_total}
 use Rattle.ga_summary.proofs.Placing.{places_left}
 
 -- the first row of what is left goes to the end of what is done

@@ -6,7 +6,7 @@ use Rattle.ga_base.specs.declared.counts.Totals.{Totals}
 use Rattle.ga_summary.specs.Outcomes.{Outcome, Failed, Excluded, Counted, hits_of, totals_of}
 use Rattle.ga_summary.specs.Rows.{SummaryValue, totals_plus}
 use Rattle.ga_summary.specs.OneLine.{line_value}
-use Rattle.ga_summary.specs.Joined.{merged_value}
+use Rattle.ga_summary.specs.Steps.Joined.{merged_value}
 use Rattle.ga_summary.specs.Sums.{IsSumOf}
 use Rattle.ga_summary.specs.Sound.{IsSound, IsSummary, IsCountable, AllCountable, TotalsFit}
 use Rattle.ga_summary.proofs.Appends.{IsSumOf-append, totals_of-append}

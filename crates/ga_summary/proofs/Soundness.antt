@@ -7,9 +7,11 @@ use Rattle.ga_base.specs.declared.counts.Sums.{Sums}
 use Rattle.ga_base.specs.declared.counts.TheConstants.{BIG}
 use Rattle.ga_base.specs.declared.panel.Panel.TheVariants.{Visitors}
 use Rattle.ga_summary.specs.Rows.{Row, SummaryValue, IsInOrder, sums_at, names_at, has_pair, totals_plus}
-use Rattle.ga_summary.specs.Joined.{put_rows, merged_value}
+use Rattle.ga_summary.specs.Steps.Joined.{put_rows, merged_value}
 use Rattle.ga_summary.specs.Sums.{IsMerged}
-use Rattle.ga_summary.specs.Sound.{IsSound, TotalsFit, HasRow, HasForm, day_key, Layer, in_layer, layer_rows, day_rows, is_same_panel, SumsWithin}
+use Rattle.ga_summary.specs.Sound.{IsSound, TotalsFit, HasRow, HasForm, layer_rows, day_rows, SumsWithin}
+use Rattle.ga_base.specs.Layers.{day_key, Layer, in_layer}
+use Rattle.ga_base.specs.Panels.{is_same_panel}
 use Rattle.ga_summary.proofs.Merging.{IsInOrder-put_rows, present-put_rows, sums_at-put_rows, has_pair-put_rows, length-names_at-put_rows, sum_by-filter-put_rows}
 
 module _ (a b : SummaryValue) (s : IsInOrder a.rows) (t : IsInOrder b.rows) where

@@ -6,9 +6,10 @@ use Rattle.std.proofs.lemmas.List.Elements.{All-from_recursion}
 use Rattle.ga_base.specs.declared.key.Key.{Key}
 use Rattle.ga_base.specs.declared.key.Visitor.{Visitor}
 use Rattle.ga_base.specs.declared.panel.Panel.TheVariants.{Visitors, Hosts}
-use Rattle.ga_summary.specs.Order.{key_cmp}
-use Rattle.ga_summary.specs.Sound.{IsCountable, HasForm, in_layer, day_key}
-use Rattle.ga_summary.specs.TestKeys.{TEST_DAY, host_key}
+use Rattle.ga_base.specs.Orders.{key_cmp}
+use Rattle.ga_summary.specs.Sound.{IsCountable, HasForm}
+use Rattle.ga_base.specs.Layers.{in_layer, day_key}
+use Rattle.ga_summary.specs.Steps.TestKeys.{TEST_DAY, host_key}
 use Rattle.ga_summary.proofs.OneLine.{same_panel, both_true}
 
 at_most_one : (a b : Bool) → (a ≡ true → b ≡ true → ⊥) → 0 + cond a 1 0 + cond b 1 0 ≤ 1

@@ -8,16 +8,16 @@ use Rattle.std.proofs.lemmas.Bool.{false≢true}
 use Rattle.std.proofs.lemmas.Cmp.{tied_itself, alike_right}
 use Rattle.ga_base.specs.declared.key.Key.{Key}
 use Rattle.ga_base.specs.declared.key.Visitor.{Visitor}
-use Rattle.ga_summary.specs.declared.name.Name.{Name}
-use Rattle.ga_summary.specs.Order.{key_cmp, name_cmp, is_same_name}
+use Rattle.ga_base.specs.declared.name.Name.{Name}
+use Rattle.ga_base.specs.Orders.{key_cmp, name_cmp, is_same_name}
 use Rattle.ga_summary.specs.Outcomes.{Outcome}
-use Rattle.ga_summary.specs.Places.{Rises, find_at}
+use Rattle.ga_summary.specs.Steps.Places.{Rises, find_at}
 use Rattle.ga_summary.specs.Rows.{Row, SummaryValue, IsInOrder, row_at, sums_at, has_name, has_pair}
 use Rattle.ga_summary.specs.Sums.{IsSumOf}
 use Rattle.ga_summary.proofs.Put.{Above, rises_head, rises_tail, above_more, above_same, find_above, equal_from_is_eq, Some≢None}
 use Rattle.ga_summary.proofs.NameLists.{any-find, names_rise}
 use Rattle.ga_summary.proofs.Merging.{all-row_at, some_inj}
-use Rattle.ga_summary.proofs.Orders.{key_cmp_total, key_cmp_exact, name_cmp_total, name_cmp_exact}
+use Rattle.ga_base.proofs.OrderLemmas.{key_cmp_total, key_cmp_exact, name_cmp_total, name_cmp_exact}
 
 module _ {X K : Type 0} (R : K → K → Ordering) (o : IsTotalOrder R) (key : X → K) where
   head_found : (x : X) (xs : List X) → find_at R key (key x) (x ∷ xs) ≡ Some x

@@ -1,12 +1,8 @@
-pub mod Order
-pub mod Places
 pub mod Rows
-pub mod Entries
-pub mod Joined
-pub mod Room
+pub mod Faults
 pub mod Outcomes
 pub mod Sums
 pub mod Sound
 pub mod Limits
 pub mod OneLine
-pub mod TestKeys
+pub mod Steps

@@ -6,7 +6,7 @@ use Rattle.ga_base.specs.declared.key.Visitor.{Visitor}
 use Rattle.ga_base.specs.declared.record.Record.{Record}
 use Rattle.ga_base.specs.declared.counts.Sums.{Sums}
 use Rattle.ga_base.specs.declared.counts.Totals.{Totals}
-use Rattle.ga_summary.specs.Order.{is_same_key, is_same_visitor}
+use Rattle.ga_base.specs.Orders.{is_same_key, is_same_visitor}
 
 -- what a counted line counts for: its keys, its visitor if it has one, and its amounts
 pub record Hit : Type 0 where

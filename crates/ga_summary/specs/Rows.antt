@@ -8,8 +8,8 @@ use Rattle.ga_base.specs.declared.key.Visitor.{Visitor}
 use Rattle.ga_base.specs.declared.counts.Sums.{Sums}
 use Rattle.ga_base.specs.declared.counts.Totals.{Totals}
 use Rattle.ga_base.specs.declared.counts.Amounts.{Amounts}
-use Rattle.ga_summary.specs.declared.name.Name.{Name}
-use Rattle.ga_summary.specs.Order.{key_cmp, name_cmp, is_same_key, is_same_name, name_of}
+use Rattle.ga_base.specs.declared.name.Name.{Name}
+use Rattle.ga_base.specs.Orders.{key_cmp, name_cmp, is_same_key, is_same_name, name_of}
 
 -- a key with its sums, and the names of its visitors, whose day is the key's
 pub record Row : Type 0 where

@@ -1,43 +1,18 @@
 -- What holds of every summary: its numbers can be the sum of some lines of a log.
-use Rattle.std.specs.Prelude.{◌≡◌, ◌↔◌, ℕ, ◌+◌, ◌≤◌, ◌/◌, ◌%◌, ◌^◌, ◌==◌, ◌&&◌, Bool, true, false, is_some, List, [], ◌∷◌, length, map, filter, sum_by, count_by, All, Contains}
+use Rattle.std.specs.Prelude.{◌≡◌, ◌↔◌, ℕ, ◌+◌, ◌≤◌, ◌==◌, ◌&&◌, true, false, is_some, List, [], length, filter, sum_by, count_by, All, Contains}
 use Rattle.std.specs.List.Sorted.{IsStrictlySortedBy}
 use Rattle.std.specs.Option.{ForSome}
 use Rattle.ga_base.specs.declared.counts.TheConstants.{LIMIT, BIG}
 use Rattle.ga_base.specs.declared.key.Key.{Key}
 use Rattle.ga_base.specs.declared.key.Visitor.{Visitor}
 use Rattle.ga_base.specs.declared.counts.Totals.{Totals}
-use Rattle.ga_base.specs.declared.panel.Panel.{Panel}
-use Rattle.ga_base.specs.declared.panel.Panel.TheVariants.{Visitors, Requests, RequestsStatic, NotFound, Os, Browsers, StatusCodes, MimeType}
-use Rattle.ga_base.specs.contracts.panel.PanelPartialEq.TheImpl.{ghosts}
-use Rattle.ga_summary.specs.Order.{key_cmp}
+use Rattle.ga_base.specs.declared.panel.Panel.TheVariants.{Visitors}
+use Rattle.ga_base.specs.Days.{HasEightDigits, eight_digits}
+use Rattle.ga_base.specs.Layers.{Layer, day_key, has_groups, has_requests, in_layer}
+use Rattle.ga_base.specs.Orders.{key_cmp}
+use Rattle.ga_base.specs.Panels.{is_same_panel}
 use Rattle.ga_summary.specs.Outcomes.{Hit, Outcome, hits_of}
 use Rattle.ga_summary.specs.Rows.{Row, SummaryValue, IsInOrder, row_at, sums_at, names_at, has_pair}
-
--- the eight digits of a day
-abbrev pub date_text : ℕ → List ℕ
-date_text date = map (λ place. 48 + date / 10 ^ place % 10) (7 ∷ 6 ∷ 5 ∷ 4 ∷ 3 ∷ 2 ∷ 1 ∷ 0 ∷ [])
-
--- a day is written with eight digits
-abbrev pub HasEightDigits : ℕ → Type 0
-HasEightDigits date = (10000000 ≤ date) × (date ≤ 99999999)
-
--- the panels whose entries stand in groups
-abbrev pub has_groups : Panel → Bool
-has_groups Os = true
-has_groups Browsers = true
-has_groups StatusCodes = true
-has_groups MimeType = true
-has_groups _ = false
-
--- the panels of requests, whose keys have the method and the protocol
-abbrev pub has_requests : Panel → Bool
-has_requests Requests = true
-has_requests RequestsStatic = true
-has_requests NotFound = true
-has_requests _ = false
-
-unfoldable pub is_same_panel : Panel → Panel → Bool
-is_same_panel a b = ghosts.eq a b
 
 -- the form of a key
 pub record HasForm (key : Key) : Type 0 where
@@ -45,29 +20,8 @@ pub record HasForm (key : Key) : Type 0 where
   -- the parent is empty exactly where the panel has no groups
   pub parent : (key.parent ≡ []) ↔ (has_groups key.panel ≡ false)
   -- a key of VISITORS is the day's
-  pub label : key.panel ≡ Visitors → key.label ≡ date_text key.date
+  pub label : key.panel ≡ Visitors → key.label ≡ eight_digits key.date
   pub request : has_requests key.panel ≡ false → (key.method ≡ []) × (key.protocol ≡ [])
-
--- the key of VISITORS for a day
-abbrev pub day_key : ℕ → Key
-day_key date = record { panel = Visitors; date = date; parent = []; label = date_text date; method = []; protocol = [] }
-
-abbrev pub is_empty : List ℕ → Bool
-is_empty [] = true
-is_empty (byte ∷ bytes) = false
-
--- a layer: the keys of a panel that are groups, with empty data, or those that are not
-pub record Layer : Type 0 where
-  pub panel : Panel
-  pub groups : Bool
-
-abbrev pub is_flag : Bool → Bool → Bool
-is_flag true b = b
-is_flag false true = false
-is_flag false false = true
-
-abbrev pub in_layer : Layer → Key → Bool
-in_layer layer key = is_same_panel key.panel layer.panel && is_flag layer.groups (is_empty key.label)
 
 -- the rows of a layer on a day
 abbrev pub layer_rows : Layer → ℕ → List Row → List Row

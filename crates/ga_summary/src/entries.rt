@@ -1,11 +1,11 @@
 ghost use Rattle.std.specs.Prelude.{◌≡◌, ◌+◌, ◌<◌, ◌≤◌, false, None, Some, IfOk, MatchResult, MatchOption, [], max, vec_len, vec_capacity};
 ghost use Rattle.ga_base.specs.declared.key.Key.{Key as TheKey};
-ghost use Rattle.ga_summary.specs.Order.{key_cmp, is_same_key};
+ghost use Rattle.ga_base.specs.Orders.{key_cmp, is_same_key};
 ghost use Rattle.ga_summary.specs.Rows.{row_at};
-ghost use Rattle.ga_summary.specs.Entries.{rows_of, row_of};
-ghost use Rattle.ga_summary.specs.Joined.{put_row, put_rows};
-ghost use Rattle.ga_summary.specs.Room.{HasPlace, AllHavePlace, entry_at};
-ghost use Rattle.ga_summary.specs.Places.{Rises, StandsAt, GoesTo};
+ghost use Rattle.ga_summary.specs.Steps.Entries.{rows_of, row_of};
+ghost use Rattle.ga_summary.specs.Steps.Joined.{put_row, put_rows};
+ghost use Rattle.ga_summary.specs.Steps.Room.{HasPlace, AllHavePlace, entry_at};
+ghost use Rattle.ga_summary.specs.Steps.Places.{Rises, StandsAt, GoesTo};
 
 use crate::entry::Entry;
 use crate::one_pass::merge_entries;

@@ -1,13 +1,12 @@
 ghost use Rattle.std.specs.Prelude.{◌≡◌, ◌+◌, ◌≤◌, OnOk, IfOk, vec_len};
 ghost use Rattle.ga_summary.specs.Rows.{amounts_of, sums_plus};
-ghost use Rattle.ga_summary.specs.Entries.{row_of};
-ghost use Rattle.ga_summary.specs.Joined.{joined};
-ghost use Rattle.ga_summary.specs.Room.{CanTake, SumsFit, room_of};
+ghost use Rattle.ga_summary.specs.Steps.Entries.{row_of};
+ghost use Rattle.ga_summary.specs.Steps.Joined.{joined};
+ghost use Rattle.ga_summary.specs.Steps.Room.{CanTake, SumsFit, room_of};
 
-use crate::name::Name;
 use crate::names::unite;
 use crate::one_pass::merge_names;
-use ga_base::{Amounts, Key, NoMemory, Sums};
+use ga_base::{Amounts, Key, Name, NoMemory, Sums};
 use std::mem::replace;
 
 /// What is counted under a key: its sums, and the names of its visitors, which rise.

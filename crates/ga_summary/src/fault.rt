@@ -1,4 +1,5 @@
-ghost use Rattle.std.specs.Prelude.{◌≡◌};
+ghost use Rattle.std.specs.Prelude.{◌≡◌, Some};
+ghost use Rattle.ga_summary.specs.Faults.{counter_name, fault_line};
 ghost use Rattle.ga_summary.specs.declared.fault.MergeFault.TheVariants.{NoMemory as MergeNoMemory};
 
 use ga_base::{Counter, NoMemory};
@@ -15,10 +16,26 @@ pub enum MergeFault {
     NoMemory,
 }
 
+/// What a counter counts.
+fn counter_name(which: Counter) -> &'static str
+    ensures { result.now ≡ counter_name which }
+{
+    match which {
+        Counter::Lines => "lines",
+        Counter::Bytes => "bytes",
+        Counter::Micros => "microseconds",
+        Counter::Generations => "generations",
+    }
+}
+
 impl fmt::Display for MergeFault {
+    ghost output = { λ fault. Some (fault_line fault) };
+
     fn fmt<W: fmt::Write>(&self, f: &mut fmt::Formatter<W>) -> fmt::Result {
         match self {
-            MergeFault::CounterFull { which, total } => write!(f, "{which:?} would be {total}"),
+            MergeFault::CounterFull { which, total } => {
+                write!(f, "{} would be {}", counter_name(*which), total)
+            }
             MergeFault::NoMemory => write!(f, "no memory"),
         }
     }

@@ -6,7 +6,6 @@ mod entry;
 mod fault;
 pub mod laws;
 mod limits;
-mod name;
 mod names;
 mod one_line;
 mod one_pass;
@@ -16,7 +15,6 @@ mod row_view;
 mod summary;
 
 pub use fault::MergeFault;
-pub use name::Name;
 pub use row_view::RowView;
 pub use summary::Summary;
 

@@ -1,13 +1,12 @@
 ghost use Rattle.std.specs.Prelude.{◌≡◌, ◌+◌, ◌<◌, ◌≤◌, MatchResult, vec_len, vec_capacity};
 ghost use Rattle.std.specs.List.Sorted.{IsStrictlySortedBy};
-ghost use Rattle.ga_summary.specs.Order.{name_cmp, name_of};
+ghost use Rattle.ga_base.specs.Orders.{name_cmp, name_of};
 ghost use Rattle.ga_summary.specs.Rows.{has_name};
-ghost use Rattle.ga_summary.specs.Places.{StandsAt, GoesTo};
-ghost use Rattle.ga_summary.specs.Joined.{put_name, put_names};
+ghost use Rattle.ga_summary.specs.Steps.Places.{StandsAt, GoesTo};
+ghost use Rattle.ga_summary.specs.Steps.Joined.{put_name, put_names};
 
-use crate::Name;
 use crate::order::{compare_names, compare_to_visitor};
-use ga_base::Visitor;
+use ga_base::{Name, Visitor};
 
 /// Where a name stands among names that rise, or where it would go.
 fn find_name(names: &[Name], name: &Name) -> Result<usize, usize>

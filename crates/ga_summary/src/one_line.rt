@@ -1,11 +1,10 @@
 ghost use Rattle.std.specs.Prelude.{◌≡◌, IfOk, map};
 ghost use Rattle.std.specs.Option.{option_copied};
-ghost use Rattle.ga_summary.specs.Entries.{rows_of};
+ghost use Rattle.ga_summary.specs.Steps.Entries.{rows_of};
 ghost use Rattle.ga_summary.specs.OneLine.{names_of, line_row, record_totals, record_sums};
 
-use crate::Name;
 use crate::entry::Entry;
-use ga_base::{Key, NoMemory, Record, Sums, Totals, Visitor};
+use ga_base::{Key, Name, NoMemory, Record, Sums, Totals, Visitor};
 use std::alloc::Global;
 
 /// The totals of a counted record.

@@ -1,14 +1,14 @@
 ghost use Rattle.std.specs.Prelude.{◌≡◌, ◌+◌, ◌<◌, ◌≤◌, ◌++◌, ◌∷◌, [], vec_len, vec_capacity};
 ghost use Rattle.std.specs.List.Sorted.{IsStrictlySortedBy};
-ghost use Rattle.ga_summary.specs.Entries.{row_of, rows_of};
-ghost use Rattle.ga_summary.specs.Joined.{joined, put_names, put_rows};
-ghost use Rattle.ga_summary.specs.Order.{key_cmp, name_cmp};
-ghost use Rattle.ga_summary.specs.Places.{Rises};
-ghost use Rattle.ga_summary.specs.Room.{AllHavePlace, CanTake};
+ghost use Rattle.ga_summary.specs.Steps.Entries.{row_of, rows_of};
+ghost use Rattle.ga_summary.specs.Steps.Joined.{joined, put_names, put_rows};
+ghost use Rattle.ga_base.specs.Orders.{key_cmp, name_cmp};
+ghost use Rattle.ga_summary.specs.Steps.Places.{Rises};
+ghost use Rattle.ga_summary.specs.Steps.Room.{AllHavePlace, CanTake};
 
-use crate::Name;
 use crate::entry::Entry;
 use crate::order::{compare_keys, compare_names};
+use ga_base::Name;
 use std::cmp::Ordering;
 
 /// Adds an item at the end, where there is room.
@@ -45,6 +45,7 @@ pub(crate) fn merge_names(left: Vec<Name>, right: Vec<Name>, mut out: Vec<Name>)
                     next_right = Some(b);
                 }
                 Ordering::Equal => {
+                    drop(b);
                     push_within(&mut out, a);
                     next_left = left.next();
                     next_right = right.next();

@@ -1,25 +1,28 @@
 ghost use Rattle.std.specs.Prelude.{◌≡◌};
-ghost use Rattle.ga_summary.specs.Order.{key_cmp, name_cmp, name_of};
+ghost use Rattle.ga_base.specs.Orders.{key_cmp, name_cmp, name_of};
 
-use crate::name::Name;
-use ga_base::{Key, Visitor};
+use ga_base::laws::{key_order, name_order};
+use ga_base::{Key, Name, Visitor};
 use std::cmp::Ordering;
 
-#[tactic(auto, unfolding(crate::specs::Order::key_cmp))]
+/// How two keys are ordered.
 pub(crate) fn compare_keys(a: &Key, b: &Key) -> Ordering
     ensures { result ≡ key_cmp a.now b.now }
 {
+    key_order();
     a.cmp(b)
 }
 
-#[tactic(auto, unfolding(crate::specs::Order::name_cmp))]
+/// How two names are ordered.
 pub(crate) fn compare_names(a: &Name, b: &Name) -> Ordering
     ensures { result ≡ name_cmp a.now b.now }
 {
+    name_order();
     a.cmp(b)
 }
 
-#[tactic(auto, unfolding(crate::specs::Order::name_cmp))]
+/// How a name is ordered beside that of a visitor.
+#[tactic(auto, unfolding(ga_base::specs::Orders::name_cmp))]
 pub(crate) fn compare_to_visitor(name: &Name, visitor: &Visitor) -> Ordering
     ensures { result ≡ name_cmp name.now (name_of visitor.now) }
 {

@@ -1,9 +1,9 @@
 ghost use Rattle.std.specs.Prelude.{◌≡◌, ◌+◌, ◌≤◌, OnOk, IfOk, [], max, length, vec_len, vec_capacity};
 ghost use Rattle.ga_base.specs.declared.key.Key.{Key as TheKey};
-ghost use Rattle.ga_summary.specs.Order.{key_cmp};
-ghost use Rattle.ga_summary.specs.Entries.{rows_of};
-ghost use Rattle.ga_summary.specs.Room.{HasRoom, AllHaveRoom};
-ghost use Rattle.ga_summary.specs.Places.{Rises};
+ghost use Rattle.ga_base.specs.Orders.{key_cmp};
+ghost use Rattle.ga_summary.specs.Steps.Entries.{rows_of};
+ghost use Rattle.ga_summary.specs.Steps.Room.{HasRoom, AllHaveRoom};
+ghost use Rattle.ga_summary.specs.Steps.Places.{Rises};
 
 use crate::entries::find;
 use crate::entry::Entry;

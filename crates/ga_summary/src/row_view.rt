@@ -1,5 +1,4 @@
-use crate::Name;
-use ga_base::{Key, Sums};
+use ga_base::{Key, Name, Sums};
 
 /// One key of a summary.
 #[derive(Clone, Copy, Debug)]

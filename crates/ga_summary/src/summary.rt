@@ -1,6 +1,6 @@
 ghost use Rattle.std.specs.Prelude.{◌≡◌, ◌<◌, ◌≤◌, slice_get, ◌+◌, ◌↔◌, ℕ, List, length, [], ◌∷◌, ◌++◌, Some, OnOk, OnErr, IfOk, IsErrOf};
 ghost use Rattle.ga_base.specs.declared.counts.Counter.{Counter as TheCounter};
-ghost use Rattle.ga_summary.specs.Joined.{merged_value};
+ghost use Rattle.ga_summary.specs.Steps.Joined.{merged_value};
 ghost use Rattle.ga_summary.specs.Limits.{passes};
 ghost use Rattle.std.specs.Option.{option_copied};
 ghost use Rattle.ga_summary.specs.OneLine.{line_value, record_totals};
@@ -34,7 +34,7 @@ impl Model for Summary {
 
     ghost Value = { SummaryValue };
 
-    ghost use Rattle.ga_summary.specs.Entries.{rows_of};
+    ghost use Rattle.ga_summary.specs.Steps.Entries.{rows_of};
     ghost use Rattle.ga_summary.specs.Sound.{IsSummary};
 
     ghost view = { λ s. record { totals = s.totals; rows = rows_of s.entries.items } };

@@ -1,12 +1,10 @@
 ghost use Rattle.std.specs.Prelude.{◌≡◌, ◌≤◌, ◌∷◌, [], IfOk};
 ghost use Rattle.std.specs.Option.{ForSome, option_copied, unwrap_or};
-ghost use Rattle.ga_summary.specs.Sound.{day_key};
-ghost use Rattle.ga_summary.specs.TestKeys.{TEST_DAY, host_key};
+ghost use Rattle.ga_base.specs.Layers.{day_key};
+ghost use Rattle.ga_summary.specs.Steps.TestKeys.{TEST_DAY, host_key};
 
-use crate::{MergeFault, Summary};
-use ga_base::{
-    Amounts, Counter, Key, Keys, LIMIT, Listing, NoMemory, Panel, Record, Text, Totals, Visitor,
-};
+use crate::Summary;
+use ga_base::{Key, Keys, LIMIT, Listing, NoMemory, Panel, Record, Text, Visitor};
 use std::alloc::Global;
 use std::test::Fail;
 
@@ -17,10 +15,10 @@ fn day(alloc: Global) -> Result<Key, NoMemory>
     Ok(Key {
         panel: Panel::Visitors,
         date: 20_240_115,
-        parent: Text::new(alloc),
+        parent: Text::new(),
         label: Text::of(alloc, "20240115")?,
-        method: Text::new(alloc),
-        protocol: Text::new(alloc),
+        method: Text::new(),
+        protocol: Text::new(),
     })
 }
 
@@ -31,10 +29,10 @@ fn host(alloc: Global, label: &str) -> Result<Key, NoMemory>
     Ok(Key {
         panel: Panel::Hosts,
         date: 20_240_115,
-        parent: Text::new(alloc),
+        parent: Text::new(),
         label: Text::of(alloc, label)?,
-        method: Text::new(alloc),
-        protocol: Text::new(alloc),
+        method: Text::new(),
+        protocol: Text::new(),
     })
 }
 
@@ -64,50 +62,71 @@ fn line(alloc: Global, bytes: u64, micros: Option<u64>) -> Result<Record, NoMemo
     ensures micros { IfOk result (λ r. r.micros ≡ micros) }
 {
     Ok(Record {
-        host: Text::new(alloc),
+        host: Text::new(),
         date: 20_240_115,
         minute: None,
-        method: Text::new(alloc),
-        protocol: Text::new(alloc),
-        url: Text::new(alloc),
+        method: Text::new(),
+        protocol: Text::new(),
+        url: Text::new(),
         status: 200,
         bytes,
         micros,
-        referrer: Text::new(alloc),
-        agent: Text::new(alloc),
-        vhost: Text::new(alloc),
-        user: Text::new(alloc),
-        cache: Text::new(alloc),
-        mime: Text::new(alloc),
-        tls: Text::new(alloc),
+        referrer: Text::new(),
+        agent: Text::new(),
+        vhost: Text::new(),
+        user: Text::new(),
+        cache: Text::new(),
+        mime: Text::new(),
+        tls: Text::new(),
     })
+}
+
+/// What a summary has, as the tests write it: its totals, and a line a key with its label, sums and visitors.
+fn shown(alloc: Global, sum: &Summary) -> Result<String, Fail> {
+    let t = sum.totals();
+    let mut text = format!(in alloc;
+        "{} {} {} {} {} {}",
+        t.lines, t.failed, t.excluded, t.hits, t.bytes, t.micros
+    )?;
+    for at in 0..sum.len() {
+        let row = sum.row(at);
+        let s = row.sums;
+        text.push_str(format!(in alloc;
+            "|{} {} {} {} {}",
+            row.key.label.as_str(),
+            s.hits,
+            s.bytes,
+            s.micros,
+            s.max_micros
+        )?
+        .as_str())?;
+        for name in row.names {
+            text.push(' ')?;
+            text.push_str(name.host.as_str())?;
+        }
+    }
+    Ok(text)
 }
 
 #[test]
 fn merges_uncounted_lines_up_to_the_limit(rt: HostRuntime) -> Result<(), Fail> {
     let alloc = rt.alloc();
     let mut full = Summary::of_lines(alloc, LIMIT, 0);
-    let before = full.totals();
-    let refusal = full.merge(&Summary::of_lines(alloc, 1, 0));
-    let fault = MergeFault::CounterFull {
-        which: Counter::Lines,
-        total: 4_611_686_018_427_387_904,
-    };
-    assert_eq!(rt; refusal, Err(fault));
-    assert_eq!(rt; full.totals(), before);
-
-    let mut sum = Summary::of_lines(alloc, 1, 2);
-    sum.merge(&Summary::of_lines(alloc, 3, 0))?;
-    let totals = Totals {
-        lines: 6,
-        failed: 4,
-        excluded: 2,
-        hits: 0,
-        bytes: 0,
-        micros: 0,
-    };
-    assert_eq!(rt; sum.totals(), totals);
-    assert_eq!(rt; sum.len(), 0);
+    let fault = full
+        .merge(&Summary::of_lines(alloc, 1, 0))
+        .err()
+        .ok_or("merged")?;
+    assert_eq!(rt;
+        format!(in alloc; "{fault}")?.as_str(),
+        "lines would be 4611686018427387904"
+    );
+    assert_eq!(rt;
+        shown(alloc, &full)?.as_str(),
+        "4611686018427387903 4611686018427387903 0 0 0 0"
+    );
+    full = Summary::of_lines(alloc, 1, 2);
+    full.merge(&Summary::of_lines(alloc, 3, 0))?;
+    assert_eq!(rt; shown(alloc, &full)?.as_str(), "6 4 2 0 0 0");
     Ok(())
 }
 
@@ -129,58 +148,25 @@ fn count(
     Ok(())
 }
 
-/// Two lines of one visitor, and a line without a visitor.
-fn three_lines(alloc: Global) -> Result<Summary, Fail> {
-    let mut sum = Summary::empty(alloc);
+#[test]
+fn counts_lines_and_their_visitors(rt: HostRuntime) -> Result<(), Fail> {
+    let alloc = rt.alloc();
+    let mut three = Summary::empty(alloc);
     let one = visitor(alloc, "10.0.0.1")?;
-    count(&mut sum, alloc, "10.0.0.1", Some(&one), 100, Some(7))?;
-    count(&mut sum, alloc, "10.0.0.1", Some(&one), 20, Some(9))?;
-    count(&mut sum, alloc, "10.0.0.2", None, 3, None)?;
-    Ok(sum)
-}
-
-/// These and a line of another visitor.
-fn four_lines(alloc: Global) -> Result<Summary, Fail> {
+    count(&mut three, alloc, "10.0.0.1", Some(&one), 100, Some(7))?;
+    count(&mut three, alloc, "10.0.0.1", Some(&one), 20, Some(9))?;
+    count(&mut three, alloc, "10.0.0.2", None, 3, None)?;
     let mut sum = Summary::empty(alloc);
     let two = visitor(alloc, "10.0.0.3")?;
     count(&mut sum, alloc, "10.0.0.1", Some(&two), 1000, Some(5))?;
-    sum.merge(&three_lines(alloc)?)?;
-    Ok(sum)
-}
-
-#[test]
-fn counts_a_visitor_once_for_each_key(rt: HostRuntime) -> Result<(), Fail> {
-    let alloc = rt.alloc();
-    let sum = four_lines(alloc)?;
-    let of_day = Amounts {
-        hits: 4,
-        bytes: 1123,
-        micros: 21,
-        max_micros: 9,
-        visitors: 2,
-    };
-    assert_eq!(rt; sum.amounts_of(&day(alloc)?), Some(of_day));
-    let of_host = Amounts {
-        hits: 3,
-        bytes: 1120,
-        micros: 21,
-        max_micros: 9,
-        visitors: 2,
-    };
-    assert_eq!(rt; sum.amounts_of(&host(alloc, "10.0.0.1")?), Some(of_host));
-    assert_eq!(rt; sum.amounts_of(&host(alloc, "10.0.0.9")?), None);
-    Ok(())
-}
-
-#[test]
-fn knows_each_keys_visitors(rt: HostRuntime) -> Result<(), Fail> {
-    let alloc = rt.alloc();
-    let sum = four_lines(alloc)?.copy()?;
-    let one = visitor(alloc, "10.0.0.1")?;
-    assert!(rt; sum.has_pair(&day(alloc)?, &one));
-    assert!(rt; sum.has_pair(&host(alloc, "10.0.0.1")?, &one));
-    assert!(rt; !sum.has_pair(&host(alloc, "10.0.0.2")?, &one));
-    assert_eq!(rt; sum.len(), 3);
+    sum.merge(&three.copy()?)?;
+    assert_eq!(rt;
+        shown(alloc, &sum)?.as_str(),
+        "4 0 0 4 1123 21|20240115 4 1123 21 9 10.0.0.1 10.0.0.3|10.0.0.1 3 1120 21 9 10.0.0.1 10.0.0.3|10.0.0.2 1 3 0 0"
+    );
+    let key = host(alloc, "10.0.0.1")?;
+    assert!(rt; sum.has_pair(&key, &two) && !three.has_pair(&key, &two));
+    assert_eq!(rt; sum.amounts_of(&key).ok_or("no host")?.visitors, 2);
     Ok(())
 }
 
@@ -200,16 +186,7 @@ fn merges_many_hosts(rt: HostRuntime) -> Result<(), Fail> {
     let alloc = rt.alloc();
     let mut sum = many_lines(alloc, 0, 40)?;
     sum.merge(&many_lines(alloc, 20, 60)?)?;
-    let of_day = Amounts {
-        hits: 80,
-        bytes: 800,
-        micros: 0,
-        max_micros: 0,
-        visitors: 60,
-    };
-    assert_eq!(rt; sum.amounts_of(&day(alloc)?), Some(of_day));
-    assert_eq!(rt; sum.len(), 61);
-    let key = host(alloc, "10.0.0.39")?;
-    assert!(rt; sum.has_pair(&key, &visitor(alloc, "10.0.0.39")?));
+    let of_day = sum.amounts_of(&day(alloc)?).ok_or("no day")?;
+    assert_eq!(rt; (sum.len(), of_day.hits, of_day.visitors), (61, 80, 60));
     Ok(())
 }

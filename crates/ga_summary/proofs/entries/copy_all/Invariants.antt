@@ -1,5 +1,5 @@
 use Rattle.std.proofs.Common.{◌≡◌, take}
-use Rattle.ga_summary.specs.Entries.{rows_of}
+use Rattle.ga_summary.specs.Steps.Entries.{rows_of}
 use Rattle.ga_summary.proofs.entries.copy_all.Given as goal
 
 abbrev pub invariant-loop-entry : goal.invariant-loop-entry

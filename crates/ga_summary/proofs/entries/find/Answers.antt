@@ -1,9 +1,9 @@
 use Rattle.std.proofs.Common.{rules}
 use Rattle.std.proofs.lemmas.Fn.{always_returns_same}
-use Rattle.ga_summary.specs.Order.{key_cmp}
-use Rattle.ga_summary.specs.Entries.{row_of}
+use Rattle.ga_base.specs.Orders.{key_cmp}
+use Rattle.ga_summary.specs.Steps.Entries.{row_of}
 use Rattle.ga_summary.proofs.Put.{searched_map}
-use Rattle.ga_summary.proofs.Orders.{key_cmp_total}
+use Rattle.ga_base.proofs.OrderLemmas.{key_cmp_total}
 use Rattle.ga_summary.proofs.entries.find.Goals as goal
 
 pub returns : goal.returns

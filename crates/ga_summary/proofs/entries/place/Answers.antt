@@ -1,7 +1,7 @@
-use Rattle.ga_summary.specs.Order.{key_cmp}
+use Rattle.ga_base.specs.Orders.{key_cmp}
 use Rattle.ga_summary.specs.Rows.{Row}
-use Rattle.ga_summary.specs.Entries.{rows_of}
-use Rattle.ga_summary.specs.Places.{StandsAt, GoesTo}
+use Rattle.ga_summary.specs.Steps.Entries.{rows_of}
+use Rattle.ga_summary.specs.Steps.Places.{StandsAt, GoesTo}
 use Rattle.ga_summary.proofs.Placing.{takes_here, rows_taken, others_taken, rows_inserted, others_inserted}
 use Rattle.ga_summary.proofs.entries.place.Goals as goal
 

@@ -1,10 +1,10 @@
 use Rattle.std.proofs.Common.{refl, ap, length, arith}
-use Rattle.ga_summary.specs.Order.{key_cmp}
+use Rattle.ga_base.specs.Orders.{key_cmp}
 use Rattle.ga_summary.specs.Rows.{Row}
-use Rattle.ga_summary.specs.Entries.{row_of}
-use Rattle.ga_summary.specs.Joined.{joined}
+use Rattle.ga_summary.specs.Steps.Entries.{row_of}
+use Rattle.ga_summary.specs.Steps.Joined.{joined}
 use Rattle.ga_summary.proofs.Put.{rises_put, rises_head, rises_tail}
-use Rattle.ga_summary.proofs.Orders.{key_cmp_total}
+use Rattle.ga_base.proofs.OrderLemmas.{key_cmp_total}
 use Rattle.ga_summary.proofs.Placing.{places_left}
 use Rattle.ga_summary.proofs.entries.place_each.Goals as goal
 

@@ -1,11 +1,11 @@
 use Rattle.std.proofs.Common.{◌≡◌, ◌+◌, ◌≤◌, vec_len, vec_capacity, length}
 use Rattle.std.specs.Vec.Iter.{into_iter_items}
 use Rattle.ga_summary.specs.Rows.{Row}
-use Rattle.ga_summary.specs.Order.{key_cmp}
-use Rattle.ga_summary.specs.Entries.{rows_of}
-use Rattle.ga_summary.specs.Joined.{put_rows}
-use Rattle.ga_summary.specs.Room.{AllHavePlace}
-use Rattle.ga_summary.specs.Places.{Rises}
+use Rattle.ga_base.specs.Orders.{key_cmp}
+use Rattle.ga_summary.specs.Steps.Entries.{rows_of}
+use Rattle.ga_summary.specs.Steps.Joined.{put_rows}
+use Rattle.ga_summary.specs.Steps.Room.{AllHavePlace}
+use Rattle.ga_summary.specs.Steps.Places.{Rises}
 use Rattle.ga_summary.proofs.entries.place_each.Given as goal
 
 abbrev pub invariant-loop-entry : goal.invariant-loop-entry

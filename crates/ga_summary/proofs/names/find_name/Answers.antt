@@ -1,6 +1,6 @@
 use Rattle.std.proofs.Common.{rules}
 use Rattle.std.proofs.lemmas.Fn.{always_returns_same}
-use Rattle.ga_summary.specs.Order.{name_cmp}
+use Rattle.ga_base.specs.Orders.{name_cmp}
 use Rattle.ga_summary.proofs.NameLists.{names_searched}
 use Rattle.ga_summary.proofs.names.find_name.Goals as goal
 

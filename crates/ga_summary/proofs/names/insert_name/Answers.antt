@@ -1,6 +1,6 @@
 use Rattle.std.proofs.Common.{sym, ◌∙◌, subst}
 use Rattle.std.specs.List.Sorted.{IsStrictlySortedBy}
-use Rattle.ga_summary.specs.Order.{name_cmp}
+use Rattle.ga_base.specs.Orders.{name_cmp}
 use Rattle.ga_summary.proofs.NameLists.{put_name_found, put_name_missing, rising_put_name}
 use Rattle.ga_summary.proofs.names.insert_name.Goals as goal
 

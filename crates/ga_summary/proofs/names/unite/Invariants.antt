@@ -1,8 +1,8 @@
 use Rattle.std.proofs.Common.{◌≡◌, ◌+◌, ◌≤◌, vec_len, vec_capacity, length}
 use Rattle.std.specs.List.Sorted.{IsStrictlySortedBy}
 use Rattle.std.specs.Vec.Iter.{into_iter_items}
-use Rattle.ga_summary.specs.Order.{name_cmp}
-use Rattle.ga_summary.specs.Joined.{put_names}
+use Rattle.ga_base.specs.Orders.{name_cmp}
+use Rattle.ga_summary.specs.Steps.Joined.{put_names}
 use Rattle.ga_summary.proofs.names.unite.Given as goal
 
 abbrev pub invariant-loop-name : goal.invariant-loop-name

@@ -1,6 +1,6 @@
 use Rattle.std.proofs.Common.{◌≡◌, take, map}
 use Rattle.std.specs.Option.{option_copied}
-use Rattle.ga_summary.specs.Entries.{rows_of}
+use Rattle.ga_summary.specs.Steps.Entries.{rows_of}
 use Rattle.ga_summary.specs.OneLine.{line_row}
 use Rattle.ga_summary.proofs.one_line.line_entries.Given as goal
 

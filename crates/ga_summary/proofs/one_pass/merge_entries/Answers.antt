@@ -1,9 +1,9 @@
 use Rattle.std.proofs.Common.{◌≡◌, ◌∷◌, List, Box, Global, subst, sym, ◌∙◌, Less, Equal, Greater, arith}
 use Rattle.std.specs.Vec.Iter.{into_iter_items}
 use Rattle.ga_summary.specs.declared.entry.Entry.{Entry}
-use Rattle.ga_summary.specs.Room.{AllHavePlace}
-use Rattle.ga_summary.specs.Entries.{row_of}
-use Rattle.ga_summary.specs.Order.{key_cmp}
+use Rattle.ga_summary.specs.Steps.Room.{AllHavePlace}
+use Rattle.ga_summary.specs.Steps.Entries.{row_of}
+use Rattle.ga_base.specs.Orders.{key_cmp}
 use Rattle.ga_summary.specs.Rows.{Row}
 use Rattle.ga_summary.proofs.NamePass.{ended}
 use Rattle.ga_summary.proofs.Put.{rises_tail}

@@ -15,8 +15,8 @@ names-preserved-in-Less c =
       rest = rw (← next.ensures.items, c.push_within.ensures.items) (step_less c.names.out.items _ _ _ c.in-Some-Some.a c.in-Some-Some.b inv.rising_right inv.rest (sym c.compare_names.ensures ∙ c.in-Less.is));
     }
 
-pub names-preserved-in-Equal-1 : goal.names-preserved-in-Equal-1
-names-preserved-in-Equal-1 c =
+pub names-preserved-in-Equal : goal.names-preserved-in-Equal
+names-preserved-in-Equal c =
     let inv = rw (c.in-Some-Some.is-0, c.in-Some-Some.is-1) at c.names.invariant in
     let left = c.next-next_left-in-Equal in
     let right = c.next-next_right-in-Equal in

@@ -2,8 +2,8 @@ use Rattle.std.proofs.Common.{◌≡◌, ◌+◌, ◌≤◌, ◌++◌, [], IfNon
 use Rattle.std.specs.List.Sorted.{IsStrictlySortedBy}
 use Rattle.std.specs.Option.{option_to_list}
 use Rattle.std.specs.Vec.Iter.{into_iter_items}
-use Rattle.ga_summary.specs.Order.{name_cmp}
-use Rattle.ga_summary.specs.Joined.{put_names}
+use Rattle.ga_base.specs.Orders.{name_cmp}
+use Rattle.ga_summary.specs.Steps.Joined.{put_names}
 use Rattle.ga_summary.proofs.one_pass.merge_names.Given as goal
 
 abbrev pub invariant-names : goal.invariant-names

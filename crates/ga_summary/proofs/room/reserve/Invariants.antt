@@ -1,7 +1,7 @@
 use Rattle.std.proofs.Common.{max, ◌≡◌, ℕ, ◌+◌, ◌<◌, ◌≤◌, Box, Global, length, get_or, vec_len, vec_capacity}
 use Rattle.ga_summary.specs.declared.entry.Entry.{Entry}
-use Rattle.ga_summary.specs.Entries.{rows_of}
-use Rattle.ga_summary.specs.Room.{HasRoom}
+use Rattle.ga_summary.specs.Steps.Entries.{rows_of}
+use Rattle.ga_summary.specs.Steps.Room.{HasRoom}
 use Rattle.ga_summary.proofs.room.reserve.Given as goal
 
 abbrev pub invariant-loop-entry : goal.invariant-loop-entry

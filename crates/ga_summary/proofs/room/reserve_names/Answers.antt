@@ -1,8 +1,8 @@
 use Rattle.std.proofs.Common.{OnOk, Ok, Err, Result}
-use Rattle.ga_summary.specs.Order.{key_cmp}
+use Rattle.ga_base.specs.Orders.{key_cmp}
 use Rattle.ga_summary.specs.Rows.{Row}
-use Rattle.ga_summary.specs.Entries.{rows_of}
-use Rattle.ga_summary.specs.Places.{StandsAt, GoesTo}
+use Rattle.ga_summary.specs.Steps.Entries.{rows_of}
+use Rattle.ga_summary.specs.Steps.Places.{StandsAt, GoesTo}
 use Rattle.ga_summary.proofs.RowLookups.{row_missing}
 use Rattle.ga_summary.proofs.Placing.{rows_same, room_here, room_kept, room_missing}
 use Rattle.ga_summary.proofs.room.reserve_names.Goals as goal

@@ -1,7 +1,7 @@
 use Rattle.std.proofs.Common.{◌≡◌, ap, ◌∙◌}
-use Rattle.ga_summary.specs.Entries.{rows_of}
+use Rattle.ga_summary.specs.Steps.Entries.{rows_of}
 use Rattle.ga_summary.specs.Rows.{SummaryValue, totals_plus}
-use Rattle.ga_summary.specs.Joined.{put_rows}
+use Rattle.ga_summary.specs.Steps.Joined.{put_rows}
 use Rattle.ga_summary.proofs.Bounds.{rows_small, places_from_room}
 use Rattle.ga_summary.proofs.Merging.{IsInOrder-put_rows}
 use Rattle.ga_summary.proofs.Soundness.{IsSound-merged_value}

@@ -1,7 +1,7 @@
 use Rattle.std.specs.List.Sorted.{IsStrictlySortedBy}
-use Rattle.ga_summary.specs.Order.{name_cmp}
+use Rattle.ga_base.specs.Orders.{name_cmp}
 use Rattle.ga_summary.specs.Rows.{Row}
-use Rattle.ga_summary.specs.Entries.{rows_of, row_of}
+use Rattle.ga_summary.specs.Steps.Entries.{rows_of, row_of}
 use Rattle.ga_summary.proofs.Merging.{all-row_at}
 use Rattle.ga_summary.proofs.summary.Summary.has_pair.Goals as goal
 

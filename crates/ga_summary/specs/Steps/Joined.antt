@@ -1,8 +1,8 @@
 -- Two rows of a key joined, and rows put among rows.
 use Rattle.std.specs.Prelude.{List}
-use Rattle.ga_summary.specs.declared.name.Name.{Name}
-use Rattle.ga_summary.specs.Order.{key_cmp, name_cmp}
-use Rattle.ga_summary.specs.Places.{put, put_all}
+use Rattle.ga_base.specs.declared.name.Name.{Name}
+use Rattle.ga_base.specs.Orders.{key_cmp, name_cmp}
+use Rattle.ga_summary.specs.Steps.Places.{put, put_all}
 use Rattle.ga_summary.specs.Rows.{Row, SummaryValue, sums_plus, totals_plus}
 
 -- a name in its place among names, unless it is there

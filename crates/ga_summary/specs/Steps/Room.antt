@@ -7,7 +7,7 @@ use Rattle.std.specs.declared.boxed.Box.{Box}
 use Rattle.ga_base.specs.declared.key.Key.{Key}
 use Rattle.ga_base.specs.declared.counts.Sums.{Sums}
 use Rattle.ga_summary.specs.declared.entry.Entry.{Entry}
-use Rattle.ga_summary.specs.Order.{is_same_key, name_cmp}
+use Rattle.ga_base.specs.Orders.{is_same_key, name_cmp}
 
 -- two sums fit 64 bits together
 pub record SumsFit (a b : Sums) : Type 0 where
