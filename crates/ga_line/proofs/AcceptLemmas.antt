@@ -1,5 +1,5 @@
 -- The fields of a line that are accepted, and those that are refused.
-use Rattle.std.proofs.Common.{◌≡◌, ◌↔◌, ℕ, ◌<◌, ◌≤◌, Bool, true, false, List, length, Option, Some, None, sym, ap, ◌∙◌, subst, arith}
+use Rattle.std.proofs.Common.{◌≡◌, ◌↔◌, ℕ, ◌≤◌, Bool, false, List, length, Option, Some, sym, ◌∙◌, subst, arith}
 use Rattle.std.specs.Prelude.{IsTrue, IfSome}
 use Rattle.std.proofs.lemmas.Bool.{false≢true}
 use Rattle.ga_base.specs.declared.counts.TheConstants.{BIG}
@@ -9,7 +9,7 @@ use Rattle.ga_line.specs.declared.setup.LineSetup.{LineSetup}
 use Rattle.ga_line.specs.Fits.{Part, Fits, field}
 use Rattle.ga_line.specs.Letters.{host_letter, both_letter, date_letter, time_letter, status_letter, size_letter}
 use Rattle.ga_line.specs.Records.{IsMissing, day_text, request_text, taken_part, HasMoment, SaysMoment, HasStatus, HasMicros, size_value, IsRefused, no_host, no_date, no_request, bad_moment, bad_status, too_large, too_slow, Fails, too_long, misfit, refused}
-use Rattle.ga_line.specs.Valid.{HasNumbers}
+use Rattle.ga_line.specs.Steps.Valid.{HasNumbers}
 use Rattle.ga_line.proofs.ReadLemmas.{taken-unique}
 use Rattle.ga_line.proofs.UniqueFits.{Fits-unique}
 

@@ -1,18 +1,18 @@
 -- Numbers in digits, with decimals.
-use Rattle.std.proofs.Common.{◌≡◌, ◌≢◌, ℕ, zero, suc, ◌+◌, ◌-◌, ◌<◌, ◌≤◌, Bool, true, false, min, List, [], ◌∷◌, ◌++◌, length, take, replicate, Option, Some, None, refl, sym, ap, ◌∙◌, subst, arith, append-nil, append_assoc}
-use Rattle.std.proofs.lemmas.Bool.{false≢true}
-use Rattle.std.proofs.lemmas.Bool.Decides.{nat_tests}
-use Rattle.std.proofs.lemmas.List.{take-replicate, take_all}
-use Rattle.std.specs.Prelude.{◌&&◌, IfSome}
+use Rattle.std.proofs.Common.{◌≡◌, ℕ, zero, suc, ◌+◌, ◌-◌, ◌<◌, ◌≤◌, true, ◌*◌, ◌/◌, ◌^◌, min, List, [], ◌∷◌, ◌++◌, length, take, drop, replicate, Option, Some, None, refl, sym, ap, ◌∙◌, subst, arith, append-nil, append_assoc, length-drop, ⊎_elim}
+use Rattle.std.proofs.lemmas.Bool.{false≢true, cases_lt}
+use Rattle.std.proofs.lemmas.List.{take-replicate, take_all, take-append-drop, length-replicate}
+use Rattle.std.proofs.lemmas.Nat.{div-mul-add, pow-add}
+use Rattle.std.proofs.Math.Nat.{mul-div_cancel, mul_assoc, mul-le-mul_right, mul-lt-mul_of_pos_right, one-le-pow, add-mul, pow-succ'}
 use Rattle.std.specs.Option.{IfNone}
-use Rattle.std.specs.Char.{is_ascii_digit}
+use Rattle.std.specs.Char.{is_ascii_digit, digit_value}
 use Rattle.std.specs.Str.{all_ascii_digits}
-use Rattle.std.specs.Str.Parse.{digits_value}
-use Rattle.ga_line.specs.Fits.{Part, IsFree, nothing, byte, pair, EndsAt, NeverEnds}
-use Rattle.ga_line.specs.Letters.{micros_letter, millis_letter, seconds_letter}
+use Rattle.std.specs.Str.Parse.{digits_value, digits_value_after}
+use Rattle.ga_line.specs.Fits.{Part, IsFree, nothing, byte, EndsAt, NeverEnds}
+use Rattle.ga_line.specs.Letters.{millis_letter, seconds_letter}
 use Rattle.ga_line.specs.Records.{AreDigits, IsDecimal, whole, parted, decimal_value, IsMicros, in_micros, in_millis, in_seconds}
 use Rattle.ga_line.proofs.FreeLemmas.{EndsAt-unique}
-use Rattle.ga_line.proofs.SizeLemmas.{first-of, rest-of}
+use Rattle.ga_line.proofs.SizeLemmas.{first-of, rest-of, digit-range, digit-is}
 
 -- digits are digits in front
 pub all-front : (xs : List ℕ) (n : ℕ) → all_ascii_digits xs ≡ true → all_ascii_digits (take n xs) ≡ true
@@ -20,27 +20,104 @@ all-front xs zero all = refl
 all-front [] (suc n) all = refl
 all-front (x ∷ xs) (suc n) all = rw (first-of (is_ascii_digit x) (all_ascii_digits xs) all) (all-front xs n (rest-of (is_ascii_digit x) (all_ascii_digits xs) all))
 
-front-of : (xs ys : List ℕ) (n : ℕ) → take n (xs ++ ys) ≡ take (min (length xs) n) xs ++ take (n - min (length xs) n) ys
-front-of [] ys n =
-    let none : min 0 n ≡ 0 = omega arith in
-    let all : n ≡ n - 0 = omega arith in
-    rw none (ap (λ (m : ℕ). take m ys) all)
-front-of (x ∷ xs) ys zero =
-    let none : min (length (x ∷ xs)) 0 ≡ 0 = omega arith in
-    rw none refl
-front-of (x ∷ xs) ys (suc n) =
-    let one : min (length (x ∷ xs)) (suc n) ≡ suc (min (length xs) n) = omega arith in
-    let left : suc n - suc (min (length xs) n) ≡ n - min (length xs) n = omega arith in
-    rw (one, left) (ap (λ (l : List ℕ). x ∷ l) (front-of xs ys n))
+power-above : (n : ℕ) → 0 < 10 ^ n
+power-above n = one-le-pow n 10 (omega arith)
+
+digits-back : (xs : List ℕ) (n : ℕ) → all_ascii_digits xs ≡ true → all_ascii_digits (drop n xs) ≡ true
+digits-back xs zero all = all
+digits-back [] (suc n) all = refl
+digits-back (x ∷ xs) (suc n) all = digits-back xs n (rest-of (is_ascii_digit x) (all_ascii_digits xs) all)
+
+one-more : (n : ℕ) → 10 * 10 ^ n ≡ 10 ^ suc n
+one-more n = sym (pow-succ' 10 n)
+
+value-first : (d : ℕ) (ds : List ℕ) → digits_value 10 (d ∷ ds) ≡ digits_value_after 10 (digit_value d) ds
+value-first d ds = let none : 0 * 10 + digit_value d ≡ digit_value d = omega arith in ap (λ (v : ℕ). digits_value_after 10 v ds) none
+
+-- a number with digits behind it, and one with zeros
+value-after : (n : ℕ) (ds : List ℕ) → digits_value_after 10 n ds ≡ n * 10 ^ length ds + digits_value 10 ds
+value-after n [] = omega arith
+value-after n (d ∷ ds) =
+    value-after (n * 10 + digit_value d) ds
+    ∙ shifted (10 ^ length ds) (digits_value 10 ds) ∙ ap (λ (w : ℕ). n * w + (digit_value d * 10 ^ length ds + digits_value 10 ds)) (one-more (length ds))
+    ∙ ap (λ (v : ℕ). n * 10 ^ suc (length ds) + v) (sym (value-first d ds ∙ value-after (digit_value d) ds))
+  where
+    shifted : (w v : ℕ) → (n * 10 + digit_value d) * w + v ≡ n * (10 * w) + (digit_value d * w + v)
+    shifted w v = omega (arith, add-mul (n * 10) (digit_value d) w, mul_assoc n 10 w)
+
+value-append : (xs ys : List ℕ) → digits_value 10 (xs ++ ys) ≡ digits_value 10 xs * 10 ^ length ys + digits_value 10 ys
+value-append xs ys = joined 0 xs ∙ value-after (digits_value 10 xs) ys
+  where
+    joined : (n : ℕ) (xs : List ℕ) → digits_value_after 10 n (xs ++ ys) ≡ digits_value_after 10 (digits_value_after 10 n xs) ys
+    joined n [] = refl
+    joined n (x ∷ xs) = joined (n * 10 + digit_value x) xs
+
+digit-below : (d : ℕ) → is_ascii_digit d ≡ true → digit_value d ≤ 9
+digit-below d digit = omega (arith, digit-is d digit, (digit-range d digit).1)
+
+-- digits are below the next power of ten
+value-below : (ds : List ℕ) → all_ascii_digits ds ≡ true → digits_value 10 ds < 10 ^ length ds
+value-below [] all = omega arith
+value-below (d ∷ ds) all =
+    let digit = digit-below d (first-of (is_ascii_digit d) (all_ascii_digits ds) all) in
+    let rest = value-below ds (rest-of (is_ascii_digit d) (all_ascii_digits ds) all) in
+    subst (λ (v : ℕ). v < 10 ^ length (d ∷ ds)) (sym (value-first d ds ∙ value-after (digit_value d) ds)) (subst (λ (m : ℕ). digit_value d * 10 ^ length ds + digits_value 10 ds < m) (one-more (length ds)) (within (digit_value d) (10 ^ length ds) (digits_value 10 ds) digit rest))
+  where
+    within : (k w v : ℕ) → k ≤ 9 → v < w → k * w + v < 10 * w
+    within k w v small below = let most : k * w ≤ 9 * w = mul-le-mul_right w small in omega arith
+
+zeros-value : (n : ℕ) → digits_value 10 (replicate n 48) ≡ 0
+zeros-value zero = refl
+zeros-value (suc n) = zeros-value n
+
+plus-nothing : (n : ℕ) → n + 0 ≡ n
+plus-nothing n = omega arith
+
+-- where all decimals count, zeros fill the places that are left
+all-decimals : (places : ℕ) (front back : List ℕ) → length back ≤ places → digits_value 10 ((front ++ back) ++ replicate (places - length back) 48) ≡ decimal_value places front back
+all-decimals places front back few =
+    let more = places - length back in
+    let all : places ≡ more + length back = omega arith in
+    let long : length (replicate {A = ℕ} more 48) ≡ more = length-replicate more 48 in
+    value-append (front ++ back) (replicate more 48) ∙ ap (λ (v : ℕ). digits_value 10 (front ++ back) * 10 ^ length (replicate {A = ℕ} more 48) + v) (zeros-value more)
+    ∙ plus-nothing _ ∙ ap (λ (l : ℕ). digits_value 10 (front ++ back) * 10 ^ l) long
+    ∙ sym (mul-div_cancel (digits_value 10 (front ++ back) * 10 ^ more) (power-above (length back)))
+    ∙ ap (λ (w : ℕ). w / 10 ^ length back) (mul_assoc (digits_value 10 (front ++ back)) (10 ^ more) (10 ^ length back) ∙ ap (λ (w : ℕ). digits_value 10 (front ++ back) * w) (sym (pow-add 10 more (length back)) ∙ ap (λ (p : ℕ). 10 ^ p) (sym all)))
+
+-- where there are more, the others are cut
+some-decimals : (places : ℕ) (front back : List ℕ) → places ≤ length back → all_ascii_digits back ≡ true → digits_value 10 (front ++ take places back) ≡ decimal_value places front back
+some-decimals places front back many all =
+    let cut = drop places back in
+    let high = digits_value 10 (front ++ take places back) in
+    let low = digits_value 10 cut in
+    let long : length back ≡ length cut + places = omega (arith, length-drop places back) in
+    let parted : digits_value 10 (front ++ back) ≡ high * 10 ^ length cut + low =
+    ap (λ (xs : List ℕ). digits_value 10 (front ++ xs)) (sym (take-append-drop places back)) ∙ ap (digits_value 10) (sym (append_assoc front (take places back) cut)) ∙ value-append (front ++ take places back) cut in
+    let whole : 10 ^ length back ≡ 10 ^ length cut * 10 ^ places = ap (λ (l : ℕ). 10 ^ l) long ∙ pow-add 10 (length cut) places in
+    let below : low * 10 ^ places < 10 ^ length cut * 10 ^ places = mul-lt-mul_of_pos_right (value-below cut (digits-back back places all)) (power-above places) in
+    sym (ap (λ (v : ℕ). v * 10 ^ places / 10 ^ length back) parted ∙ ap (λ (w : ℕ). (high * 10 ^ length cut + low) * 10 ^ places / w) whole
+    ∙ ap (λ (v : ℕ). v / (10 ^ length cut * 10 ^ places)) (spread high (10 ^ length cut) low (10 ^ places)) ∙ div-mul-add high (10 ^ length cut * 10 ^ places) (low * 10 ^ places) below)
+  where
+    spread : (h w l p : ℕ) → (h * w + l) * p ≡ h * (w * p) + l * p
+    spread h w l p = add-mul (h * w) l p ∙ ap (λ (v : ℕ). v + l * p) (mul_assoc h w p)
 
 -- the decimals that count, and zeros where there are fewer
-pub decimals-are : (places : ℕ) (front back : List ℕ) (there : ℕ) → there ≡ min (length back) places → places ≤ 6
-    → (front ++ take there back) ++ take (places - there) (48 ∷ 48 ∷ 48 ∷ 48 ∷ 48 ∷ 48 ∷ []) ≡ front ++ take places (back ++ replicate places 48)
-decimals-are places front back there is few =
-    let filled : take (places - there) (replicate places 48) ≡ take (places - there) (48 ∷ 48 ∷ 48 ∷ 48 ∷ 48 ∷ 48 ∷ []) =
-    take-replicate (places - there) places 48 (omega arith) ∙ sym (take-replicate (places - there) 6 48 (omega arith)) in
-    append_assoc front (take there back) (take (places - there) (48 ∷ 48 ∷ 48 ∷ 48 ∷ 48 ∷ 48 ∷ []))
-    ∙ ap (λ (l : List ℕ). front ++ l) (ap (λ (l : List ℕ). take there back ++ l) (sym filled) ∙ rw is (sym (front-of back (replicate places 48) places)))
+pub decimals-are : (places : ℕ) (front back : List ℕ) (there : ℕ) → there ≡ min (length back) places → places ≤ 6 → all_ascii_digits back ≡ true
+    → digits_value 10 ((front ++ take there back) ++ take (places - there) (48 ∷ 48 ∷ 48 ∷ 48 ∷ 48 ∷ 48 ∷ [])) ≡ decimal_value places front back
+decimals-are places front back there is few all =
+    ⊎_elim
+    (λ short.
+    let here : there ≡ length back = omega (arith, is, short) in
+    ap (λ (xs : List ℕ). digits_value 10 ((front ++ xs) ++ take (places - there) (48 ∷ 48 ∷ 48 ∷ 48 ∷ 48 ∷ 48 ∷ []))) (take_all there back (omega (arith, here)))
+    ∙ ap (λ (xs : List ℕ). digits_value 10 ((front ++ back) ++ xs)) (take-replicate (places - there) 6 48 (omega arith) ∙ ap (λ (n : ℕ). replicate (places - n) 48) here)
+    ∙ all-decimals places front back (omega (arith, short)))
+    (λ long.
+    let here : there ≡ places = omega (arith, is, long) in
+    let none : places - there ≡ 0 = omega (arith, here) in
+    ap (λ (n : ℕ). digits_value 10 ((front ++ take there back) ++ take n (48 ∷ 48 ∷ 48 ∷ 48 ∷ 48 ∷ 48 ∷ []))) none
+    ∙ ap (digits_value 10) (append-nil (front ++ take there back)) ∙ ap (λ (n : ℕ). digits_value 10 (front ++ take n back)) here
+    ∙ some-decimals places front back long all)
+    (cases_lt (length back) places)
 
 -- digits hold no dot
 digits-free : (xs : List ℕ) → all_ascii_digits xs ≡ true → IsFree 46 xs

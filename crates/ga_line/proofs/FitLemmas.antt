@@ -1,10 +1,10 @@
 -- One item of fitting a line: what fits all items is what fits those that are left, behind the fields that are read.
-use Rattle.std.proofs.Common.{◌≡◌, ℕ, suc, ◌+◌, ◌<◌, ◌≤◌, List, [], ◌∷◌, ◌++◌, length, drop, get_or, refl, sym, ap, ◌∙◌, subst, ⊎_elim, inl, inr, Option, Some, None, append_assoc, append-nil, zero, add-one, drop-cons}
+use Rattle.std.proofs.Common.{◌≡◌, ℕ, suc, ◌+◌, ◌<◌, List, [], ◌∷◌, ◌++◌, length, drop, get_or, refl, sym, ap, ◌∙◌, subst, ⊎_elim, inl, inr, Option, Some, None, append_assoc, append-nil, zero, add-one, drop-cons}
 use Rattle.std.specs.List.{slice_get}
 use Rattle.ga_base.specs.declared.formats.FormatItem.{FormatItem}
 use Rattle.ga_base.specs.declared.formats.FormatItem.TheVariants.{Literal, Skip, Field, Forwarded}
-use Rattle.ga_line.specs.Fits.{Part, Fits, EndsAt, NeverEnds, SkipsSpace}
-use Rattle.ga_line.specs.Fitting.{IsReadTo, EndsBefore, EndsLine}
+use Rattle.ga_line.specs.Fits.{Part, Fits, SkipsSpace}
+use Rattle.ga_line.specs.Steps.Fitting.{IsReadTo, EndsBefore, EndsLine}
 use Rattle.ga_line.proofs.FreeLemmas.{EndsAt-unique}
 use Rattle.ga_line.proofs.UniqueFits.{SkipsSpace-unique}
 

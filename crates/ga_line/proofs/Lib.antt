@@ -1,14 +1,15 @@
 mod AcceptLemmas
 pub mod BoundLemmas
-mod DateLemmas
 mod DecimalLemmas
+mod EveryLine
 mod FieldLemmas
 mod FitLemmas
 mod FreeLemmas
-pub mod LineLemmas
+mod LineLemmas
+mod Known
 mod NumbersLemmas
 mod PlaceLemmas
-pub mod ReadLemmas
+mod ReadLemmas
 mod SizeLemmas
 mod SpaceLemmas
-pub mod UniqueFits
+mod UniqueFits

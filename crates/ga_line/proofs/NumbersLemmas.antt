@@ -1,5 +1,5 @@
 -- The numbers that the fields of a line say: nothing else than their texts spell.
-use Rattle.std.proofs.Common.{◌≡◌, ℕ, ◌<◌, ◌≤◌, min, List, Option, Some, None, ap, sym, ◌∙◌, subst, arith}
+use Rattle.std.proofs.Common.{◌≡◌, ℕ, ◌<◌, ◌≤◌, min, List, Option, Some, None, sym, subst, arith}
 use Rattle.std.specs.Borrow.{Bor}
 use Rattle.std.specs.Option.{option_copied, option_map}
 use Rattle.ga_base.specs.declared.counts.TheConstants.{BIG}
@@ -7,9 +7,9 @@ use Rattle.ga_dates.specs.declared.item.Item.{Item}
 use Rattle.ga_dates.specs.Spelling.{SpellsDate, SpellsTime, SpellsBoth}
 use Rattle.ga_line.specs.declared.setup.LineSetup.{LineSetup}
 use Rattle.ga_line.specs.declared.digits.TheConstants.{TOO_BIG}
-use Rattle.ga_line.specs.Fitting.{part_of}
+use Rattle.ga_line.specs.Steps.Fitting.{part_of}
 use Rattle.ga_line.specs.Records.{HasMoment, HasMinute, HasMicros, IsMicros}
-use Rattle.ga_line.specs.Valid.{IsTooSlow}
+use Rattle.ga_line.specs.Steps.Valid.{IsTooSlow}
 
 None≢Some : {X : Type 0} {x : X} → None ≡ Some x → ⊥
 None≢Some e = cc

@@ -1,5 +1,5 @@
 -- The value of digits, one after the other.
-use Rattle.std.proofs.Common.{◌≡◌, ℕ, zero, suc, ◌+◌, ◌-◌, ◌*◌, ◌<◌, ◌≤◌, Bool, true, false, min, List, [], ◌∷◌, ◌++◌, length, take, get_or, refl, sym, ap, ◌∙◌, subst, arith, append-nil, append_assoc}
+use Rattle.std.proofs.Common.{◌≡◌, ℕ, zero, suc, ◌+◌, ◌-◌, ◌*◌, ◌<◌, ◌≤◌, Bool, true, false, min, List, [], ◌∷◌, ◌++◌, length, take, get_or, refl, sym, ap, ◌∙◌, arith, append-nil, append_assoc}
 use Rattle.std.proofs.lemmas.Bool.{false≢true}
 use Rattle.std.proofs.lemmas.Bool.Decides.{nat_tests}
 use Rattle.std.proofs.lemmas.List.{take_more}
@@ -25,7 +25,7 @@ digit-at (d ∷ digits) (suc i) lt all = digit-at digits i (omega arith) (rest-o
 pub digit-range : (b : ℕ) → is_ascii_digit b ≡ true → (48 ≤ b) × (b ≤ 57)
 digit-range b digit = (grind (arith, nat_tests), grind (arith, nat_tests))
 
-digit-is : (b : ℕ) → is_ascii_digit b ≡ true → digit_value b ≡ b - 48
+pub digit-is : (b : ℕ) → is_ascii_digit b ≡ true → digit_value b ≡ b - 48
 digit-is b digit = grind (arith, nat_tests)
 
 after-push : (n : ℕ) (xs : List ℕ) (d : ℕ) → digits_value_after 10 n (xs ++ d ∷ []) ≡ digits_value_after 10 n xs * 10 + digit_value d

@@ -1,8 +1,9 @@
 -- When a line fits the items of a log format, and which texts its fields then have: cases on the items,
--- in their order, each on a suffix of the line. The items are those of GoAccess's log formats; that a
--- backslash hides a double quote is our own rule.
-use Rattle.std.specs.Prelude.{◌≡◌, ◌≢◌, ℕ, ◌⊎◌, ◌==◌, Bool, false, ◌&&◌, ◌||◌, nat_le, List, [], ◌∷◌, ◌++◌, Option, Some, None, fold, if◌then◌else◌}
-use Rattle.std.specs.List.{AllPass}
+-- in their order, each on a suffix of the line. The items are those of GoAccess's log formats; where
+-- exactly a field ends, and that a backslash hides a double quote, is our own rule.
+use Rattle.std.specs.Prelude.{◌≡◌, ◌≢◌, ℕ, ◌⊎◌, ◌==◌, Bool, false, ◌&&◌, ◌||◌, nat_le, List, [], ◌∷◌, ◌++◌, Option}
+use Rattle.std.specs.List.{AllPass, find}
+use Rattle.std.specs.Option.{option_map}
 use Rattle.ga_base.specs.declared.formats.FormatItem.{FormatItem}
 use Rattle.ga_base.specs.declared.formats.FormatItem.TheVariants.{Literal, Skip, Field, Forwarded}
 
@@ -54,11 +55,7 @@ Fits (Field letter ∷ Literal stop ∷ items) rest parts =
 Fits (Field letter ∷ items) rest parts = parts ≡ (letter, rest) ∷ []
 Fits (Forwarded separators ∷ items) rest parts = ⊥
 
--- what is known of the field with a letter after one more field
-abbrev pub noted : ℕ → Option (List ℕ) → Part → Option (List ℕ)
-noted letter found part = if part.0 == letter then Some part.1 else found
-
 -- the text of the field with a letter, None where the line ended before it: a letter stands once in a
 -- format, but for the one of fields that are ignored
 abbrev pub field : ℕ → List Part → Option (List ℕ)
-field letter parts = fold (noted letter) None parts
+field letter parts = option_map (λ part. part.1) (find (λ part. part.0 == letter) parts)

@@ -1,7 +1,6 @@
 pub mod Bounds
 pub mod Fits
-pub mod Fitting
 pub mod Letters
 pub mod Lines
 pub mod Records
-pub mod Valid
+pub mod Steps

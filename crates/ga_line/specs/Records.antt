@@ -1,11 +1,10 @@
 -- What a line of a log says: the line is passed over, or it fails, or it is a record.
-use Rattle.std.specs.Prelude.{◌≡◌, ℕ, ◌+◌, ◌*◌, ◌^◌, ◌<◌, ◌≤◌, ◌⊎◌, ◌==◌, Bool, true, false, ⊤, List, [], ◌∷◌, ◌++◌, length, take, replicate, Option, Some, None, IfSome, unwrap_or, codes, if◌then◌else◌}
+use Rattle.std.specs.Prelude.{◌≡◌, ℕ, ◌*◌, ◌/◌, ◌^◌, ◌<◌, ◌≤◌, ◌⊎◌, ◌==◌, Bool, true, false, ⊤, List, [], ◌∷◌, ◌++◌, length, Option, Some, None, unwrap_or, codes, if◌then◌else◌}
 use Rattle.std.specs.List.{find}
 use Rattle.std.specs.Str.{all_ascii_digits, bytes_eq}
 use Rattle.std.specs.Str.Lossy.{utf8_lossy}
 use Rattle.std.specs.Str.Parse.{digits_value}
 use Rattle.ga_base.specs.declared.counts.TheConstants.{BIG}
-use Rattle.ga_base.specs.declared.record.TheConstants.{MAX_LINE}
 use Rattle.ga_base.specs.declared.record.Line.{Line}
 use Rattle.ga_base.specs.declared.record.Line.TheVariants.{Skipped, Failed, Good}
 use Rattle.ga_base.specs.declared.record.Record.{Record}
@@ -70,11 +69,12 @@ pub record AreDigits (text : List ℕ) : Type 0 where
   pub some : 0 < length text
   pub digits : all_ascii_digits text ≡ true
 
--- the number of these digits and of so many decimals behind them, zeros filled in where there are fewer
+-- the number with these digits before its dot and those behind it, in units of its last place of so many: what is
+-- less than a unit is cut
 abbrev pub decimal_value : ℕ → List ℕ → List ℕ → ℕ
-decimal_value places front back = digits_value 10 (front ++ take places (back ++ replicate places 48))
+decimal_value places front back = digits_value 10 (front ++ back) * 10 ^ places / 10 ^ length back
 
--- A number in so many decimals: digits alone, or digits, a dot and digits, whose decimals past these are cut.
+-- A number in units of its last place of so many: digits alone, or digits, a dot and digits.
 pub data IsDecimal (places : ℕ) (text : List ℕ) (number : ℕ) : Type 0 where
   whole : AreDigits text → number ≡ decimal_value places text [] → IsDecimal places text number
   parted : (front back : List ℕ) → text ≡ front ++ 46 ∷ back → AreDigits front → AreDigits back → number ≡ decimal_value places front back → IsDecimal places text number
@@ -109,9 +109,13 @@ pub data IsRefused (setup : LineSetup) (parts : List Part) : Type 0 where
   too_large : BIG < size_value (field size_letter parts) → IsRefused setup parts
   too_slow : (micros : ℕ) → HasMicros (taken_part parts) (Some micros) → BIG < micros → IsRefused setup parts
 
+-- how long the longest line is that is read, in bytes
+abbrev pub longest_line : ℕ
+longest_line = 65535
+
 -- why a line that isn't passed over is no valid one
 pub data Fails (setup : LineSetup) (line : List ℕ) : Type 0 where
-  too_long : MAX_LINE < length line → Fails setup line
+  too_long : longest_line < length line → Fails setup line
   misfit : ((parts : List Part) → ¬ Fits setup.format line parts) → Fails setup line
   refused : (parts : List Part) → Fits setup.format line parts → IsRefused setup parts → Fails setup line
 
@@ -167,3 +171,7 @@ IsLineOf setup line (Good rec) = ¬ IsPassedOver line × ¬ Fails setup line × 
 -- a line says one thing
 abbrev pub SaysOneThing : LineSetup → List ℕ → Type 0
 SaysOneThing setup line = (one two : Line) → IsLineOf setup line one → IsLineOf setup line two → one ≡ two
+
+-- a line says something
+abbrev pub SaysSomething : LineSetup → List ℕ → Type 0
+SaysSomething setup line = (answer : Line) × IsLineOf setup line answer

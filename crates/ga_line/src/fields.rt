@@ -1,7 +1,7 @@
 ghost use Rattle.std.specs.Prelude.{◌≡◌, ◌∷◌, ◌++◌, [], ℕ, List, length};
 ghost use Rattle.std.specs.Option.{option_copied, option_map};
-ghost use Rattle.ga_line.specs.Fits.{Part, field, noted};
-ghost use Rattle.ga_line.specs.Fitting.{IsLetter, AreNoted, part_of, noted_text, first_taken};
+ghost use Rattle.ga_line.specs.Fits.{Part, field};
+ghost use Rattle.ga_line.specs.Steps.Fitting.{IsLetter, AreNoted, part_of, noted, noted_text, first_taken};
 ghost use Rattle.ga_line.specs.Letters.{is_taken_letter};
 ghost use Rattle.ga_line.specs.Records.{day_text, request_text, taken_part};
 
@@ -39,14 +39,15 @@ impl<'a> Fields<'a> {
         self.note_taken(letter, text);
     }
 
-    /// Notes a text under its letter, if that is one that a field may have.
+    /// Notes a text under its letter, if that is one that a field may have and has no text yet.
     fn note_text(&mut self, letter: u8, text: &'a [u8])
         ensures room { length self.new.texts ≡ length self.old.texts }
         ensures texts { length self.old.texts ≡ LETTERS → (other : ℕ) → IsLetter other → noted_text other self.new ≡ noted other (noted_text other self.old) (letter, text.now) }
         ensures taken { self.new.taken ≡ self.old.taken }
     {
         if letter >= FIRST_LETTER && letter < FIRST_LETTER + LETTERS as u8 {
-            self.texts[(letter - FIRST_LETTER) as usize] = Some(text);
+            let at = (letter - FIRST_LETTER) as usize;
+            self.texts[at] = self.texts[at].or(Some(text));
         }
     }
 

@@ -1,7 +1,7 @@
 ghost use Rattle.std.specs.Prelude.{◌≡◌, ℕ, List, ◌∷◌, IfSome, IfNone, slice_get};
 ghost use Rattle.std.specs.Option.{option_copied};
 ghost use Rattle.ga_line.specs.Fits.{Part, Fits, SkipsSpace, is_space};
-ghost use Rattle.ga_line.specs.Fitting.{AreNoted, EndsBefore, EndsLine};
+ghost use Rattle.ga_line.specs.Steps.Fitting.{AreNoted, EndsBefore, EndsLine};
 
 use crate::cutting::cut_at;
 use crate::fields::Fields;

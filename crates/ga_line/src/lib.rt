@@ -2,13 +2,14 @@
 //!
 //! Start with `Lines`, the lines of a text, `LineSetup`, how they are read, and `read_line`, which reads one.
 //! `specs/Fits.antt` says when a line fits a format, `specs/Records.antt` what it then says, and
-//! `specs/Bounds.antt` which bounds its values keep to, as `proofs/BoundLemmas.antt` shows.
+//! `specs/Bounds.antt` which bounds its values keep to. What holds of all lines stands in `laws`.
 #![tactic(auto)]
 
 mod cutting;
 mod digits;
 mod fields;
 mod fitting;
+pub mod laws;
 mod numbers;
 mod pieces;
 mod reading;
@@ -18,6 +19,6 @@ mod status;
 #[cfg(test)]
 mod tests;
 
-pub use pieces::{Lines, is_ended};
-pub use reading::{one_meaning, read_line};
+pub use pieces::Lines;
+pub use reading::read_line;
 pub use setup::LineSetup;

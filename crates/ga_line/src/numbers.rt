@@ -1,9 +1,9 @@
 ghost use Rattle.std.specs.Prelude.{◌≡◌, ◌↔◌, ◌<◌, ◌≤◌, ℕ, List, Option, min, IfSome, IfNone, IsTrue};
 ghost use Rattle.std.specs.Option.{option_copied, option_map};
 ghost use Rattle.ga_line.specs.Fits.{Part};
-ghost use Rattle.ga_line.specs.Fitting.{AreNoted, part_of};
+ghost use Rattle.ga_line.specs.Steps.Fitting.{AreNoted, part_of};
 ghost use Rattle.ga_line.specs.Records.{IsRefused, HasMinute, HasMoment, HasStatus, HasMicros, IsMicros, IsMissing, size_value};
-ghost use Rattle.ga_line.specs.Valid.{HasNumbers, IsTooSlow};
+ghost use Rattle.ga_line.specs.Steps.Valid.{HasNumbers, IsTooSlow};
 
 use crate::LineSetup;
 use crate::digits::{TOO_BIG, decimal_in, number_in, size_in};

@@ -1,7 +1,7 @@
-ghost use Rattle.std.specs.Prelude.{◌≡◌, ◌↔◌, IsTrue, List, ℕ};
+ghost use Rattle.std.specs.Prelude.{◌≡◌, List, ℕ};
 ghost use Rattle.std.specs.Iterator.{YieldsFirstRef, item_count};
 ghost use Rattle.std.specs.Str.Lines.{strip_carriage_return};
-ghost use Rattle.ga_line.specs.Lines.{lines, IsEnded, KeepsItsLines};
+ghost use Rattle.ga_line.specs.Lines.{lines};
 
 use bstr::ByteSlice;
 use std::marker::Model;
@@ -70,17 +70,5 @@ fn without_carriage_return(piece: &[u8]) -> &[u8]
         &piece[..n - 1]
     } else {
         piece
-    }
-}
-
-/// Whether no line of the text goes on in what is added to it: it is empty or ends in a line feed. The lines
-/// of a text that is added to are then those that it had, and after them those of what is added.
-pub fn is_ended(text: &[u8]) -> bool
-    ensures ended { IsTrue result ↔ IsEnded text.now }
-    ensures law { IsTrue result → KeepsItsLines text.now }
-{
-    match text.last() {
-        None => true,
-        Some(b) => *b == LINE_FEED,
     }
 }

@@ -1,14 +1,15 @@
 ghost use Rattle.std.specs.Prelude.{◌↔◌, ℕ, List, IfOk, IsTrue};
-ghost use Rattle.ga_dates.specs.declared.kind.Kind.TheVariants.{Date, Time};
-ghost use Rattle.ga_dates.specs.Items.{IsComplete};
-ghost use Rattle.ga_line.specs.declared.setup.LineSetup.{LineSetup as TheSetup};
-ghost use Rattle.ga_line.specs.Records.{IsLineOf, IsPassedOver, SaysOneThing};
+ghost use Rattle.ga_base.specs.declared.record.Line.TheVariants.{Good};
+ghost use Rattle.ga_base.specs.declared.record.Record.{Record as TheRecord};
+ghost use Rattle.ga_line.specs.Bounds.{KeepsBounds, RecordBounds};
+ghost use Rattle.ga_line.specs.Records.{IsLineOf, IsPassedOver};
 
 use crate::LineSetup;
 use crate::fitting::fit;
 use crate::numbers::numbers_of;
 use crate::saying::record_of;
 use ga_base::{Line, MAX_LINE, NoMemory};
+use ga_dates::laws::{dates_have_eight_digits, minutes_are_below_1440};
 use std::alloc::Global;
 
 /// The byte that begins a comment.
@@ -19,12 +20,13 @@ const COMMENT: u8 = b'#';
 /// An empty line and one that begins with `#` are `Skipped`. Any other is `Failed` where it is longer than
 /// `MAX_LINE` bytes, doesn't fit the format, has no host, date or request or an empty one, has a date or a time that the
 /// setup's formats don't spell or a date that the calendar hasn't, has a status that isn't three digits from 100 to
-/// 599 while that is asked for, or has a size or a time taken above `BIG`; the two limits are our own, the rest is as in
-/// GoAccess. The record of a valid line has the texts of its fields with U+FFFD for what isn't UTF-8; a dash in the
+/// 599 while that is asked for, or has a size or a time taken above `BIG`. The fields are those of GoAccess's log formats;
+/// when a line fails and how its values are read is our own rule. The record of a valid line has the texts of its fields with U+FFFD for what isn't UTF-8; a dash in the
 /// referrer, the user agent and what describes the server says nothing. A status is 0 where the line ends before it, a
 /// size is 0 where it isn't written in digits, and a time taken that is no number is `None`. Only a record takes memory.
 pub fn read_line(alloc: Global, setup: &LineSetup, line: &[u8]) -> Result<Line, NoMemory>
-    ensures { IfOk result (IsLineOf setup.now line.now) }
+    ensures says { IfOk result (IsLineOf setup.now line.now) }
+    ensures bounds { IfOk result KeepsBounds }
 {
     if is_passed_over(line) {
         return Ok(Line::Skipped);
@@ -37,14 +39,21 @@ pub fn read_line(alloc: Global, setup: &LineSetup, line: &[u8]) -> Result<Line, 
     };
     match numbers_of(setup, &fields) {
         None => Ok(Line::Failed),
-        Some(numbers) => Ok(Line::Good(record_of(alloc, &fields, numbers)?)),
+        Some(numbers) => {
+            records_keep_bounds(setup);
+            Ok(Line::Good(record_of(alloc, &fields, numbers)?))
+        }
     }
 }
 
-/// Where days and times are written by whole formats, each line is passed over, or fails, or says one record.
-pub fn one_meaning()
-    ensures { (setup : TheSetup) (line : List ℕ) → IsComplete Date setup.date → IsComplete Time setup.time → SaysOneThing setup line }
-{}
+/// What a line says that is read so keeps to the bounds of records. It does nothing.
+fn records_keep_bounds(setup: &LineSetup)
+    ensures { (line : List ℕ) (rec : TheRecord) → IsLineOf setup.now line (Good rec) → RecordBounds rec }
+{
+    dates_have_eight_digits();
+    minutes_are_below_1440();
+    setup.time.items();
+}
 
 /// Whether a line is empty or a comment.
 fn is_passed_over(line: &[u8]) -> bool

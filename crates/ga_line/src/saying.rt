@@ -2,9 +2,9 @@ ghost use Rattle.std.specs.Prelude.{◌≡◌, ℕ, List, [], IfOk, unwrap_or};
 ghost use Rattle.std.specs.Option.{option_copied};
 ghost use Rattle.std.specs.Str.Lossy.{utf8_lossy};
 ghost use Rattle.ga_line.specs.Fits.{Part, field};
-ghost use Rattle.ga_line.specs.Fitting.{AreNoted, IsLetter};
+ghost use Rattle.ga_line.specs.Steps.Fitting.{AreNoted, IsLetter};
 ghost use Rattle.ga_line.specs.Records.{HasTexts, said, said_text, utf8_text, url_text, with_query};
-ghost use Rattle.ga_line.specs.Valid.{AreOf};
+ghost use Rattle.ga_line.specs.Steps.Valid.{AreOf};
 
 use crate::fields::Fields;
 use crate::numbers::Numbers;

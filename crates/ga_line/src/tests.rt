@@ -1,31 +1,122 @@
-use crate::{LineSetup, Lines, is_ended, one_meaning, read_line};
-use ga_base::{FormatFault, Line, NoMemory, Record, Text};
+use crate::laws::{every_line_says_something, lines_added, one_meaning};
+use crate::{LineSetup, Lines, read_line};
+use bstr::ByteSlice;
+use ga_base::{FormatFault, Line, NoMemory, Text};
 use ga_dates::{DEFAULT_DATE, DEFAULT_TIME, compile_date, compile_time};
 use ga_format::{compile, format_text};
 use std::alloc::Global;
 use std::test::Fail;
 
-/// The start of a line up to the request.
-const START: &[u8] = b"192.0.2.1 - - [01/Jan/2024:00:00:00 +0000] ";
+// Each table has a line of a log a row, an arrow, and what it says: the host, the date, the minute, the method, the protocol,
+// the URL, the status, the size, the time taken, the referrer, the agent, the virtual host, the user, the cache status, the
+// MIME type and the TLS settings.
 
-/// A whole line: the start and then `end`.
-fn line_of(alloc: Global, end: &[u8]) -> Result<Vec<u8>, NoMemory> {
-    let mut line = Vec::from_slice(alloc, START)?;
-    line.extend_from_slice(end)?;
-    Ok(line)
-}
+/// Lines in the common format.
+const COMMON_LINES: &[u8] = b"\
+# note => skipped
+ => skipped
+192.0.2.1 - - [01/Jan/2024:00:00:00 +0000] \"GET /a HTTP/1.1\" 200 10 => 192.0.2.1|20240101|Some(0)|||GET /a HTTP/1.1|200|10|None|||||||
+h - - [01/Jan/2024:00:00:00 +0000] \"-\" 408 - => h|20240101|Some(0)|||-|408|0|None|||||||
+h - - [01/Jan/2024:00:00:00 +0000] \"r\" 200 512 \"https://a.b/\" \"Mozilla/5.0\" => h|20240101|Some(0)|||r|200|0|None|||||||
+h - - [01/Jan/2024:00:00:00 +0000] \"r\" 200 10  => h|20240101|Some(0)|||r|200|0|None|||||||
+h - - [01/Jan/2024:00:00:00 +0000] \"r\" 200 10\r => h|20240101|Some(0)|||r|200|0|None|||||||
+h - - [01/Jan/2024:00:00:00 +0000] \"r\" 200 => h|20240101|Some(0)|||r|200|0|None|||||||
+h - - [01/Jan/2024:00:00:00 +0000] \"GET /\\\" HTTP\" 200 7 => h|20240101|Some(0)|||GET /\\\" HTTP|200|7|None|||||||
+h - - [01/Jan/2024:00:00:00 +0000] \"GET /\\\\\" 200 8 => h|20240101|Some(0)|||GET /\\\\|200|8|None|||||||
+h - - [01/Jan/2024:00:00:00 +0000] \"GET /a => h|20240101|Some(0)|||GET /a|0|0|None|||||||
+h - - [01/Jan/2024:00:00:00 +0000] \"GET /a\\ => h|20240101|Some(0)|||GET /a\\|0|0|None|||||||
+h - - [01/Jan/2024:00:00:00 +0000] \"\xff\r\" 200 0 => h|20240101|Some(0)|||\xef\xbf\xbd\r|200|0|None|||||||
+h - - [01/Jan/2024:00:00:00 +0000] \"r\" 200 1000000000000000000 => h|20240101|Some(0)|||r|200|1000000000000000000|None|||||||
+h - - [01/Jan/2024:00:00:00 +0000] \"r\" 200 1000000000000000001 => failed
+192.0.2.1 => failed
+ - - [01/Jan/2024:00:00:00 +0000] \"r\" 200 1 => failed
+h - - [:00:00:00 +0000] \"r\" 200 1 => failed
+h - - [01/Jan/2024 => failed
+h - - [01/Jan/2024:00:00:00 +0000] \"\" 200 1 => failed
+h - - [01/Jan/2024:00:00:00 +0000] r 200 1 => failed
+h - - [01/Jan/2024:00:00:00 +0000]\"r\" 200 1 => failed
+h - - [01/Jan/2024:00:00:00 +0000] \"r\" => failed
+ # => failed
+h - - [29/Feb/2024:00:00:00 +0000] \"r\" 200 1 => h|20240229|Some(0)|||r|200|1|None|||||||
+h - - [29/Feb/2023:00:00:00 +0000] \"r\" 200 1 => failed
+h - - [31/Feb/2024:00:00:00 +0000] \"r\" 200 1 => failed
+h - - [01/JAN/1000:00:00:00 +0000] \"r\" 200 1 => h|10000101|Some(0)|||r|200|1|None|||||||
+h - - [01/Jan/2024:00:00:00 +0000] \"r\" 100 1 => h|20240101|Some(0)|||r|100|1|None|||||||
+h - - [01/Jan/2024:00:00:00 +0000] \"r\" 599 => h|20240101|Some(0)|||r|599|0|None|||||||
+h - - [01/Jan/2024:00:00:00 +0000] \"r\" 99 1 => failed
+h - - [01/Jan/2024:00:00:00 +0000] \"r\" 600 1 => failed
+h - - [01/Jan/2024:00:00:00 +0000] \"r\" 099 1 => failed
+h - - [01/Jan/2024:00:00:00 +0000] \"r\" 2000 1 => failed
+h - - [01/Jan/2024:00:00:00 +0000] \"r\"  1 => failed
+";
 
-/// The same byte `count` times.
-fn repeated(alloc: Global, byte: u8, count: usize) -> Result<Vec<u8>, NoMemory> {
-    Ok(vec![in alloc; byte; count]?)
-}
+/// Lines in the combined format.
+const COMBINED_LINES: &[u8] = b"\
+203.0.113.7 - - [12/Mar/2024:08:05:09 +0000] \"GET /index.html HTTP/1.1\" 200 512 \"https://www.example.org/start\" \"Mozilla/5.0 (X11; Linux x86_64)\" => 203.0.113.7|20240312|Some(485)|||GET /index.html HTTP/1.1|200|512|None|https://www.example.org/start|Mozilla/5.0 (X11; Linux x86_64)|||||
+h - - [01/Jan/2024:00:00:00 +0000] \"r\" 200 10 => h|20240101|Some(0)|||r|200|10|None|||||||
+h - - [01/Jan/2024:00:00:00 +0000] \"r\" 200 5 \"-\" \"Foo \\\"bar\\\" Baz\" => h|20240101|Some(0)|||r|200|5|None||Foo \\\"bar\\\" Baz|||||
+h - - [01/Jan/2024:00:00:00 +0000] \"r\" 200 5 \"a\" \"-\" => h|20240101|Some(0)|||r|200|5|None|a||||||
+h - - [01/Jan/2024:00:00:00 +0000] \"r\" 200 5 \"--\" \"\xff\" => h|20240101|Some(0)|||r|200|5|None|--|\xef\xbf\xbd|||||
+";
 
-/// A whole line: the start, then `end`, and then `count` times `byte`.
-fn long_line(alloc: Global, end: &[u8], byte: u8, count: usize) -> Result<Vec<u8>, NoMemory> {
-    let mut line = line_of(alloc, end)?;
-    line.extend_from_slice(&repeated(alloc, byte, count)?)?;
-    Ok(line)
-}
+/// Lines with the date and the time of day in one field.
+const MOMENTS: &[u8] = b"\
+h [20170801235000] \"r\" => h|20170801|Some(1430)|||r|0|0|None|||||||
+h [20170801] \"r\" => failed
+h [20170801246000] \"r\" => failed
+";
+
+/// Lines with the time of day in the last field.
+const TIMES: &[u8] = b"\
+h 01/Jan/2024 \"r\" 23:59:60 => h|20240101|Some(1439)|||r|0|0|None|||||||
+h 01/Jan/2024 \"r => h|20240101|None|||r|0|0|None|||||||
+h 01/Jan/2024 \"r\" => failed
+h 01/Jan/2024 \"r\"  => failed
+h 01/Jan/2024 \"r\" 24:00:00 => failed
+";
+
+/// Lines with the time that the answer took: in seconds, in milliseconds, in microseconds, and in two fields.
+const SECONDS: &[u8] = b"\
+h 01/Jan/2024 \"r\" 0.1234567 => h|20240101|None|||r|0|0|Some(123456)|||||||
+h 01/Jan/2024 \"r\" 2 => h|20240101|None|||r|0|0|Some(2000000)|||||||
+h 01/Jan/2024 \"r\" .5 => h|20240101|None|||r|0|0|None|||||||
+h 01/Jan/2024 \"r\" 5. => h|20240101|None|||r|0|0|None|||||||
+h 01/Jan/2024 \"r\" 1000000000000 => h|20240101|None|||r|0|0|Some(1000000000000000000)|||||||
+h 01/Jan/2024 \"r\" 1000000000001 => failed
+";
+
+const MILLISECONDS: &[u8] = b"\
+h 01/Jan/2024 \"r\" 1.5 1 => h|20240101|None|||r|0|0|Some(1500)|||||||
+h 01/Jan/2024 \"r\" 7 1 => h|20240101|None|||r|0|0|Some(7000)|||||||
+";
+
+const MICROSECONDS: &[u8] = b"\
+h 01/Jan/2024 \"r\" 17 => h|20240101|None|||r|0|0|Some(17)|||||||
+h 01/Jan/2024 \"r\" - 7 => h|20240101|None|||r|0|0|None|||||||
+h 01/Jan/2024 \"r\" 1.5 => h|20240101|None|||r|0|0|None|||||||
+";
+
+/// Lines with the parts of the request.
+const PARTS: &[u8] = b"\
+h 01/Jan/2024 GET /a x=1 HTTP/1.1 => h|20240101|None|GET|HTTP/1.1|/a?x=1|0|0|None|||||||
+h 01/Jan/2024 GET /a ?x=1 HTTP/1.1 => h|20240101|None|GET|HTTP/1.1|/a?x=1|0|0|None|||||||
+h 01/Jan/2024 GET /a - HTTP/1.1 => h|20240101|None|GET|HTTP/1.1|/a|0|0|None|||||||
+h 01/Jan/2024 GET /a  HTTP/1.1 => h|20240101|None|GET|HTTP/1.1|/a|0|0|None|||||||
+h 01/Jan/2024 GET ? \xff HTTP/1.1 => h|20240101|None|GET|HTTP/1.1|??\xef\xbf\xbd|0|0|None|||||||
+h 01/Jan/2024 GET  x=1 HTTP/1.1 => failed
+";
+
+/// A line with what describes the server.
+const SERVER: &[u8] = b"\
+www.example.org \t\x0b 192.0.2.1\t01/Jan/2024|anna|HIT|text/html|TLSv1.3|/x => 192.0.2.1|20240101|None|||/x|0|0|None|||www.example.org|anna|HIT|text/html|TLSv1.3
+";
+
+/// Lines with a status that is no status code, where that is allowed.
+const LENIENT: &[u8] = b"\
+h 01/Jan/2024 \"r\" 404 => h|20240101|None|||r|404|0|None|||||||
+h 01/Jan/2024 \"r\" x => h|20240101|None|||r|0|0|None|||||||
+h 01/Jan/2024 \"r\" 600 => h|20240101|None|||r|0|0|None|||||||
+";
 
 /// The setup of a log format, with these formats of `%d` and of `%t`.
 fn setup_of(alloc: Global, format: &str, date: &str, time: &str) -> Result<LineSetup, FormatFault> {
@@ -37,356 +128,115 @@ fn setup_of(alloc: Global, format: &str, date: &str, time: &str) -> Result<LineS
     })
 }
 
-/// The setup of a log format with the formats of dates and times that are GoAccess's default.
-fn setup_for(alloc: Global, format: &str) -> Result<LineSetup, FormatFault> {
-    setup_of(alloc, format, DEFAULT_DATE, DEFAULT_TIME)
-}
-
-/// What a line in the common format says.
-fn line_in(alloc: Global, line: &[u8]) -> Result<Line, FormatFault> {
-    Ok(read_line(alloc, &setup_for(alloc, "COMMON")?, line)?)
-}
-
-/// The record of a line.
-fn record_of(alloc: Global, setup: &LineSetup, line: &[u8]) -> Result<Option<Record>, NoMemory> {
-    match read_line(alloc, setup, line)? {
-        Line::Good(rec) => Ok(Some(rec)),
-        _ => Ok(None),
+/// What a line says, as the tables write it.
+fn shown(alloc: Global, line: &Line) -> Result<String, NoMemory> {
+    let rec = match line {
+        Line::Skipped => return Ok(String::from_str(alloc, "skipped")?),
+        Line::Failed => return Ok(String::from_str(alloc, "failed")?),
+        Line::Good(rec) => rec,
+    };
+    let mut text = format!(in alloc; "{}|{}|{:?}", rec.host.as_str(), rec.date, rec.minute)?;
+    for part in [&rec.method, &rec.protocol, &rec.url] {
+        text.push('|')?;
+        text.push_str(part.as_str())?;
     }
-}
-
-#[test]
-fn good_lines(rt: HostRuntime) -> Result<(), Fail> {
-    let alloc = rt.alloc();
-    let setup = setup_for(alloc, "COMMON")?;
-    let cases: [(&[u8], &str, u64); 13] = [
-        (b"\"GET /a HTTP/1.1\" 200 10", "GET /a HTTP/1.1", 10),
-        (b"\"-\" 408 -", "-", 0),
-        (b"\"r\" 200 512 \"https://a.b/\" \"Mozilla/5.0\"", "r", 0),
-        (b"\"r\" 200 10 ", "r", 0),
-        (b"\"r\" 200 10\r", "r", 0),
-        (b"\"r\" 200 ", "r", 0),
-        (b"\"r\" 200", "r", 0),
-        (b"\"GET /\\\" HTTP\" 200 7", "GET /\\\" HTTP", 7),
-        (b"\"GET /\\\\\" 200 8", "GET /\\\\", 8),
-        (b"\"GET /a", "GET /a", 0),
-        (b"\"GET /a\\", "GET /a\\", 0),
-        (b"\"\xff\r\" 200 0", "\u{fffd}\r", 0),
-        (
-            b"\"r\" 200 1000000000000000000",
-            "r",
-            1_000_000_000_000_000_000,
-        ),
-    ];
-    for (end, url, bytes) in cases {
-        let line = line_of(alloc, end)?;
-        let rec = record_of(alloc, &setup, &line)?.ok_or("no record")?;
-        assert_eq!(rt; rec.host.as_str(), "192.0.2.1");
-        assert_eq!(rt; rec.url.as_str(), url);
-        assert_eq!(rt; rec.bytes, bytes);
+    text.push_str(format!(in alloc; "|{}|{}|{:?}", rec.status, rec.bytes, rec.micros)?.as_str())?;
+    for part in [
+        &rec.referrer,
+        &rec.agent,
+        &rec.vhost,
+        &rec.user,
+        &rec.cache,
+        &rec.mime,
+        &rec.tls,
+    ] {
+        text.push('|')?;
+        text.push_str(part.as_str())?;
     }
-    Ok(())
+    Ok(text)
 }
 
-#[test]
-fn failed_lines(rt: HostRuntime) -> Result<(), Fail> {
-    let alloc = rt.alloc();
-    let setup = setup_for(alloc, "COMMON")?;
-    let cases: [&[u8]; 10] = [
-        b"192.0.2.1",
-        b" - - [01/Jan/2024:00:00:00 +0000] \"r\" 200 1",
-        b"h - - [:00:00:00 +0000] \"r\" 200 1",
-        b"h - - [01/Jan/2024",
-        b"h - - [01/Jan/2024:00:00:00 +0000] \"\" 200 1",
-        b"h - - [01/Jan/2024:00:00:00 +0000] r 200 1",
-        b"h - - [01/Jan/2024:00:00:00 +0000]\"r\" 200 1",
-        b"h - - [01/Jan/2024:00:00:00 +0000] \"r\"",
-        b"h - - [01/Jan/2024:00:00:00 +0000] \"r\" 200 1000000000000000001",
-        b" #",
-    ];
-    for line in cases {
-        assert_eq!(rt; read_line(alloc, &setup, line)?, Line::Failed, "{line:?}");
-    }
-    Ok(())
-}
-
-/// The record of a line with this text of `%d`, whose request and what follows are `end`.
-fn dated(
+/// The first row of a table whose line says something else than stands behind its arrow.
+fn first_wrong<'a>(
     alloc: Global,
     setup: &LineSetup,
-    date: &[u8],
-    end: &[u8],
-) -> Result<Option<Record>, NoMemory> {
-    let mut line = Vec::from_slice(alloc, b"192.0.2.1 - - [")?;
-    line.extend_from_slice(date)?;
-    line.extend_from_slice(b":00:00:00 +0000] ")?;
-    line.extend_from_slice(end)?;
-    record_of(alloc, setup, &line)
+    table: &'a [u8],
+) -> Result<Option<&'a [u8]>, NoMemory> {
+    for row in Lines::of(table, true) {
+        let Some((line, said)) = row.split_once_str(b" => ") else {
+            return Ok(Some(row));
+        };
+        if shown(alloc, &read_line(alloc, setup, line)?)?.as_bytes() != said {
+            return Ok(Some(row));
+        }
+    }
+    Ok(None)
 }
 
 #[test]
-fn dates(rt: HostRuntime) -> Result<(), Fail> {
+fn lines_of_each_format(rt: HostRuntime) -> Result<(), Fail> {
     let alloc = rt.alloc();
-    let common = setup_for(alloc, "COMMON")?;
-    for (date, want) in [
-        (b"29/Feb/2024", Some(20_240_229)),
-        (b"29/Feb/2023", None),
-        (b"31/Feb/2024", None),
-        (b"01/JAN/1000", Some(10_000_101)),
+    for (format, table) in [
+        ("COMMON", COMMON_LINES),
+        ("COMBINED", COMBINED_LINES),
+        ("%h %d \"%r\" %t", TIMES),
+        ("%h %d \"%r\" %T", SECONDS),
+        ("%h %d \"%r\" %L %D", MILLISECONDS),
+        ("%h %d \"%r\" %D %L", MICROSECONDS),
+        ("%h %d %m %U %q %H", PARTS),
+        ("%v %~%h\\t%d|%e|%C|%M|%K|%r", SERVER),
     ] {
-        let rec = dated(alloc, &common, date, b"\"r\" 200 1")?;
-        assert_eq!(rt; rec.map(|rec| rec.date), want);
-    }
-    let dashed = setup_of(alloc, "COMMON", "%F", DEFAULT_TIME)?;
-    let rec = dated(alloc, &dashed, b"2024-02-29", b"\"r\" 200 1")?;
-    assert_eq!(rt; rec.map(|rec| rec.date), Some(20_240_229));
-    Ok(())
-}
-
-#[test]
-fn statuses(rt: HostRuntime) -> Result<(), Fail> {
-    let alloc = rt.alloc();
-    let setup = setup_for(alloc, "COMMON")?;
-    let cases: [(&[u8], Option<u32>); 8] = [
-        (b"\"r\" 100 1", Some(100)),
-        (b"\"r\" 599", Some(599)),
-        (b"\"r\" 99 1", None),
-        (b"\"r\" 600 1", None),
-        (b"\"r\" 099 1", None),
-        (b"\"r\" 2000 1", None),
-        (b"\"r\"  1", None),
-        (b"\"r", Some(0)),
-    ];
-    for (end, want) in cases {
-        let rec = dated(alloc, &setup, b"01/Jan/2024", end)?;
-        assert_eq!(rt; rec.map(|rec| rec.status), want);
+        let setup = setup_of(alloc, format, DEFAULT_DATE, DEFAULT_TIME)?;
+        assert_eq!(rt; first_wrong(alloc, &setup, table)?, None, "{format}");
     }
     Ok(())
 }
 
 #[test]
-fn statuses_taken_leniently(rt: HostRuntime) -> Result<(), Fail> {
+fn lines_of_other_setups(rt: HostRuntime) -> Result<(), Fail> {
     let alloc = rt.alloc();
-    let mut setup = setup_for(alloc, "COMMON")?;
-    setup.strict_status = false;
-    let cases: [(&[u8], u32); 3] = [
-        (b"\"r\" 404 1", 404),
-        (b"\"r\" x 1", 0),
-        (b"\"r\" 600 1", 0),
-    ];
-    for (end, want) in cases {
-        let rec = dated(alloc, &setup, b"01/Jan/2024", end)?;
-        assert_eq!(rt; rec.map(|rec| rec.status), Some(want));
-    }
-    Ok(())
-}
-
-#[test]
-fn combined_lines(rt: HostRuntime) -> Result<(), Fail> {
-    let alloc = rt.alloc();
-    let setup = setup_for(alloc, "COMBINED")?;
-    let line =
-        b"203.0.113.7 - - [12/Mar/2024:08:05:09 +0000] \"GET /index.html HTTP/1.1\" 200 512 \"https://www.example.org/start\" \"Mozilla/5.0 (X11; Linux x86_64; rv:124.0) Gecko/20100101 Firefox/124.0\"";
-    let rec = record_of(alloc, &setup, line)?.ok_or("no record")?;
-    assert_eq!(rt; rec.host.as_str(), "203.0.113.7");
-    assert_eq!(rt; (rec.date, rec.minute), (20_240_312, Some(485)));
-    assert_eq!(rt; rec.url.as_str(), "GET /index.html HTTP/1.1");
-    assert_eq!(rt; (rec.status, rec.bytes), (200, 512));
-    assert_eq!(rt; rec.referrer.as_str(), "https://www.example.org/start");
-    assert_eq!(rt;
-        rec.agent.as_str(),
-        "Mozilla/5.0 (X11; Linux x86_64; rv:124.0) Gecko/20100101 Firefox/124.0"
-    );
-    Ok(())
-}
-
-#[test]
-fn referrers_and_agents(rt: HostRuntime) -> Result<(), Fail> {
-    let alloc = rt.alloc();
-    let setup = setup_for(alloc, "COMBINED")?;
-    let cases: [(&[u8], &str, &str); 4] = [
-        (b"\"r\" 200 10", "", ""),
-        (
-            b"\"r\" 200 5 \"-\" \"Foo \\\"bar\\\" Baz\"",
-            "",
-            "Foo \\\"bar\\\" Baz",
-        ),
-        (b"\"r\" 200 5 \"a\" \"-\"", "a", ""),
-        (b"\"r\" 200 5 \"--\" \"\xff\"", "--", "\u{fffd}"),
-    ];
-    for (end, referrer, agent) in cases {
-        let rec = record_of(alloc, &setup, &line_of(alloc, end)?)?.ok_or("no record")?;
-        assert_eq!(rt; rec.referrer.as_str(), referrer);
-        assert_eq!(rt; rec.agent.as_str(), agent);
-    }
-    Ok(())
-}
-
-#[test]
-fn moments(rt: HostRuntime) -> Result<(), Fail> {
-    let alloc = rt.alloc();
-    let setup = setup_of(alloc, "%h [%x] \"%r\"", "%Y%m%d", "%H%M%S")?;
-    for (line, want) in [
-        (
-            b"h [20170801235000] \"r\"".as_slice(),
-            Some((20_170_801, Some(1_430))),
-        ),
-        (b"h [20170801] \"r\"", None),
-        (b"h [20170801246000] \"r\"", None),
-    ] {
-        let rec = record_of(alloc, &setup, line)?;
-        assert_eq!(rt; rec.map(|rec| (rec.date, rec.minute)), want);
-    }
-    let apart = setup_for(alloc, "%h %d \"%r\" %t")?;
-    for (line, want) in [
-        (
-            b"h 01/Jan/2024 \"r\" 23:59:60".as_slice(),
-            Some((20_240_101, Some(1_439))),
-        ),
-        (b"h 01/Jan/2024 \"r", Some((20_240_101, None))),
-        (b"h 01/Jan/2024 \"r\"", None),
-        (b"h 01/Jan/2024 \"r\" ", None),
-        (b"h 01/Jan/2024 \"r\" 24:00:00", None),
-    ] {
-        let rec = record_of(alloc, &apart, line)?;
-        assert_eq!(rt; rec.map(|rec| (rec.date, rec.minute)), want);
-    }
-    Ok(())
-}
-
-#[test]
-fn times_taken(rt: HostRuntime) -> Result<(), Fail> {
-    let alloc = rt.alloc();
-    let cases: [(&str, &[u8], Option<Option<u64>>); 12] = [
-        ("%T", b"0.1234567", Some(Some(123_456))),
-        ("%T", b"2", Some(Some(2_000_000))),
-        ("%L", b"1.5", Some(Some(1_500))),
-        ("%D", b"17", Some(Some(17))),
-        ("%D", b"-", Some(None)),
-        ("%D", b"1.5", Some(None)),
-        ("%T", b".5", Some(None)),
-        ("%T", b"5.", Some(None)),
-        (
-            "%T",
-            b"1000000000000",
-            Some(Some(1_000_000_000_000_000_000)),
-        ),
-        ("%T", b"1000000000001", None),
-        ("%D %L", b"- 7", Some(None)),
-        ("%L %D", b"7 1", Some(Some(7_000))),
-    ];
-    for (fields, text, want) in cases {
-        let mut format = String::from_str(alloc, "%h %d \"%r\" ")?;
-        format.push_str(fields)?;
-        let mut line = Vec::from_slice(alloc, b"h 01/Jan/2024 \"r\" ")?;
-        line.extend_from_slice(text)?;
-        let rec = record_of(alloc, &setup_for(alloc, &format)?, &line)?;
-        assert_eq!(rt; rec.map(|rec| rec.micros), want, "{fields}");
-    }
-    Ok(())
-}
-
-#[test]
-fn paths_and_queries(rt: HostRuntime) -> Result<(), Fail> {
-    let alloc = rt.alloc();
-    let setup = setup_for(alloc, "%h %d %m %U %q %H")?;
-    let cases: [(&[u8], &str); 5] = [
-        (b"h 01/Jan/2024 GET /a x=1 HTTP/1.1", "/a?x=1"),
-        (b"h 01/Jan/2024 GET /a ?x=1 HTTP/1.1", "/a?x=1"),
-        (b"h 01/Jan/2024 GET /a - HTTP/1.1", "/a"),
-        (b"h 01/Jan/2024 GET /a  HTTP/1.1", "/a"),
-        (b"h 01/Jan/2024 GET ? \xff HTTP/1.1", "??\u{fffd}"),
-    ];
-    for (line, url) in cases {
-        let rec = record_of(alloc, &setup, line)?.ok_or("no record")?;
-        assert_eq!(rt; rec.url.as_str(), url);
-        assert_eq!(rt; rec.method.as_str(), "GET");
-        assert_eq!(rt; rec.protocol.as_str(), "HTTP/1.1");
-    }
-    assert!(rt; record_of(alloc, &setup, b"h 01/Jan/2024 GET  x=1 HTTP/1.1")?.is_none());
-    Ok(())
-}
-
-#[test]
-fn other_fields(rt: HostRuntime) -> Result<(), Fail> {
-    let alloc = rt.alloc();
-    let setup = setup_for(alloc, "%v %~%h\\t%d|%e|%C|%M|%K|%r")?;
-    let line = b"www.example.org \t\x0b 192.0.2.1\t01/Jan/2024|anna|HIT|text/html|TLSv1.3|/x";
-    let rec = record_of(alloc, &setup, line)?.ok_or("no record")?;
-    assert_eq!(rt; rec.vhost.as_str(), "www.example.org");
-    assert_eq!(rt; rec.host.as_str(), "192.0.2.1");
-    assert_eq!(rt; rec.user.as_str(), "anna");
-    assert_eq!(rt; rec.cache.as_str(), "HIT");
-    assert_eq!(rt; rec.mime.as_str(), "text/html");
-    assert_eq!(rt; rec.tls.as_str(), "TLSv1.3");
-    assert_eq!(rt; rec.url.as_str(), "/x");
-    Ok(())
-}
-
-#[test]
-fn sizes_of_any_length(rt: HostRuntime) -> Result<(), Fail> {
-    let alloc = rt.alloc();
-    let nines = long_line(alloc, b"\"r\" 200 ", b'9', 5_000)?;
-    assert_eq!(rt; line_in(alloc, &nines)?, Line::Failed);
-    let mut seven = long_line(alloc, b"\"r\" 200 ", b'0', 4_999)?;
-    seven.push(b'7')?;
-    assert_eq!(rt;
-        record_of(alloc, &setup_for(alloc, "COMMON")?, &seven)?
-            .ok_or("no record")?
-            .bytes,
-        7
-    );
-    Ok(())
-}
-
-#[test]
-fn longest_line(rt: HostRuntime) -> Result<(), Fail> {
-    let alloc = rt.alloc();
-    let mut line = long_line(alloc, b"\"", b'a', 65_491)?;
-    assert_eq!(rt; line.len(), 65_535);
-    assert_ne!(rt; line_in(alloc, &line)?, Line::Failed);
-    line.push(b'a')?;
-    assert_eq!(rt; line_in(alloc, &line)?, Line::Failed);
-    Ok(())
-}
-
-#[test]
-fn passed_over(rt: HostRuntime) -> Result<(), Fail> {
-    let alloc = rt.alloc();
-    let long = repeated(alloc, b'#', 70_000)?;
-    for line in [b"".as_slice(), b"# note", long.as_slice()] {
-        assert_eq!(rt; line_in(alloc, line)?, Line::Skipped);
-    }
+    let moments = setup_of(alloc, "%h [%x] \"%r\"", "%Y%m%d", "%H%M%S")?;
+    assert_eq!(rt; first_wrong(alloc, &moments, MOMENTS)?, None);
+    let mut lenient = setup_of(alloc, "%h %d \"%r\" %s", DEFAULT_DATE, DEFAULT_TIME)?;
+    lenient.strict_status = false;
+    assert_eq!(rt; first_wrong(alloc, &lenient, LENIENT)?, None);
     one_meaning();
+    every_line_says_something();
+    lines_added();
     Ok(())
 }
 
-#[test]
-fn texts_as_lines(rt: HostRuntime) -> Result<(), Fail> {
-    let alloc = rt.alloc();
-    let text = b"a\nb\r\n\n\r\nc\r\r\nd\re\nrest\r";
-    let ended: [&[u8]; 6] = [b"a", b"b", b"", b"", b"c\r", b"d\re"];
-    let mut kept: Vec<&[u8]> = Lines::of(text, true).collect(alloc)?;
-    assert_eq!(rt; kept.pop(), Some(b"rest\r".as_slice()));
-    assert_eq!(rt; kept.as_slice(), ended.as_slice());
-    let dropped: Vec<&[u8]> = Lines::of(text, false).collect(alloc)?;
-    assert_eq!(rt; dropped.as_slice(), ended.as_slice());
-    for (text, keep, count) in [
-        (b"".as_slice(), true, 0),
-        (b"\n", false, 1),
-        (b"a\n", true, 1),
-        (b"\r", true, 1),
-        (b"a", false, 0),
-    ] {
-        assert_eq!(rt; Lines::of(text, keep).count(), count, "{text:?}");
+/// The lines of a text, each with a bar behind it.
+fn barred(alloc: Global, text: &[u8], keep: bool) -> Result<Vec<u8>, NoMemory> {
+    let mut bars = Vec::new(alloc);
+    for line in Lines::of(text, keep) {
+        bars.extend_from_slice(line)?;
+        bars.push(b'|')?;
     }
-    for (text, want) in [
-        (b"".as_slice(), true),
-        (b"a\n", true),
-        (b"a", false),
-        (b"a\n\r", false),
+    Ok(bars)
+}
+
+#[test]
+fn lines_of_texts(rt: HostRuntime) -> Result<(), Fail> {
+    let alloc = rt.alloc();
+    for (text, kept, ended) in [
+        (
+            "a\nb\r\n\n\r\nc\r\r\nd\re\nrest\r",
+            "a|b|||c\r|d\re|rest\r|",
+            "a|b|||c\r|d\re|",
+        ),
+        ("a\n", "a|", "a|"),
+        ("\r", "\r|", ""),
+        ("", "", ""),
     ] {
-        assert_eq!(rt; is_ended(text), want, "{text:?}");
+        assert_eq!(rt;
+            barred(alloc, text.as_bytes(), true)?.as_slice(),
+            kept.as_bytes()
+        );
+        assert_eq!(rt;
+            barred(alloc, text.as_bytes(), false)?.as_slice(),
+            ended.as_bytes()
+        );
     }
     Ok(())
 }

@@ -1,5 +1,4 @@
-use Rattle.std.proofs.Common.{ℕ, ◌-◌, ◌++◌, ◌∷◌, [], List, min, take, refl, ap, ◌∙◌}
-use Rattle.std.specs.Str.Parse.{digits_value}
+use Rattle.std.proofs.Common.{ℕ, ◌-◌, ◌++◌, ◌∷◌, [], min, take, refl, ap, ◌∙◌}
 use Rattle.ga_line.specs.declared.digits.TheConstants.{TOO_BIG}
 use Rattle.ga_line.proofs.DecimalLemmas.{all-front, decimals-are}
 use Rattle.ga_line.proofs.digits.decimal_of.Goals as goal
@@ -16,5 +15,5 @@ returns-clause-found c =
     let back = take c.min-there.result c.args.back.now in (
       c.in_ok-units.ensures.found.0,
       c.with_digits.ensures.value (front ++ back) (c.with_digits-number.ensures.value front c.in_ok-units.ensures.found.1)
-          ∙ ap (λ (xs : List ℕ). min (digits_value 10 xs) TOO_BIG) (decimals-are c.args.places front c.args.back.now c.min-there.result c.min-there.ensures c.requires.places),
+          ∙ ap (λ (v : ℕ). min v TOO_BIG) (decimals-are c.args.places front c.args.back.now c.min-there.result c.min-there.ensures c.requires.places c.requires.digits),
     )

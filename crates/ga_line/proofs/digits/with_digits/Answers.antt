@@ -1,5 +1,4 @@
-use Rattle.std.proofs.Common.{◌≡◌, true, get_or, List, ℕ, ◌++◌, min, sym, ap, ◌∙◌, subst, take, take_all, arith}
-use Rattle.std.specs.Char.{is_ascii_digit}
+use Rattle.std.proofs.Common.{List, ℕ, ◌++◌, min, ap, ◌∙◌, take_all, arith}
 use Rattle.std.specs.Str.Parse.{digits_value}
 use Rattle.ga_line.specs.declared.digits.TheConstants.{TOO_BIG}
 use Rattle.ga_line.proofs.SizeLemmas.{digit-at, digit-range, value-more, no-digits}

@@ -1,5 +1,4 @@
-use Rattle.std.proofs.Common.{◌≡◌, ℕ, ◌+◌, ◌-◌, ◌<◌, true, get_or, length, sym, subst, arith, ⊎_elim}
-use Rattle.ga_line.specs.Fits.{is_space}
+use Rattle.std.proofs.Common.{◌-◌, length, sym, arith}
 use Rattle.ga_line.proofs.SpaceLemmas.{space-ends, space-whole, space-more}
 use Rattle.ga_line.proofs.fitting.after_space.Goals as goal
 

@@ -1,10 +1,10 @@
-use Rattle.std.proofs.Common.{◌≡◌, ◌+◌, ◌∷◌, ◌++◌, [], List, Bor, ℕ, drop, sym, ap, ◌∙◌, subst, arith}
+use Rattle.std.proofs.Common.{◌+◌, ◌∷◌, ◌++◌, [], List, Bor, ℕ, drop, sym, ap, ◌∙◌, subst}
 use Rattle.std.proofs.lemmas.List.{drop_all}
 use Rattle.ga_base.specs.declared.formats.FormatItem.{FormatItem}
-use Rattle.ga_base.specs.declared.formats.FormatItem.TheVariants.{Literal, Skip, Field, Forwarded}
-use Rattle.ga_line.specs.Fits.{Part, Fits, SkipsSpace}
-use Rattle.ga_line.specs.Fitting.{IsReadTo, AreNoted, EndsBefore, EndsLine}
-use Rattle.ga_line.proofs.FitLemmas.{read-none, read-literal, read-space, read-misfit, read-forwarded, read-field, read-to-end, read-all, left-at, next-at}
+use Rattle.ga_base.specs.declared.formats.FormatItem.TheVariants.{Literal, Skip, Field}
+use Rattle.ga_line.specs.Fits.{SkipsSpace}
+use Rattle.ga_line.specs.Steps.Fitting.{IsReadTo, AreNoted, EndsBefore, EndsLine}
+use Rattle.ga_line.proofs.FitLemmas.{read-none, read-literal, read-space, read-field, read-to-end, read-all, left-at, next-at}
 use Rattle.ga_line.proofs.fitting.fit.Goals as goal
 use Rattle.ga_line.proofs.fitting.fit.Goals.{in-Literal+in_ok-rest-in-Literal, in-Skip, in-Field+in-Some}
 

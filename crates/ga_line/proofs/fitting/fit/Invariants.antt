@@ -1,6 +1,6 @@
 use Rattle.std.proofs.Common.{List, drop}
 use Rattle.ga_line.specs.Fits.{Part}
-use Rattle.ga_line.specs.Fitting.{IsReadTo, AreNoted}
+use Rattle.ga_line.specs.Steps.Fitting.{IsReadTo, AreNoted}
 use Rattle.ga_line.proofs.fitting.fit.Given as goal
 
 abbrev pub invariant-loop-at : goal.invariant-loop-at

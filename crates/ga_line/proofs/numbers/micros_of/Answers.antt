@@ -1,7 +1,7 @@
 use Rattle.std.proofs.Common.{sym, subst, arith}
 use Rattle.std.specs.Option.{option_map, IfNone}
-use Rattle.ga_line.specs.Fitting.{part_of}
-use Rattle.ga_line.specs.Valid.{IsTooSlow}
+use Rattle.ga_line.specs.Steps.Fitting.{part_of}
+use Rattle.ga_line.specs.Steps.Valid.{IsTooSlow}
 use Rattle.ga_line.proofs.NumbersLemmas.{no-micros, some-micros, slow-micros}
 use Rattle.ga_line.proofs.numbers.micros_of.Goals as goal
 

@@ -1,7 +1,6 @@
-use Rattle.std.proofs.Common.{sym, subst, ap, ◌∙◌, List, Some}
+use Rattle.std.proofs.Common.{sym, subst, ap, ◌∙◌, Some}
 use Rattle.std.specs.Option.{IfNone}
-use Rattle.ga_line.specs.Fits.{Part}
-use Rattle.ga_line.specs.Records.{IsRefused, HasMoment, HasStatus, HasMicros, size_value, too_slow}
+use Rattle.ga_line.specs.Records.{IsRefused, HasStatus, HasMicros, size_value, too_slow}
 use Rattle.ga_line.proofs.AcceptLemmas.{is-there, has-numbers, says-moment}
 use Rattle.ga_line.proofs.numbers.numbers_of.Goals as goal
 

@@ -6,21 +6,21 @@ use Rattle.ga_line.proofs.AcceptLemmas.{accepted-line}
 use Rattle.ga_line.proofs.ReadLemmas.{says-record}
 use Rattle.ga_line.proofs.reading.read_line.Goals as goal
 
-pub returns-in_default : goal.returns-in_default
-returns-in_default c = (
+pub returns-in_default-clause-says : goal.returns-in_default-clause-says
+returns-in_default-clause-says c = (
   λ passed. false≢true (sym c.if-is_passed_over.false ∙ c.is_passed_over.ensures.1 passed),
   misfit (λ parts fits. c.in_default.ensures.misfit parts (subst (λ items. Fits items c.args.line.now parts) (sym c.items.ensures.value) fits)),
 )
 
-pub returns-in-None : goal.returns-in-None
-returns-in-None c =
+pub returns-in-None-clause-says : goal.returns-in-None-clause-says
+returns-in-None-clause-says c =
     let fits = c.in-Some.ensures.fits in (
       λ passed. false≢true (sym c.if-is_passed_over.false ∙ c.is_passed_over.ensures.1 passed),
       refused fits.0 (subst (λ items. Fits items c.args.line.now fits.0) c.items.ensures.value fits.1) (c.in-None.ensures.refused fits.0 fits.2),
     )
 
-pub returns-in_ok-record_of-in-Some-numbers_of : goal.returns-in_ok-record_of-in-Some-numbers_of
-returns-in_ok-record_of-in-Some-numbers_of c =
+pub returns-in_ok-record_of-in-Some-numbers_of-clause-says : goal.returns-in_ok-record_of-in-Some-numbers_of-clause-says
+returns-in_ok-record_of-in-Some-numbers_of-clause-says c =
     let fits = c.in-Some.ensures.fits in
     let setup = c.args.setup.now in
     let line = c.args.line.now in
@@ -29,3 +29,7 @@ returns-in_ok-record_of-in-Some-numbers_of c =
     says-record setup line fits.0 c.in-Some-numbers_of.numbers _
     (λ passed. false≢true (sym c.if-is_passed_over.false ∙ c.is_passed_over.ensures.1 passed)) (accepted-line setup line fits.0 c.if-line-gt-MAX_LINE.false all has.accepted) all has
     c.in_ok-record_of-in-Some-numbers_of.ensures.numbers (c.in_ok-record_of-in-Some-numbers_of.ensures.texts fits.0 fits.2)
+
+pub returns-in_ok-record_of-in-Some-numbers_of-clause-bounds : goal.returns-in_ok-record_of-in-Some-numbers_of-clause-bounds
+returns-in_ok-record_of-in-Some-numbers_of-clause-bounds c =
+    c.records_keep_bounds.ensures c.args.line.now c.in_ok-record_of-in-Some-numbers_of.field-0 (returns-in_ok-record_of-in-Some-numbers_of-clause-says c)

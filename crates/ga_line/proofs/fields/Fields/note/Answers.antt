@@ -1,7 +1,7 @@
 use Rattle.std.proofs.Common.{ap, ◌∙◌, ◌-◌, length, None}
 use Rattle.std.specs.Prelude.{slice_index_or}
 use Rattle.std.specs.Option.{option_copied, option_map}
-use Rattle.ga_line.specs.Fitting.{part_of, first_taken}
+use Rattle.ga_line.specs.Steps.Fitting.{part_of, first_taken}
 use Rattle.ga_line.proofs.FieldLemmas.{noted-more}
 use Rattle.ga_line.proofs.fields.Fields.note.Goals as goal
 

@@ -1,5 +1,5 @@
 -- What the steps promise in which a line is fitted: the fields so far, and what is left of the items and of the line.
-use Rattle.std.specs.Prelude.{◌≡◌, ℕ, ◌-◌, ◌<◌, ◌≤◌, ◌+◌, List, ◌∷◌, ◌++◌, Option, Some, None, slice_index_or, length, if◌then◌else◌}
+use Rattle.std.specs.Prelude.{◌≡◌, ℕ, ◌-◌, ◌==◌, ◌<◌, ◌≤◌, ◌+◌, List, ◌∷◌, ◌++◌, Option, Some, None, slice_index_or, length, if◌then◌else◌}
 use Rattle.std.specs.Borrow.{Bor}
 use Rattle.std.specs.Option.{option_copied, option_map}
 use Rattle.ga_base.specs.declared.formats.FormatItem.{FormatItem}
@@ -14,6 +14,11 @@ use Rattle.ga_line.specs.Records.{taken_part}
 pub record IsLetter (letter : ℕ) : Type 0 where
   pub first : FIRST_LETTER ≤ letter
   pub last : letter < FIRST_LETTER + LETTERS
+
+-- what is known of the field with a letter after one more field: the first is kept
+abbrev pub noted : ℕ → Option (List ℕ) → Part → Option (List ℕ)
+noted letter None part = if part.0 == letter then Some part.1 else None
+noted letter (Some text) part = Some text
 
 -- the text that is noted for a letter
 abbrev pub noted_text : ℕ → Fields → Option (List ℕ)
