@@ -20,11 +20,11 @@ use Rattle.ga_agents.proofs.OccurLemmas.{first-append_left, first-append_right, 
 
 -- a system of the table, or none
 pub system_found : (entries : List SystemEntry) (agent : List ℕ) (e : SystemEntry) → map system_of entries ≡ systems
-    → IsFirstEntry (λ (x : SystemEntry). x.token.now) entries agent e → HasSystem agent e.system.now e.group.now
+    → IsFirstEntry (λ (x : SystemEntry). x.0.now) entries agent e → HasSystem agent e.1.now e.2.now
 system_found entries agent e is first =
     inl (system_of e, subst (λ es. IsFirstEntry (λ (x : System). x.token) es agent (system_of e)) is (first-map system_of (λ (x : System). x.token) entries agent e first), refl, refl)
 
-pub system_none : (entries : List SystemEntry) (agent : List ℕ) → map system_of entries ≡ systems → NoneOccurs (λ (x : SystemEntry). x.token.now) entries agent → HasSystem agent unknown unknown
+pub system_none : (entries : List SystemEntry) (agent : List ℕ) → map system_of entries ≡ systems → NoneOccurs (λ (x : SystemEntry). x.0.now) entries agent → HasSystem agent unknown unknown
 system_none entries agent is none =
     inr (subst (λ es. NoneOccurs (λ (x : System). x.token) es agent) is (none-map system_of (λ (x : System). x.token) entries agent none), refl, refl)
 
@@ -40,7 +40,7 @@ found_in_file rules agent r found token category first place =
 
 pub found_built_in : (rules : List Rule) (entries : List BrowserEntry) (agent : List ℕ) (e : BrowserEntry) (at : ℕ) → map rule_of entries ≡ builtin_rules
     → NoneOccurs (λ (x : Rule). x.token) rules agent
-    → IsFirstEntry (λ (x : BrowserEntry). x.token.now) entries agent e → IsPlace e.token.now agent at → IsFound (rules ++ builtin_rules) agent (record { token = e.token; category = e.category; at = at })
+    → IsFirstEntry (λ (x : BrowserEntry). x.0.now) entries agent e → IsPlace e.0.now agent at → IsFound (rules ++ builtin_rules) agent (record { token = e.0; category = e.1; at = at })
 found_built_in rules entries agent e at is none first place = record {
   first = first-append_right (λ (x : Rule). x.token) rules builtin_rules agent (rule_of e) none
       (subst (λ es. IsFirstEntry (λ (x : Rule). x.token) es agent (rule_of e)) is (first-map rule_of (λ (x : Rule). x.token) entries agent e first));
@@ -48,7 +48,7 @@ found_built_in rules entries agent e at is none first place = record {
 }
 
 pub found_none : (rules : List Rule) (entries : List BrowserEntry) (agent : List ℕ) → map rule_of entries ≡ builtin_rules
-    → NoneOccurs (λ (x : Rule). x.token) rules agent → NoneOccurs (λ (x : BrowserEntry). x.token.now) entries agent → NoneOccurs (λ (x : Rule). x.token) (rules ++ builtin_rules) agent
+    → NoneOccurs (λ (x : Rule). x.token) rules agent → NoneOccurs (λ (x : BrowserEntry). x.0.now) entries agent → NoneOccurs (λ (x : Rule). x.token) (rules ++ builtin_rules) agent
 found_none rules entries agent is none later =
     none-append (λ (x : Rule). x.token) rules builtin_rules agent none
     (subst (λ es. NoneOccurs (λ (x : Rule). x.token) es agent) is (none-map rule_of (λ (x : Rule). x.token) entries agent later))

@@ -1,5 +1,6 @@
--- What a browsers file says: each line is a token, one or more tabs and a category, or is passed over. As in GoAccess, with limits of our own.
-use Rattle.std.specs.Prelude.{◌≡◌, ◌≢◌, ℕ, ◌+◌, ◌≤◌, ◌⊎◌, List, [], ◌∷◌, ◌++◌, length, Result, Err}
+-- What a browsers file says: each line is a token, one or more tabs and a category, or is passed over. The form is that of
+-- GoAccess's browsers files; what a line may hold, how long it may be and which fault is the first are this program's own.
+use Rattle.std.specs.Prelude.{◌≡◌, ◌≢◌, ℕ, ◌+◌, ◌≤◌, ◌⊎◌, List, [], ◌∷◌, ◌++◌, length, codes, decimal, Result, Err}
 use Rattle.std.specs.List.{AllByRecursion}
 use Rattle.std.specs.Str.{IsUtf8}
 use Rattle.std.specs.Str.Lines.{lines}
@@ -71,6 +72,11 @@ IsAnswered text = ((given : List Rule) × FileGives text given) ⊎ ((number : �
 abbrev pub IsFileFault : List ℕ → RuleFault → Type 0
 IsFileFault text (BadLine number) = IsBadLine text number
 IsFileFault text NoMemory = Unit {0}
+
+-- what an error shows
+abbrev pub fault_text : RuleFault → List ℕ
+fault_text (BadLine number) = codes "line " ++ decimal number ++ codes ": not a rule"
+fault_text NoMemory = codes "no memory"
 
 -- the result is this answer, unless memory ran out
 abbrev pub UnlessNoMemory : {T : Type 0} → Result T RuleFault → Result T RuleFault → Type 0

@@ -16,10 +16,10 @@ use Rattle.ga_agents.specs.Tables.{rule, System, system}
 
 -- the entries of the code's tables as those of the definitions
 abbrev pub rule_of : BrowserEntry → Rule
-rule_of entry = rule entry.token.now entry.category.now
+rule_of entry = rule entry.0.now entry.1.now
 
 abbrev pub system_of : SystemEntry → System
-system_of entry = system entry.token.now entry.system.now entry.group.now
+system_of entry = system entry.0.now entry.1.now entry.2.now
 
 -- the first place of the token in the agent, and the agent may be cut there and behind the token
 pub record IsPlace (token agent : List ℕ) (at : ℕ) : Type 0 where

@@ -1,4 +1,5 @@
--- The built-in lists, each in the order in which its entries count: browsers and systems as GoAccess groups them, in our own choice.
+-- The built-in lists, each in the order in which its entries count: this program's own choice of browsers, systems and
+-- their groups.
 use Rattle.std.specs.Prelude.{ℕ, List, [], ◌∷◌, codes}
 use Rattle.ga_agents.specs.declared.row.Rule.{Rule}
 

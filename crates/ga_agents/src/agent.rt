@@ -1,7 +1,7 @@
 use ga_base::Text;
 
 /// What a user agent tells.
-#[derive(Debug, PartialEq, Eq, Clone, Drop)]
+#[derive(Debug, PartialEq, Eq, Drop)]
 pub struct Agent {
     /// The browser with its version, as `Firefox/122.0`, or `Unknown`.
     pub browser: Text,

@@ -59,8 +59,8 @@ pub(crate) fn system_in(agent: &str) -> System
 {
     match first_entry(system_entries(), agent) {
         Some((entry, _)) => System {
-            name: entry.system,
-            group: entry.group,
+            name: entry.1,
+            group: entry.2,
         },
         None => System {
             name: UNKNOWN,
@@ -82,8 +82,8 @@ pub(crate) fn found_in<'a>(rules: &'a [Rule], agent: &str) -> Option<Found<'a>>
     }
     let (entry, at) = first_entry(browsers(), agent)?;
     Some(Found {
-        token: entry.token,
-        category: entry.category,
+        token: entry.0,
+        category: entry.1,
         at,
     })
 }

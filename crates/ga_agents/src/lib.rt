@@ -2,14 +2,15 @@
 //!
 //! Start with `Rules`, which a browsers file gives or which are the built-in ones alone, and `Rules::classify`.
 //! `specs/Occurs.antt` says which entry of a list counts for an agent, `specs/Tables.antt` has the built-in lists,
-//! `specs/Classes.antt` says what an agent is, and `specs/RulesFile.antt` what a browsers file says.
+//! `specs/Classes.antt` says what an agent is, and `specs/RulesFile.antt` what a browsers file says. `laws` says that each
+//! has one meaning; `specs/Steps.antt` has the words of inner steps alone.
 #![tactic(auto)]
 
 mod agent;
 mod classes;
 mod entries;
 mod fault;
-mod laws;
+pub mod laws;
 mod row;
 mod rules;
 mod tables;
@@ -18,6 +19,5 @@ mod tests;
 
 pub use agent::Agent;
 pub use fault::RuleFault;
-pub use laws::{one_class, one_reading};
 pub use row::Rule;
 pub use rules::Rules;

@@ -17,7 +17,7 @@ const COMMENT: u8 = b'#';
 const TAB: u8 = b'\t';
 
 /// A rule: an agent with the token has the category.
-#[derive(Debug, PartialEq, Eq, Clone, Drop)]
+#[derive(Debug, PartialEq, Eq, Drop)]
 pub struct Rule {
     /// What an agent has to have, byte for byte.
     pub token: Text,

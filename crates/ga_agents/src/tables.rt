@@ -4,264 +4,90 @@ ghost use Rattle.ga_agents.specs.Steps.{rule_of, system_of};
 
 use crate::entries::HasToken;
 
-/// A built-in rule: agents with the token have the category.
+/// A built-in rule, a token and a category: agents with the token have the category.
 #[derive(Clone, Copy)]
-pub(crate) struct BrowserEntry {
-    pub(crate) token: &'static str,
-    pub(crate) category: &'static str,
-}
+pub(crate) struct BrowserEntry(pub(crate) &'static str, pub(crate) &'static str);
 
-/// An entry of the systems: agents with the token have the system and its group.
+/// An entry of the systems, a token, a system and its group: agents with the token have the system.
 #[derive(Clone, Copy)]
-pub(crate) struct SystemEntry {
-    pub(crate) token: &'static str,
-    pub(crate) system: &'static str,
-    pub(crate) group: &'static str,
-}
+pub(crate) struct SystemEntry(
+    pub(crate) &'static str,
+    pub(crate) &'static str,
+    pub(crate) &'static str,
+);
 
 impl HasToken for BrowserEntry {
-    ghost token_of = { λ entry. entry.token.now };
+    ghost token_of = { λ entry. entry.0.now };
 
     fn token(&self) -> &str {
-        self.token
+        self.0
     }
 }
 
 impl HasToken for SystemEntry {
-    ghost token_of = { λ entry. entry.token.now };
+    ghost token_of = { λ entry. entry.0.now };
 
     fn token(&self) -> &str {
-        self.token
+        self.0
     }
 }
 
 /// The built-in rules, in the order in which they count.
 const BROWSERS: [BrowserEntry; 29] = [
-    BrowserEntry {
-        token: "Googlebot",
-        category: "Crawlers",
-    },
-    BrowserEntry {
-        token: "bingbot",
-        category: "Crawlers",
-    },
-    BrowserEntry {
-        token: "Baiduspider",
-        category: "Crawlers",
-    },
-    BrowserEntry {
-        token: "YandexBot",
-        category: "Crawlers",
-    },
-    BrowserEntry {
-        token: "DuckDuckBot",
-        category: "Crawlers",
-    },
-    BrowserEntry {
-        token: "AhrefsBot",
-        category: "Crawlers",
-    },
-    BrowserEntry {
-        token: "SemrushBot",
-        category: "Crawlers",
-    },
-    BrowserEntry {
-        token: "Applebot",
-        category: "Crawlers",
-    },
-    BrowserEntry {
-        token: "Twitterbot",
-        category: "Crawlers",
-    },
-    BrowserEntry {
-        token: "facebookexternalhit",
-        category: "Crawlers",
-    },
-    BrowserEntry {
-        token: "crawler",
-        category: "Crawlers",
-    },
-    BrowserEntry {
-        token: "spider",
-        category: "Crawlers",
-    },
-    BrowserEntry {
-        token: "bot/",
-        category: "Crawlers",
-    },
-    BrowserEntry {
-        token: "Bot/",
-        category: "Crawlers",
-    },
-    BrowserEntry {
-        token: "curl",
-        category: "Others",
-    },
-    BrowserEntry {
-        token: "Wget",
-        category: "Others",
-    },
-    BrowserEntry {
-        token: "python-requests",
-        category: "Others",
-    },
-    BrowserEntry {
-        token: "Edg",
-        category: "Edge",
-    },
-    BrowserEntry {
-        token: "OPR",
-        category: "Opera",
-    },
-    BrowserEntry {
-        token: "Opera",
-        category: "Opera",
-    },
-    BrowserEntry {
-        token: "Firefox",
-        category: "Firefox",
-    },
-    BrowserEntry {
-        token: "FxiOS",
-        category: "Firefox",
-    },
-    BrowserEntry {
-        token: "SamsungBrowser",
-        category: "Others",
-    },
-    BrowserEntry {
-        token: "CriOS",
-        category: "Chrome",
-    },
-    BrowserEntry {
-        token: "Chrome",
-        category: "Chrome",
-    },
-    BrowserEntry {
-        token: "Safari",
-        category: "Safari",
-    },
-    BrowserEntry {
-        token: "MSIE",
-        category: "MSIE",
-    },
-    BrowserEntry {
-        token: "Trident",
-        category: "MSIE",
-    },
-    BrowserEntry {
-        token: "Mozilla",
-        category: "Others",
-    },
+    BrowserEntry("Googlebot", "Crawlers"),
+    BrowserEntry("bingbot", "Crawlers"),
+    BrowserEntry("Baiduspider", "Crawlers"),
+    BrowserEntry("YandexBot", "Crawlers"),
+    BrowserEntry("DuckDuckBot", "Crawlers"),
+    BrowserEntry("AhrefsBot", "Crawlers"),
+    BrowserEntry("SemrushBot", "Crawlers"),
+    BrowserEntry("Applebot", "Crawlers"),
+    BrowserEntry("Twitterbot", "Crawlers"),
+    BrowserEntry("facebookexternalhit", "Crawlers"),
+    BrowserEntry("crawler", "Crawlers"),
+    BrowserEntry("spider", "Crawlers"),
+    BrowserEntry("bot/", "Crawlers"),
+    BrowserEntry("Bot/", "Crawlers"),
+    BrowserEntry("curl", "Others"),
+    BrowserEntry("Wget", "Others"),
+    BrowserEntry("python-requests", "Others"),
+    BrowserEntry("Edg", "Edge"),
+    BrowserEntry("OPR", "Opera"),
+    BrowserEntry("Opera", "Opera"),
+    BrowserEntry("Firefox", "Firefox"),
+    BrowserEntry("FxiOS", "Firefox"),
+    BrowserEntry("SamsungBrowser", "Others"),
+    BrowserEntry("CriOS", "Chrome"),
+    BrowserEntry("Chrome", "Chrome"),
+    BrowserEntry("Safari", "Safari"),
+    BrowserEntry("MSIE", "MSIE"),
+    BrowserEntry("Trident", "MSIE"),
+    BrowserEntry("Mozilla", "Others"),
 ];
 
 /// The systems, in the order in which they count.
 const SYSTEMS: [SystemEntry; 21] = [
-    SystemEntry {
-        token: "Windows NT 10.0",
-        system: "Windows 10",
-        group: "Windows",
-    },
-    SystemEntry {
-        token: "Windows NT 6.3",
-        system: "Windows 8.1",
-        group: "Windows",
-    },
-    SystemEntry {
-        token: "Windows NT 6.2",
-        system: "Windows 8",
-        group: "Windows",
-    },
-    SystemEntry {
-        token: "Windows NT 6.1",
-        system: "Windows 7",
-        group: "Windows",
-    },
-    SystemEntry {
-        token: "Windows NT 6.0",
-        system: "Windows Vista",
-        group: "Windows",
-    },
-    SystemEntry {
-        token: "Windows NT 5.1",
-        system: "Windows XP",
-        group: "Windows",
-    },
-    SystemEntry {
-        token: "Windows",
-        system: "Windows",
-        group: "Windows",
-    },
-    SystemEntry {
-        token: "iPhone",
-        system: "iOS",
-        group: "iOS",
-    },
-    SystemEntry {
-        token: "iPad",
-        system: "iOS",
-        group: "iOS",
-    },
-    SystemEntry {
-        token: "Android",
-        system: "Android",
-        group: "Android",
-    },
-    SystemEntry {
-        token: "CrOS",
-        system: "Chrome OS",
-        group: "Chrome OS",
-    },
-    SystemEntry {
-        token: "Mac OS X",
-        system: "macOS",
-        group: "macOS",
-    },
-    SystemEntry {
-        token: "Macintosh",
-        system: "macOS",
-        group: "macOS",
-    },
-    SystemEntry {
-        token: "Ubuntu",
-        system: "Ubuntu",
-        group: "Linux",
-    },
-    SystemEntry {
-        token: "Fedora",
-        system: "Fedora",
-        group: "Linux",
-    },
-    SystemEntry {
-        token: "Debian",
-        system: "Debian",
-        group: "Linux",
-    },
-    SystemEntry {
-        token: "Linux",
-        system: "Linux",
-        group: "Linux",
-    },
-    SystemEntry {
-        token: "FreeBSD",
-        system: "FreeBSD",
-        group: "BSD",
-    },
-    SystemEntry {
-        token: "OpenBSD",
-        system: "OpenBSD",
-        group: "BSD",
-    },
-    SystemEntry {
-        token: "NetBSD",
-        system: "NetBSD",
-        group: "BSD",
-    },
-    SystemEntry {
-        token: "SunOS",
-        system: "Solaris",
-        group: "Unix",
-    },
+    SystemEntry("Windows NT 10.0", "Windows 10", "Windows"),
+    SystemEntry("Windows NT 6.3", "Windows 8.1", "Windows"),
+    SystemEntry("Windows NT 6.2", "Windows 8", "Windows"),
+    SystemEntry("Windows NT 6.1", "Windows 7", "Windows"),
+    SystemEntry("Windows NT 6.0", "Windows Vista", "Windows"),
+    SystemEntry("Windows NT 5.1", "Windows XP", "Windows"),
+    SystemEntry("Windows", "Windows", "Windows"),
+    SystemEntry("iPhone", "iOS", "iOS"),
+    SystemEntry("iPad", "iOS", "iOS"),
+    SystemEntry("Android", "Android", "Android"),
+    SystemEntry("CrOS", "Chrome OS", "Chrome OS"),
+    SystemEntry("Mac OS X", "macOS", "macOS"),
+    SystemEntry("Macintosh", "macOS", "macOS"),
+    SystemEntry("Ubuntu", "Ubuntu", "Linux"),
+    SystemEntry("Fedora", "Fedora", "Linux"),
+    SystemEntry("Debian", "Debian", "Linux"),
+    SystemEntry("Linux", "Linux", "Linux"),
+    SystemEntry("FreeBSD", "FreeBSD", "BSD"),
+    SystemEntry("OpenBSD", "OpenBSD", "BSD"),
+    SystemEntry("NetBSD", "NetBSD", "BSD"),
+    SystemEntry("SunOS", "Solaris", "Unix"),
 ];
 
 /// The built-in rules.

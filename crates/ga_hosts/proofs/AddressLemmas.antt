@@ -12,7 +12,7 @@ use Rattle.std.proofs.NetLemmas.Theorems.{IsIpText_unique}
 use Rattle.ga_hosts.specs.declared.address.Address.{Address}
 use Rattle.ga_hosts.specs.declared.address.Address.TheVariants.{V4, V6}
 use Rattle.ga_hosts.specs.Addresses.{Spells, IsAddress, SpellsV4, SpellsV6, IsWritten, IsShortened}
-use Rattle.ga_hosts.specs.Numbers.{numbered}
+use Rattle.ga_hosts.specs.Steps.{numbered}
 use Rattle.ga_hosts.proofs.GrammarLemmas.{quad-dotted, dotted-quad, form-colon_hex, colon_hex-form}
 use Rattle.ga_hosts.proofs.NumberLemmas.{number_in-four, number_in-eight}
 

@@ -8,7 +8,7 @@ use Rattle.std.specs.Str.Parse.{AllDigits}
 use Rattle.ga_hosts.specs.declared.address.Address.{Address}
 use Rattle.ga_hosts.specs.declared.address.Address.TheVariants.{V4, V6}
 use Rattle.ga_hosts.specs.Addresses.{Spells, IsDottedQuad, IsGroup, IsRow, IsWritten, IsShortened}
-use Rattle.ga_hosts.specs.Cuts.{HasNoDash}
+use Rattle.ga_hosts.specs.Steps.{HasNoDash}
 
 -- no byte is a dash, by recursion on the text
 abbrev pub Dashless : List ℕ → Type 0

@@ -7,7 +7,7 @@ use Rattle.ga_hosts.specs.declared.range.Range.{Range}
 use Rattle.ga_hosts.specs.declared.range.BadRange.{BadRange}
 use Rattle.ga_hosts.specs.Addresses.{Spells, IsAddress, IsAtMost}
 use Rattle.ga_hosts.specs.Ranges.{SpellsOne, SpellsTwo, SpellsRange, LacksFirst, LacksSecond}
-use Rattle.ga_hosts.specs.Cuts.{IsCut}
+use Rattle.ga_hosts.specs.Steps.{IsCut}
 use Rattle.ga_hosts.proofs.AddressLemmas.{one_address}
 use Rattle.ga_hosts.proofs.DashLemmas.{Dashless, dashless-from_all, dashless-address, one-cut, dash-no_address}
 

@@ -1,4 +1,3 @@
-pub mod Numbers
 pub mod Addresses
 pub mod Ranges
-pub mod Cuts
+pub mod Steps

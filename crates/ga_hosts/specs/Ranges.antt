@@ -1,8 +1,9 @@
 -- Which range of addresses a text spells, why it spells none, and what a list of ranges holds: this program's own rules
 -- for `--exclude-ip`, after the option of that name in GoAccess.
-use Rattle.std.specs.Prelude.{◌≡◌, ℕ, ◌+◌, ◌⊎◌, List, ◌++◌, length, codes, Any}
+use Rattle.std.specs.Prelude.{◌≡◌, ℕ, ◌+◌, ◌⊎◌, List, ◌++◌, length, codes, decimal, Any}
 use Rattle.ga_hosts.specs.declared.address.Address.{Address}
 use Rattle.ga_hosts.specs.declared.range.Range.{Range}
+use Rattle.ga_hosts.specs.declared.range.BadRange.{BadRange}
 use Rattle.ga_hosts.specs.Addresses.{Spells, IsAddress, IsAtMost}
 
 -- an address alone is the range of it alone
@@ -38,6 +39,10 @@ pub record LacksSecond (text : List ℕ) (at : ℕ) : Type 0 where
   pub is_low : Spells first low
   pub none : (high : Address) → Spells second high → ¬ (IsAtMost low high)
   pub place : at ≡ length first + 1
+
+-- what a fault shows
+abbrev pub bad_range_text : BadRange → List ℕ
+bad_range_text bad = codes "byte " ++ decimal bad.at ++ codes ": bad range"
 
 -- the address is in the range: of its family, not below its low end and not above its high end
 abbrev pub IsWithin : Address → Range → Type 0

@@ -1,7 +1,7 @@
 ghost use Rattle.std.specs.Prelude.{◌≡◌, ◌↔◌, Some, IsTrue, IsNone};
 ghost use Rattle.ga_hosts.specs.Addresses.{Spells, IsAddress, IsAtMost};
 ghost use Rattle.ga_hosts.specs.declared.address.Address.{Address as AddressSpec};
-ghost use Rattle.ga_hosts.specs.Numbers.{numbered};
+ghost use Rattle.ga_hosts.specs.Steps.{numbered};
 
 use std::net::IpAddr;
 

@@ -2,7 +2,7 @@ ghost use Rattle.std.specs.Prelude.{◌≡◌, ◌<◌, ◌↔◌, ℕ, Ok, IfOk
 ghost use Rattle.std.specs.Option.{option_copied};
 ghost use Rattle.ga_hosts.specs.Addresses.{IsAtMost};
 ghost use Rattle.ga_hosts.specs.Ranges.{SpellsRange, LacksFirst, LacksSecond, IsWithin};
-ghost use Rattle.ga_hosts.specs.Cuts.{IsCut};
+ghost use Rattle.ga_hosts.specs.Steps.{IsCut};
 ghost use Rattle.ga_hosts.specs.declared.range.Range.{Range as RangeSpec};
 
 use crate::{Address, address_of};
@@ -34,6 +34,11 @@ pub struct BadRange {
 }
 
 impl fmt::Display for BadRange {
+    ghost use Rattle.std.specs.Prelude.{Some};
+    ghost use Rattle.ga_hosts.specs.Ranges.{bad_range_text};
+
+    ghost output = { λ bad. Some (bad_range_text bad) };
+
     fn fmt<W: fmt::Write>(&self, f: &mut fmt::Formatter<W>) -> fmt::Result {
         write!(f, "byte {}: bad range", self.at)
     }

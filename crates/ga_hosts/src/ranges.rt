@@ -7,7 +7,7 @@ use std::alloc::Global;
 use std::marker::Model;
 
 /// Ranges of addresses, as the option `--exclude-ip` names them, repeated. Contracts see the list of them.
-#[derive(Debug, Drop, Clone)]
+#[derive(Debug, Drop)]
 pub struct Ranges {
     inner: Listing<Range>,
 }

@@ -1,4 +1,5 @@
 pub mod Referrers
 pub mod Requests
+pub mod Steps
 pub mod Tables
 pub mod Urls

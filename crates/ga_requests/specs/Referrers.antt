@@ -4,7 +4,7 @@ use Rattle.std.specs.Prelude.{◌≡◌, ◌≢◌, ℕ, ◌≤◌, ◌==◌, Bo
 use Rattle.std.specs.List.{before_first, after_first}
 use Rattle.std.specs.Str.Lossy.{utf8_lossy}
 use Rattle.std.specs.Str.Iter.{HasSubslice}
-use Rattle.form_urlencoded.specs.Form.{parse, decode}
+use Rattle.form_urlencoded.specs.Form.{parse}
 use Rattle.ga_requests.specs.Urls.{question_mark}
 
 abbrev pub slash : ℕ
@@ -36,10 +36,6 @@ SiteIs referrer (Some site) = Names referrer site × (site ≢ [])
 -- what stands behind the first `?` of the whole referrer, up to the first `#` that follows it; empty without a `?`
 abbrev pub query_of : List ℕ → List ℕ
 query_of referrer = before_first (λ b. b == number_sign) (after_first (λ b. b == question_mark) referrer)
-
--- the text that a name or a value of a query stands for, decoded and made UTF-8
-abbrev pub text_of : List ℕ → List ℕ
-text_of bytes = utf8_lossy (decode bytes)
 
 -- the pairs of a query: the names and values that the form syntax gives, made UTF-8
 abbrev pub pairs_of : List ℕ → List (List ℕ × List ℕ)

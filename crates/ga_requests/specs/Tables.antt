@@ -1,6 +1,5 @@
--- The request methods, the protocols and the endings of static files that are known: those of GoAccess, with
--- the versions of HTTP written as servers log them, in a profile of this program's own. All are compared byte
--- for byte.
+-- The request methods, the protocols and the endings of static files that are known: methods of HTTP and WebDAV,
+-- versions of HTTP as servers log them, and this program's own choice of endings. All are compared byte for byte.
 use Rattle.std.specs.Prelude.{ℕ, List, [], ◌∷◌, codes}
 use Rattle.std.specs.List.{Contains}
 

@@ -1,5 +1,5 @@
 -- From the target of a request to its URL, and which URLs are of static files. Percent-decoding is that of the
--- URL Standard; what static files are is GoAccess's rule, with a profile of this program's own.
+-- URL Standard; what static files are is this program's own rule, after GoAccess's options for them.
 use Rattle.std.specs.Prelude.{◌≡◌, ℕ, zero, suc, ◌⊎◌, ◌==◌, Bool, IsTrue, List, ◌++◌}
 use Rattle.std.specs.List.{Contains, before_first}
 use Rattle.std.specs.Str.Lossy.{utf8_lossy}

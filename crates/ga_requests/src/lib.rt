@@ -3,7 +3,8 @@
 //!
 //! Start with `split_request` and `decode_url`. `specs/Requests.antt` says what a request line is,
 //! `specs/Urls.antt` what a URL and a static file are, `specs/Referrers.antt` what a referrer says, and
-//! `specs/Tables.antt` has the known methods, protocols and extensions. `laws` says that each has one meaning.
+//! `specs/Tables.antt` has the known methods, protocols and extensions. `laws` says that each has one meaning;
+//! `specs/Steps.antt` has the words of inner steps alone.
 #![tactic(auto)]
 
 mod cutting;

@@ -1,7 +1,8 @@
 ghost use Rattle.std.specs.Prelude.{◌≡◌, ◌↔◌, [], ◌∷◌, IfOk, IfSome, IfNone, IsTrue, Some, None};
 ghost use Rattle.std.specs.List.{before_first};
 ghost use Rattle.ga_requests.specs.Referrers.{SiteIs, ends_site, IsGoogle, KeyphraseIs};
-ghost use Rattle.ga_requests.specs.Referrers.{query_of, pairs_of, text_of, PhraseIs};
+ghost use Rattle.ga_requests.specs.Referrers.{query_of, pairs_of, PhraseIs};
+ghost use Rattle.ga_requests.specs.Steps.{text_of};
 
 use crate::cutting::{NUMBER_SIGN, QUESTION_MARK, before_byte};
 use form_urlencoded::{decode, raw_pairs};
@@ -34,7 +35,8 @@ pub fn referring_site(alloc: Global, referrer: &Text) -> Result<Option<Text>, No
 
 /// The phrase that was searched for: where the referrer's site holds `google.`, the decoded value of the first pair
 /// named `q` with a value that isn't empty, in what stands behind the first `?` of the whole referrer and before the
-/// first `#` after it. The pairs are those of HTML forms (URL Standard, section 5). Else `None`.
+/// first `#` after it. The pairs are those of HTML forms (URL Standard, section 5). Else `None`. Only Google's searches
+/// are looked at (own profile).
 pub fn keyphrase(alloc: Global, referrer: &Text) -> Result<Option<Text>, NoMemory>
     ensures { IfOk result (KeyphraseIs referrer.now) }
 {
@@ -107,5 +109,5 @@ fn phrase_in(alloc: Global, name: &[u8], value: &[u8]) -> Result<Option<Text>, N
     if phrase.as_str().is_empty() {
         return Ok(None);
     }
-    Ok(Some(Text::from(phrase.into_owned(alloc)?)))
+    Ok(Some(Text::from_string(alloc, phrase.into_owned(alloc)?)?))
 }

@@ -1,7 +1,7 @@
 ghost use Rattle.std.specs.Prelude.{◌↔◌, IsTrue};
 ghost use Rattle.ga_requests.specs.Tables.{IsMethod, IsProtocol, IsExtension};
 
-/// The methods of requests: those of HTTP and WebDAV that GoAccess knows. The most frequent stand first.
+/// The methods of requests, of HTTP and WebDAV. The most frequent stand first.
 const METHODS: [&[u8]; 20] = [
     b"GET",
     b"HEAD",
@@ -35,7 +35,7 @@ const PROTOCOLS: [&[u8]; 6] = [
     b"HTTP/3.0",
 ];
 
-/// The endings of static files: those that GoAccess knows, with newer ones added (own profile).
+/// The endings of static files (own profile).
 const EXTENSIONS: [&[u8]; 45] = [
     b".css", b".js", b".mjs", b".map", b".jpg", b".jpeg", b".png", b".gif", b".ico", b".svg",
     b".webp", b".bmp", b".tif", b".tiff", b".avif", b".pdf", b".csv", b".txt", b".doc", b".docx",

@@ -1,147 +1,130 @@
-use crate::{decode_url, is_static, keyphrase, referring_site, split_request};
+use crate::{Parts, decode_url, is_static, keyphrase, referring_site, split_request};
 use ga_base::{Text, Texts};
+use std::alloc::Global;
 use std::test::Fail;
 
-/// A request and its method, target and protocol.
-const REQUEST_LINES: [(&[u8], &[u8], &[u8], &[u8]); 8] = [
-    (b"GET /a HTTP/1.1", b"GET", b"/a", b"HTTP/1.1"),
-    (b"GET /a b HTTP/2.0", b"GET", b"/a b", b"HTTP/2.0"),
-    (b"GET   HTTP/1.1", b"GET", b" ", b"HTTP/1.1"),
-    (b"GET  /a  HTTP/1.1", b"GET", b" /a ", b"HTTP/1.1"),
-    (b"GET /a HTTP/1.1 HTTP/2", b"GET", b"/a HTTP/1.1", b"HTTP/2"),
-    (b"MKCALENDAR * HTTP/3", b"MKCALENDAR", b"*", b"HTTP/3"),
-    (b"PROPFIND /x/ HTTP/1.0", b"PROPFIND", b"/x/", b"HTTP/1.0"),
-    (b"GET /\xff HTTP/3.0", b"GET", b"/\xff", b"HTTP/3.0"),
-];
+/// What stands between a text and each of its answers in the tables below.
+const ARROW: &str = " => ";
 
-#[test]
-fn request_lines_are_split(rt: HostRuntime) {
-    for (text, method, target, protocol) in REQUEST_LINES {
-        let parts = split_request(text);
-        assert_eq!(rt; parts.method, method);
-        assert_eq!(rt; parts.target, target);
-        assert_eq!(rt; parts.protocol, protocol);
-    }
+/// A row's text and its answer.
+fn cells(row: &str) -> (&str, &str) {
+    row.split_once(ARROW).unwrap_or((row, ""))
 }
 
-/// Texts that are no request lines.
-const OTHER_REQUESTS: [&[u8]; 12] = [
-    b"",
-    b"-",
-    b" ",
-    b"GET /a",
-    b"GET HTTP/1.1",
-    b"GET  HTTP/1.1",
-    b" GET /a HTTP/1.1",
-    b"GET /a HTTP/1.1 ",
-    b"get /a HTTP/1.1",
-    b"GETS /a HTTP/1.1",
-    b"GET /a HTTP/1.2",
-    b"\x16\x03\x01",
-];
+/// Requests, and the method, target and protocol of each: request lines, and then texts that are none.
+const REQUESTS: &str = "\
+GET /a HTTP/1.1 => GET|/a|HTTP/1.1
+GET /a b HTTP/2.0 => GET|/a b|HTTP/2.0
+GET   HTTP/1.1 => GET| |HTTP/1.1
+GET  /a  HTTP/1.1 => GET| /a |HTTP/1.1
+GET /a HTTP/1.1 HTTP/2 => GET|/a HTTP/1.1|HTTP/2
+MKCALENDAR * HTTP/3 => MKCALENDAR|*|HTTP/3
+PROPFIND /x/ HTTP/1.0 => PROPFIND|/x/|HTTP/1.0
+ => ||
+- => |-|
+  => | |
+GET /a => |GET /a|
+GET HTTP/1.1 => |GET HTTP/1.1|
+GET  HTTP/1.1 => |GET  HTTP/1.1|
+ GET /a HTTP/1.1 => | GET /a HTTP/1.1|
+GET /a HTTP/1.1  => |GET /a HTTP/1.1 |
+get /a HTTP/1.1 => |get /a HTTP/1.1|
+GETS /a HTTP/1.1 => |GETS /a HTTP/1.1|
+GET /a HTTP/1.2 => |GET /a HTTP/1.2|
+";
 
 #[test]
-fn other_requests_are_targets(rt: HostRuntime) {
-    for text in OTHER_REQUESTS {
-        let parts = split_request(text);
-        assert_eq!(rt; parts.method, b"".as_slice());
-        assert_eq!(rt; parts.target, text);
-        assert_eq!(rt; parts.protocol, b"".as_slice());
+fn requests_are_split(rt: HostRuntime) -> Result<(), Fail> {
+    for row in REQUESTS.lines() {
+        let (text, expected) = cells(row);
+        let (method, rest) = expected.split_once('|').unwrap_or((row, ""));
+        let (target, protocol) = rest.split_once('|').unwrap_or((row, ""));
+        let parts = split_request(text.as_bytes());
+        assert_eq!(rt; parts.method, method.as_bytes(), "{text}");
+        assert_eq!(rt; parts.target, target.as_bytes(), "{text}");
+        assert_eq!(rt; parts.protocol, protocol.as_bytes(), "{text}");
     }
+    let Parts { target, .. } = split_request(b"GET /\xff HTTP/3.0");
+    assert_eq!(rt; target, b"/\xff".as_slice());
+    Ok(())
 }
 
-/// A URL, and its text after decoding once and twice.
-const ESCAPES: [(&[u8], &str, &str); 8] = [
-    (b"/caf%C3%A9", "/caf\u{e9}", "/caf\u{e9}"),
-    (b"/caf%c3%a9", "/caf\u{e9}", "/caf\u{e9}"),
-    (b"/%2541", "/%41", "/A"),
-    (b"/%%34%31", "/%41", "/A"),
-    (b"/%25FF", "/%FF", "/\u{fffd}"),
-    (b"/%3Fa+b", "/?a+b", "/?a+b"),
-    (b"/plain", "/plain", "/plain"),
-    (b"", "", ""),
-];
+/// URLs, and their texts after decoding once and twice; the last ones have half an escape or bytes that aren't UTF-8.
+const ESCAPES: &str = "\
+/caf%C3%A9 => /café => /café
+/caf%c3%a9 => /café => /café
+/%2541 => /%41 => /A
+/%%34%31 => /%41 => /A
+/%25FF => /%FF => /\u{fffd}
+/%3Fa+b => /?a+b => /?a+b
+/plain => /plain => /plain
+/a% => /a% => /a%
+/a%4 => /a%4 => /a%4
+/a%4g => /a%4g => /a%4g
+/%FF => /\u{fffd} => /\u{fffd}
+/%C3 => /\u{fffd} => /\u{fffd}
+/%E2%82/ => /\u{fffd}/ => /\u{fffd}/
+/%FF%FE => /\u{fffd}\u{fffd} => /\u{fffd}\u{fffd}
+";
 
 #[test]
 fn escapes_are_decoded(rt: HostRuntime) -> Result<(), Fail> {
-    for (text, once, twice) in ESCAPES {
-        assert_eq!(rt; decode_url(rt.alloc(), text, 1)?.as_str(), once);
-        assert_eq!(rt; decode_url(rt.alloc(), text, 2)?.as_str(), twice);
+    let alloc = rt.alloc();
+    for row in ESCAPES.lines() {
+        let (text, expected) = cells(row);
+        let (once, twice) = cells(expected);
+        assert_eq!(rt;
+            decode_url(alloc, text.as_bytes(), 1)?.as_str(),
+            once,
+            "{text}"
+        );
+        assert_eq!(rt;
+            decode_url(alloc, text.as_bytes(), 2)?.as_str(),
+            twice,
+            "{text}"
+        );
     }
+    assert_eq!(rt; decode_url(alloc, b"/\xff", 1)?.as_str(), "/\u{fffd}");
     Ok(())
 }
 
-/// A URL with half an escape or bytes that aren't UTF-8, and its text after decoding once and twice.
-const BAD_ESCAPES: [(&[u8], &str); 8] = [
-    (b"/a%", "/a%"),
-    (b"/a%4", "/a%4"),
-    (b"/a%4g", "/a%4g"),
-    (b"/%FF", "/\u{fffd}"),
-    (b"/\xff", "/\u{fffd}"),
-    (b"/%C3", "/\u{fffd}"),
-    (b"/%E2%82/", "/\u{fffd}/"),
-    (b"/%FF%FE", "/\u{fffd}\u{fffd}"),
-];
+/// URLs, and whether each is of a static file where queries aren't asked for, where they are, and under the endings `.own`
+/// and `~` of the user's.
+const URLS: &str = "\
+/a.css => true true true
+/a.css?v=1 => false true false
+/a.css? => false true false
+/a?b.css => false false false
+/a.css/b => false false false
+/a.CSS => false false false
+/a.css. => false false false
+/a.min.js => true true true
+/.woff2 => true true true
+/a.woff3 => false false false
+/css => false false false
+ => false false false
+/a.own => false false true
+/a~ => false false true
+/a.own?b => false false false
+/a.own/b => false false false
+/own => false false false
+";
 
 #[test]
-fn bad_escapes_stay_or_are_replaced(rt: HostRuntime) -> Result<(), Fail> {
-    for (text, url) in BAD_ESCAPES {
-        assert_eq!(rt; decode_url(rt.alloc(), text, 1)?.as_str(), url);
-        assert_eq!(rt; decode_url(rt.alloc(), text, 2)?.as_str(), url);
-    }
-    Ok(())
-}
-
-/// A URL, and whether it is of a static file where queries aren't asked for, and where they are.
-const URLS: [(&str, bool, bool); 13] = [
-    ("/a.css", true, true),
-    ("/a.css?v=1", false, true),
-    ("/a.css?", false, true),
-    ("/a?b.css", false, false),
-    ("/a.css/b", false, false),
-    ("/a.CSS", false, false),
-    ("/a.css.", false, false),
-    ("/a.min.js", true, true),
-    ("/.woff2", true, true),
-    ("/a.woff3", false, false),
-    ("/css", false, false),
-    ("", false, false),
-    ("/a.own", false, false),
-];
-
-#[test]
-fn static_files_have_an_extension(rt: HostRuntime) -> Result<(), Fail> {
+fn static_files_have_an_ending(rt: HostRuntime) -> Result<(), Fail> {
     let alloc = rt.alloc();
     let none = Texts::new(alloc);
-    for (url, plain, asked) in URLS {
-        let url = Text::of(alloc, url)?;
-        assert_eq!(rt; is_static(&url, &none, false), plain);
-        assert_eq!(rt; is_static(&url, &none, true), asked);
-    }
-    Ok(())
-}
-
-/// A URL, and whether it is of a static file under the endings `.own` and `~`.
-const OWN_URLS: [(&str, bool); 6] = [
-    ("/a.own", true),
-    ("/a~", true),
-    ("/a.css", true),
-    ("/a.own?b", false),
-    ("/a.own/b", false),
-    ("/own", false),
-];
-
-#[test]
-fn static_files_have_an_ending_of_the_users(rt: HostRuntime) -> Result<(), Fail> {
-    let alloc = rt.alloc();
     let mut own = Texts::new(alloc);
     own.push(Text::of(alloc, ".own")?)?;
     own.push(Text::of(alloc, "~")?)?;
-    for (url, expected) in OWN_URLS {
-        let url = Text::of(alloc, url)?;
-        assert_eq!(rt; is_static(&url, &own, false), expected);
+    for row in URLS.lines() {
+        let (text, expected) = cells(row);
+        let url = Text::of(alloc, text)?;
+        let (plain, asked) = (is_static(&url, &none, false), is_static(&url, &none, true));
+        let said = format!(in alloc; "{plain} {asked} {}", is_static(&url, &own, false))?;
+        assert_eq!(rt; said.as_str(), expected, "{text}");
     }
-    own.push(Text::new(alloc))?;
+    own.push(Text::new())?;
     assert!(rt;
         is_static(&Text::of(alloc, "/a")?, &own, false),
         "every text ends in the empty one"
@@ -149,93 +132,61 @@ fn static_files_have_an_ending_of_the_users(rt: HostRuntime) -> Result<(), Fail>
     Ok(())
 }
 
-/// The text that was found, or a word that none of the cases below has.
-fn shown(found: &Option<Text>) -> &str {
+/// Referrers, the site that each names, and the phrase that was searched for there.
+const REFERRERS: &str = "\
+https://www.google.com/search?hl=en&q=rust+hash%20map => [www.google.com][rust hash map]
+http://example.org => [example.org]none
+http://example.org:8080/a => [example.org:8080]none
+http://example.org#a?b => [example.org]none
+http://example.org?u=http://b.org/ => [example.org]none
+http://bücher.example/ => [bücher.example]none
+a/b://c => [c]none
+x://:// => [:]none
+http:///a => nonenone
+http://?a => nonenone
+:// => nonenone
+example.org/a => nonenone
+- => nonenone
+ => nonenone
+https://www.google.com/search?q=a&q=b => [www.google.com][a]
+https://www.google.com/search?q=&q=b => [www.google.com][b]
+https://www.google.com/search?%71=a => [www.google.com][a]
+https://www.google.com/?q=a#b => [www.google.com][a]
+https://www.google.com/#a?q=b => [www.google.com][b]
+https://www.google.com?q=a => [www.google.com][a]
+https://www.google.co.uk/?q=caf%C3%A9 => [www.google.co.uk][café]
+https://www.google.com/?q=%FF => [www.google.com][\u{fffd}]
+https://www.google.com/?q=+ => [www.google.com][ ]
+https://www.google.com/?a&&q=b=c => [www.google.com][b=c]
+https://www.google.com/search => [www.google.com]none
+https://www.google.com/search?hl=q => [www.google.com]none
+https://www.google.com/?q => [www.google.com]none
+https://www.google.com/?Q=a => [www.google.com]none
+https://www.google.com/#q=a => [www.google.com]none
+https://www.google.com/?#q=a => [www.google.com]none
+https://example.org/google.com?q=a => [example.org]none
+https://www.googlexcom/?q=a => [www.googlexcom]none
+google.com/?q=a => nonenone
+";
+
+/// A text that was found, in brackets.
+fn shown(alloc: Global, found: &Option<Text>) -> Result<String, Fail> {
     match found {
-        Some(text) => text.as_str(),
-        None => "none",
+        Some(text) => Ok(format!(in alloc; "[{}]", text.as_str())?),
+        None => Ok(String::from_str(alloc, "none")?),
     }
 }
 
-/// A referrer and its site.
-const SITES: [(&str, &str); 14] = [
-    (
-        "https://www.google.com/search?hl=en&q=rust+hash%20map",
-        "www.google.com",
-    ),
-    ("http://example.org", "example.org"),
-    ("http://example.org:8080/a", "example.org:8080"),
-    ("http://example.org#a?b", "example.org"),
-    ("http://example.org?u=http://b.org/", "example.org"),
-    ("http://b\u{fc}cher.example/", "b\u{fc}cher.example"),
-    ("a/b://c", "c"),
-    ("x://://", ":"),
-    ("http:///a", "none"),
-    ("http://?a", "none"),
-    ("://", "none"),
-    ("example.org/a", "none"),
-    ("-", "none"),
-    ("", "none"),
-];
-
 #[test]
-fn referrers_name_sites(rt: HostRuntime) -> Result<(), Fail> {
+fn referrers_name_sites_and_phrases(rt: HostRuntime) -> Result<(), Fail> {
     let alloc = rt.alloc();
-    for (referrer, site) in SITES {
-        let found = referring_site(alloc, &Text::of(alloc, referrer)?)?;
-        assert_eq!(rt; shown(&found), site);
-    }
-    Ok(())
-}
-
-/// A referrer of Google and the phrase that was searched for.
-const PHRASES: [(&str, &str); 11] = [
-    (
-        "https://www.google.com/search?hl=en&q=rust+hash%20map",
-        "rust hash map",
-    ),
-    ("https://www.google.com/search?q=a&q=b", "a"),
-    ("https://www.google.com/search?q=&q=b", "b"),
-    ("https://www.google.com/search?%71=a", "a"),
-    ("https://www.google.com/?q=a#b", "a"),
-    ("https://www.google.com/#a?q=b", "b"),
-    ("https://www.google.com?q=a", "a"),
-    ("https://www.google.co.uk/?q=caf%C3%A9", "caf\u{e9}"),
-    ("https://www.google.com/?q=%FF", "\u{fffd}"),
-    ("https://www.google.com/?q=+", " "),
-    ("https://www.google.com/?a&&q=b=c", "b=c"),
-];
-
-#[test]
-fn google_shows_the_phrase(rt: HostRuntime) -> Result<(), Fail> {
-    let alloc = rt.alloc();
-    for (referrer, phrase) in PHRASES {
-        let found = keyphrase(alloc, &Text::of(alloc, referrer)?)?;
-        assert_eq!(rt; shown(&found), phrase);
-    }
-    Ok(())
-}
-
-/// Referrers without a phrase.
-const NO_PHRASES: [&str; 10] = [
-    "https://www.google.com/search",
-    "https://www.google.com/search?hl=q",
-    "https://www.google.com/?q",
-    "https://www.google.com/?Q=a",
-    "https://www.google.com/#q=a",
-    "https://www.google.com/?#q=a",
-    "https://example.org/google.com?q=a",
-    "https://www.googlexcom/?q=a",
-    "google.com/?q=a",
-    "",
-];
-
-#[test]
-fn other_referrers_show_none(rt: HostRuntime) -> Result<(), Fail> {
-    let alloc = rt.alloc();
-    for referrer in NO_PHRASES {
-        let found = keyphrase(alloc, &Text::of(alloc, referrer)?)?;
-        assert!(rt; found.is_none(), "{referrer}");
+    for row in REFERRERS.lines() {
+        let (text, expected) = cells(row);
+        let referrer = Text::of(alloc, text)?;
+        let site = shown(alloc, &referring_site(alloc, &referrer)?)?;
+        let phrase = shown(alloc, &keyphrase(alloc, &referrer)?)?;
+        let said = format!(in alloc; "{site}{phrase}")?;
+        assert_eq!(rt; said.as_str(), expected, "{text}");
     }
     Ok(())
 }

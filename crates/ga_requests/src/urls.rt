@@ -39,7 +39,7 @@ fn decode_last(alloc: Global, bytes: &[u8]) -> Result<Text, NoMemory>
     ensures { IfOk result (λ url. url ≡ spec.url_text 1 bytes.now) }
 {
     let text = percent_decode(bytes).decode_utf8_lossy(alloc)?;
-    Ok(Text::from(text.into_owned(alloc)?))
+    Text::from_string(alloc, text.into_owned(alloc)?)
 }
 
 /// Whether a URL is of a static file: what stands before its first `?` ends in a known extension or in one of

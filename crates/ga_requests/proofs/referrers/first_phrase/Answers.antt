@@ -1,6 +1,7 @@
 use Rattle.std.proofs.Common.{List, ℕ, [], ◌∷◌, sym, subst, Some, None}
 use Rattle.form_urlencoded.specs.Parse.{raw_pairs_left}
-use Rattle.ga_requests.specs.Referrers.{PhraseIs, text_of}
+use Rattle.ga_requests.specs.Referrers.{PhraseIs}
+use Rattle.ga_requests.specs.Steps.{text_of}
 use Rattle.ga_requests.proofs.PhraseLemmas.{texts, passed, found-first, none-first, none-left}
 use Rattle.ga_requests.proofs.referrers.first_phrase.Goals as goal
 
