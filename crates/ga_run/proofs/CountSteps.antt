@@ -1,10 +1,11 @@
 -- What one more line does to the sum of a log's lines.
-use Rattle.std.proofs.Common.{◌≡◌, ◌↔◌, ◌≤◌, ℕ, Bool, true, false, List, [], ◌∷◌, ◌++◌, refl, ap, sym, ◌∙◌, subst, Option, Some, None, IfSome, Result, Ok, Err, OnOk, arith, append_assoc, append-nil, cond, zero, suc, decimal, add_assoc, add-zero, zero-add}
+use Rattle.std.proofs.Common.{◌≡◌, ◌↔◌, ◌≤◌, ℕ, Bool, true, false, List, [], ◌∷◌, ◌++◌, refl, ap, sym, ◌∙◌, subst, Option, Some, None, IfSome, Result, Ok, Err, OnOk, arith, append_assoc, append-nil, cond, zero, suc, length, sum_by, add_assoc, add-zero, zero-add}
 use Rattle.std.specs.Result.{IsErrOf}
-use Rattle.std.specs.Prelude.{All}
+use Rattle.std.specs.Prelude.{All, count_by, ◌+◌}
 use Rattle.std.specs.Option.{unwrap_or}
 use Rattle.ga_summary.specs.OneLine.{record_totals}
 use Rattle.std.proofs.lemmas.List.Elements.{filter_map-append}
+use Rattle.std.proofs.lemmas.List.Sums.{sum_by-cons}
 use Rattle.ga_base.specs.declared.counts.Counter.{Counter}
 use Rattle.ga_base.specs.declared.counts.TheConstants.{BIG}
 use Rattle.ga_base.specs.declared.counts.Totals.{Totals}
@@ -18,19 +19,18 @@ use Rattle.ga_line.specs.Records.{IsLineOf}
 use Rattle.ga_line.specs.declared.setup.LineSetup.{LineSetup}
 use Rattle.ga_base.specs.declared.panel.Panel.TheVariants.{Visitors, Hosts}
 use Rattle.ga_line.specs.Bounds.{RecordBounds}
-use Rattle.ga_panels.specs.Form.{HasEightDigits, AreKeysOfDay, key_cmp as form_cmp, is_same_panel as form_same}
+use Rattle.ga_base.specs.Days.{HasEightDigits, eight_digits}
+use Rattle.ga_panels.specs.Form.{AreKeysOfDay}
 use Rattle.ga_panels.specs.Table.{table_keys}
 use Rattle.ga_panels.specs.Visitors.{visitor_in, is_client_error}
-use Rattle.ga_panels.proofs.Digits.{decimal-date}
-use Rattle.ga_summary.specs.Order.{key_cmp}
 use Rattle.ga_summary.specs.Limits.{over, passes, or_else}
-use Rattle.ga_summary.specs.Outcomes.{Outcome, Counted, hit_of, totals_of}
+use Rattle.ga_summary.specs.Outcomes.{Hit, Outcome, Counted, hit_of, hits_of, is_failed, is_excluded, totals_of}
 use Rattle.ga_summary.specs.Outcomes as outcomes
 use Rattle.ga_summary.specs.Sums.{IsSumOf}
-use Rattle.ga_summary.proofs.Appends.{totals_of-append}
-use Rattle.ga_run.specs.Counting.{Say, outcome_in, outcomes_in, no_totals, CountsLog, FillsCounter, CountsLine, FillsAtLine}
+use Rattle.ga_run.specs.Counting.{Say, outcome_in, outcomes_in, no_totals, CountsLog, FillsCounter}
+use Rattle.ga_run.specs.Steps.Counting.{CountsLine, FillsAtLine}
 use Rattle.ga_summary.specs.Rows.{SummaryValue, totals_plus}
-use Rattle.ga_summary.specs.Sound.{IsCountable, HasForm, is_same_panel}
+use Rattle.ga_summary.specs.Sound.{IsCountable, HasForm}
 use Rattle.ga_summary.specs.declared.fault.MergeFault.{MergeFault}
 use Rattle.ga_summary.specs.declared.fault.MergeFault.TheVariants.{CounterFull}
 
@@ -42,7 +42,7 @@ fits_by (Some p) (Ok x) h = let e : Ok x ≡ Err (CounterFull p.0 p.1) = (h p.0 
 fits_by o (Err e) h = tt
 
 abbrev day_of : Record → Key
-day_of rec = record { panel = Visitors; date = rec.date; parent = []; label = decimal rec.date; method = []; protocol = [] }
+day_of rec = record { panel = Visitors; date = rec.date; parent = []; label = eight_digits rec.date; method = []; protocol = [] }
 
 abbrev host_of : Record → Key
 host_of rec = record { panel = Hosts; date = rec.date; parent = []; label = rec.host; method = []; protocol = [] }
@@ -58,7 +58,7 @@ day-form : (rec : Record) → HasEightDigits rec.date → HasForm (day_of rec)
 day-form rec digits = record {
   date = digits;
   parent = (λ e. refl, λ e. refl);
-  label = λ e. decimal-date rec.date digits;
+  label = λ e. refl;
   request = λ e. (refl, refl);
 }
 
@@ -81,13 +81,12 @@ micros-within (Some m) h = h
 
 -- the keys of a record may be counted on its day
 pub countable : (rec : Record) → RecordBounds rec → AreKeysOfDay rec.date (table_keys rec) → IsCountable rec.date (hit_of (table_keys rec) (visitor_in rec) rec)
-unfolding key_cmp form_cmp is_same_panel form_same
 countable rec bounds keys = record {
   rising = keys.rising;
   dated = keys.dated;
-  formed = forms rec (bounds.first_date, bounds.last_date);
+  formed = forms rec bounds.date;
   day = keys.day;
-  layers = λ layer. keys.layers layer.panel layer.groups;
+  layers = keys.layers;
   visitor = λ x e. visit-date (is_client_error rec.status) _ x e;
   bytes = bounds.bytes;
   micros = micros-within rec.micros bounds.micros;
@@ -108,6 +107,27 @@ plus-assoc : (a b c : Totals) → totals_plus (totals_plus a b) c ≡ totals_plu
 plus-assoc a b c = six-eq _ _ _ _ _ _ _ _ _ _ _ _ (add_assoc a.lines b.lines c.lines) (add_assoc a.failed b.failed c.failed) (add_assoc a.excluded b.excluded c.excluded)
     (add_assoc a.hits b.hits c.hits) (add_assoc a.bytes b.bytes c.bytes) (add_assoc a.micros b.micros c.micros)
 
+count-more : (p : Outcome → Bool) (x : Outcome) (xs : List Outcome) → count_by p (x ∷ []) + count_by p xs ≡ count_by p (x ∷ xs)
+count-more p x xs = omega (arith, sum_by-cons (λ (o : Outcome). cond (p o) 1 0) x xs, sum_by-cons (λ (o : Outcome). cond (p o) 1 0) x [])
+
+sum-more : (f : Hit → ℕ) (hit : Hit) (hits : List Hit) → sum_by f (hit ∷ []) + sum_by f hits ≡ sum_by f (hit ∷ hits)
+sum-more f hit hits = omega (arith, sum_by-cons f hit hits, sum_by-cons f hit [])
+
+lines-more : (x : Outcome) (xs : List Outcome) → length (x ∷ []) + length xs ≡ length (x ∷ xs)
+lines-more x xs = omega arith
+
+-- the totals of an outcome and of those behind it
+totals-cons : (x : Outcome) (xs : List Outcome) → totals_plus (totals_of (x ∷ [])) (totals_of xs) ≡ totals_of (x ∷ xs)
+totals-cons outcomes.Failed xs =
+    six-eq _ _ _ _ _ _ _ _ _ _ _ _ (lines-more outcomes.Failed xs) (count-more is_failed outcomes.Failed xs) (count-more is_excluded outcomes.Failed xs)
+    (zero-add (length (hits_of xs))) (zero-add (sum_by (λ (h : Hit). h.bytes) (hits_of xs))) (zero-add (sum_by (λ (h : Hit). h.micros) (hits_of xs)))
+totals-cons outcomes.Excluded xs =
+    six-eq _ _ _ _ _ _ _ _ _ _ _ _ (lines-more outcomes.Excluded xs) (count-more is_failed outcomes.Excluded xs) (count-more is_excluded outcomes.Excluded xs)
+    (zero-add (length (hits_of xs))) (zero-add (sum_by (λ (h : Hit). h.bytes) (hits_of xs))) (zero-add (sum_by (λ (h : Hit). h.micros) (hits_of xs)))
+totals-cons (Counted hit) xs =
+    six-eq _ _ _ _ _ _ _ _ _ _ _ _ (lines-more (Counted hit) xs) (count-more is_failed (Counted hit) xs) (count-more is_excluded (Counted hit) xs)
+    (omega arith) (sum-more (λ (h : Hit). h.bytes) hit (hits_of xs)) (sum-more (λ (h : Hit). h.micros) hit (hits_of xs))
+
 none-plus : (a : Totals) → totals_plus no_totals a ≡ a
 none-plus a = six-eq _ _ _ _ _ _ _ _ _ _ _ _ (zero-add a.lines) (zero-add a.failed) (zero-add a.excluded) (zero-add a.hits) (zero-add a.bytes) (zero-add a.micros)
 
@@ -126,7 +146,7 @@ over-append t (x ∷ xs) ys e =
     let parts = or_else-none (passes more) (over more xs) e in
     let rest = over-append more xs ys parts.1 in
     let sums : totals_plus more (totals_of xs) ≡ totals_plus t (totals_of (x ∷ xs)) =
-    plus-assoc t (totals_of (x ∷ [])) (totals_of xs) ∙ ap (λ (u : Totals). totals_plus t u) (sym (totals_of-append (x ∷ []) xs)) in
+    plus-assoc t (totals_of (x ∷ [])) (totals_of xs) ∙ ap (λ (u : Totals). totals_plus t u) (totals-cons x xs) in
     ap (λ (o : Option (Counter × ℕ)). or_else o (over more (xs ++ ys))) parts.0 ∙ rest ∙ ap (λ (u : Totals). over u ys) sums
 
 -- the lines up to those that are left are counted
@@ -206,6 +226,14 @@ counted-all setup log sum before =
       is_sum = before.is_sum;
       fits = before.fits;
     }
+
+-- a record is counted under its keys and for its visitor, as the table has them
+pub counts-as : (r : Result (Unit {0}) MergeFault) (old new : SummaryValue) (keys keys' : List Key) (visitor visitor' : Option Visitor) (rec : Record) → keys ≡ keys' → visitor ≡ visitor'
+    → OnOk r ((before : List Outcome) → IsSumOf before old → IsSumOf (before ++ Counted (hit_of keys visitor rec) ∷ []) new)
+    → OnOk r ((before : List Outcome) → IsSumOf before old → IsSumOf (before ++ Counted (hit_of keys' visitor' rec) ∷ []) new)
+counts-as r old new keys keys' visitor visitor' rec same one h =
+    subst (λ (ks : List Key). OnOk r ((before : List Outcome) → IsSumOf before old → IsSumOf (before ++ Counted (hit_of ks visitor' rec) ∷ []) new)) same
+    (subst (λ (v : Option Visitor). OnOk r ((before : List Outcome) → IsSumOf before old → IsSumOf (before ++ Counted (hit_of keys v rec) ∷ []) new)) one h)
 
 -- the totals of one counted record
 pub one-totals : (keys : List Key) (visitor : Option Visitor) (rec : Record) → record_totals rec ≡ totals_of (Counted (hit_of keys visitor rec) ∷ [])

@@ -1,27 +1,23 @@
 -- From tallies to the sorted rows of hosts.
-use Rattle.std.proofs.Common.{◌≡◌, ℕ, ◌+◌, ◌==◌, Bool, true, false, cond, ◌&&◌, ◌||◌, List, [], ◌∷◌, length, map, refl, ap, sym, ◌∙◌, Option, Some, None, arith, nat_lt, zero-add, get_or, Ordering}
+use Rattle.std.proofs.Common.{◌≡◌, ℕ, ◌+◌, ◌==◌, Bool, true, false, cond, List, [], ◌∷◌, length, map, refl, ap, sym, ◌∙◌, Option, Some, None, zero-add, get_or}
 use Rattle.std.specs.Prelude.{count_by}
 use Rattle.std.specs.Option.{is_some}
 use Rattle.std.specs.List.{IsDistinct, AllByRecursion}
-use Rattle.std.specs.List.Sorted.{IsPermutation, IsSortedBy}
+use Rattle.std.specs.List.Sorted.{IsPermutation, IsSorted}
 use Rattle.std.specs.Str.{bytes_eq}
 use Rattle.std.specs.HashMap as hash
 use Rattle.std.specs.HashMap.{HashMap}
 use Rattle.std.specs.Map.{lookup, keys_of}
-use Rattle.std.proofs.lemmas.Bool.Decides.{nat_tests}
 use Rattle.std.proofs.lemmas.Cmp.{nat_list_eq_equiv}
 use Rattle.std.proofs.lemmas.List.Elements.{All-map}
 use Rattle.std.proofs.lemmas.List.Sorted.{sum_by-IsPermutation, All-permutation}
 use Rattle.std.proofs.lemmas.List.Sums.{sum_by-cons}
-use Rattle.std.specs.Ordering.{nat_cmp, is_lt, ordering_then}
-use Rattle.std.specs.declared.cmp.Ordering.TheVariants.{Less, Equal, Greater}
-use Rattle.std.specs.Cmp.Lexicographic.{slice_cmp}
 use Rattle.std.proofs.lemmas.Map.Entries.{hash_map_get_place}
 use Rattle.std.proofs.lemmas.Option.{slice_get-get_or}
 use Rattle.std.proofs.lemmas.Slice.Eq.{bytes_eq-Decides}
 use Rattle.ga_summary.specs.Rows.{Row}
-use Rattle.ga_run.specs.Hosts.{of_host, comes_before, Sums, AreHostRows}
-use Rattle.ga_run.specs.Tallies.{tally_in, row_of, IsTallied}
+use Rattle.ga_run.specs.Hosts.{of_host, row_order, Sums, AreHostRows}
+use Rattle.ga_run.specs.Steps.Tallies.{tally_in, row_of, IsTallied}
 use Rattle.ga_run.specs.declared.hosts.Tally.{Tally}
 use Rattle.ga_run.specs.declared.panel_row.PanelRow.{PanelRow}
 
@@ -60,23 +56,6 @@ unfolding IsDistinct
 once-entries host [] d = refl
 once-entries host (e ∷ es) d = once-by host e es d (bytes_eq host e.0) refl (once-entries host es d.1)
 
-order-by : (b e : Bool) (o r : Ordering) → is_lt (ordering_then (cond b Less (cond e Equal Greater)) (ordering_then o r)) ≡ false → (b || (e && is_lt o)) ≡ false
-order-by true e o r h = cc
-order-by false true Less r h = cc
-order-by false true Equal r h = refl
-order-by false true Greater r h = refl
-order-by false false o r h = refl
-
-pub eq-comm : (a b : ℕ) → (a == b) ≡ (b == a)
-eq-comm a b = grind (arith, nat_tests)
-
--- a row that isn't less than the one before it doesn't come before it
-pub not_before : (x y : PanelRow) (r : Ordering) → is_lt (ordering_then (nat_cmp x.hits.0 y.hits.0) (ordering_then (slice_cmp nat_cmp y.label x.label) r)) ≡ false
-    → comes_before y x ≡ false
-not_before x y r h =
-    ap (λ (e : Bool). nat_lt x.hits.0 y.hits.0 || (e && is_lt (slice_cmp nat_cmp y.label x.label))) (eq-comm y.hits.0 x.hits.0)
-    ∙ order-by (nat_lt x.hits.0 y.hits.0) (x.hits.0 == y.hits.0) (slice_cmp nat_cmp y.label x.label) r h
-
 once-tally : (t : Bool) (x : Tally) → cond {A = ℕ} (is_some (cond t None (Some x))) 1 0 ≡ cond t 0 1
 once-tally true x = refl
 once-tally false x = refl
@@ -89,7 +68,7 @@ sums-by false rows host t e =
 
 -- the tallies' rows, sorted
 pub rows-are : {S : Type 0} → (rows : List Row) (hosts : HashMap (List ℕ) Tally S) (sorted : List PanelRow) → IsTallied rows hosts
-    → IsPermutation (map row_of hosts.entries) sorted → IsSortedBy comes_before sorted → AreHostRows rows sorted
+    → IsPermutation (map row_of hosts.entries) sorted → IsSorted row_order sorted → AreHostRows rows sorted
 rows-are rows hosts sorted tallied moved ordered = record {
   once = λ host.
       sum_by-IsPermutation (λ (row : PanelRow). cond (named host row) 1 0) (map row_of hosts.entries) sorted moved ∙ once-entries host hosts.entries tallied.unique

@@ -1,28 +1,28 @@
 -- In a summary the rows of one host sum, over all days, to at most the totals.
-use Rattle.std.proofs.Common.{◌≡◌, ℕ, zero, suc, ◌+◌, ◌≤◌, ◌==◌, ◌&&◌, ◌||◌, Bool, true, false, cond, List, [], ◌∷◌, Option, Some, Less, Equal, Greater, length, take, filter, sum_by, refl, ap, ◌∙◌, subst, arith, eq-eqb}
+use Rattle.std.proofs.Common.{◌≡◌, ℕ, zero, suc, ◌+◌, ◌≤◌, ◌==◌, ◌&&◌, ◌||◌, Bool, true, false, cond, List, [], ◌∷◌, Option, Some, Less, Equal, Greater, length, take, filter, map, sum_by, refl, ap, sym, ◌∙◌, subst, arith, zero-add, eq-eqb}
 use Rattle.std.specs.Prelude.{slice_get}
 use Rattle.std.specs.declared.cmp.Ordering.{Ordering}
-use Rattle.std.specs.Ordering.{ordering_reverse}
+use Rattle.std.specs.Ordering.{is_eq, ordering_reverse}
 use Rattle.std.specs.Cmp.{IsTotalOrder}
 use Rattle.std.specs.Str.{bytes_eq}
 use Rattle.std.specs.Option.{is_some, option_map_or}
 use Rattle.std.specs.List.{AllByRecursion, list_any}
+use Rattle.std.specs.List.Sorted.{IsStrictlySortedBy}
 use Rattle.std.proofs.lemmas.Bool.{false≢true}
+use Rattle.std.proofs.lemmas.Bool.Decides.{Decides-eqb}
+use Rattle.std.proofs.lemmas.Cmp.{tied_itself}
 use Rattle.std.proofs.lemmas.List.Sums.{sum_by-cons}
 use Rattle.std.proofs.lemmas.Slice.Eq.{bytes_eq-Decides}
 use Rattle.ga_base.specs.declared.counts.Sums.{Sums}
 use Rattle.ga_base.specs.declared.counts.TheConstants.{LIMIT}
 use Rattle.ga_base.specs.declared.key.Key.{Key}
+use Rattle.ga_base.specs.declared.panel.Panel.{Panel}
 use Rattle.ga_base.specs.declared.panel.Panel.TheVariants.{Visitors, Hosts}
-use Rattle.ga_summary.specs.Order.{key_cmp, is_same_key}
-use Rattle.ga_summary.specs.Places.{find_at, Rises}
+use Rattle.ga_base.specs.Layers.{Layer, in_layer, day_key, is_flag, is_empty}
+use Rattle.ga_base.specs.Orders.{key_cmp, is_same_key}
+use Rattle.ga_base.specs.Panels.{is_same_panel, panel_number}
 use Rattle.ga_summary.specs.Rows.{Row, SummaryValue, row_at, sums_at, no_sums}
-use Rattle.ga_summary.specs.Sound.{IsSummary, Layer, in_layer, layer_rows, day_rows, day_key, is_same_panel, is_flag, is_empty}
-use Rattle.ga_summary.proofs.Bounds.{is_same_panel-itself}
-use Rattle.ga_summary.proofs.Merging.{sum_by-filter}
-use Rattle.ga_summary.proofs.OneLine.{same_panel}
-use Rattle.ga_summary.proofs.Orders.{key_cmp_total, key_cmp_exact}
-use Rattle.ga_summary.proofs.Put.{Above, rises_head, rises_tail, equal_from_is_eq}
+use Rattle.ga_summary.specs.Sound.{IsSummary, layer_rows, day_rows}
 use Rattle.ga_run.specs.Hosts.{is_of_host, of_host, hits_of, visitors_of, bytes_of}
 
 -- what holds of each item, and of those that pass a test another thing
@@ -33,29 +33,55 @@ all-filter P Q test h (x ∷ xs) all = elim (test x) as (λ v. test x ≡ v → 
   | false ↦ λ fail. all-filter P Q test h xs all.1
 ] refl
 
-all-weaker : {X : Type 0} (P Q : X → Type 0) → ((x : X) → P x → Q x) → (xs : List X) → AllByRecursion P xs → AllByRecursion Q xs
+pub all-weaker : {X : Type 0} (P Q : X → Type 0) → ((x : X) → P x → Q x) → (xs : List X) → AllByRecursion P xs → AllByRecursion Q xs
 all-weaker P Q h [] all = tt
 all-weaker P Q h (x ∷ xs) all = (h x all.0, all-weaker P Q h xs all.1)
 
--- each item of a rising list is the one found at its key
-module _ {X K : Type 0} (R : K → K → Ordering) (o : IsTotalOrder R) (key : X → K) where
-  is-equal : (k : K) → R k k ≡ Equal
-  is-equal k = go (R k k) (o.antisymm k k)
-    where
-      go : (v : Ordering) → v ≡ ordering_reverse v → v ≡ Equal
-      go Less e = cc
-      go Equal e = refl
-      go Greater e = cc
+-- what holds of keys and panels: keys are ordered totally, and a tie or a true test is an equation
+pub record KeyFacts : Type 0 where
+  pub total : IsTotalOrder key_cmp
+  pub exact : (a b : Key) → key_cmp a b ≡ Equal → a ≡ b
+  pub same_panel : (a b : Panel) → is_same_panel a b ≡ true → a ≡ b
+  pub itself : (a : Panel) → is_same_panel a a ≡ true
 
-  found-behind : (x : X) (xs ys : List X) → Above R key (key x) ys → AllByRecursion (λ y. find_at R key (key y) xs ≡ Some y) ys → AllByRecursion (λ y. find_at R key (key y) (x ∷ xs) ≡ Some y) ys
+-- as the laws of keys and panels say
+pub key-facts : IsTotalOrder key_cmp → ((a b : Key) → key_cmp a b ≡ Equal → a ≡ b) → ((a b : Panel) → panel_number a ≡ panel_number b → a ≡ b) → KeyFacts
+unfolding is_same_panel
+key-facts total exact panel = record {
+  total = total;
+  exact = exact;
+  same_panel = λ a b e. panel a b ((Decides-eqb (panel_number a) (panel_number b)).0 e);
+  itself = λ a. eq-eqb (panel_number a) (panel_number a) refl;
+}
+
+equal-by : (v : Ordering) → is_eq v ≡ true → v ≡ Equal
+equal-by Less e = absurd (false≢true e)
+equal-by Equal e = refl
+equal-by Greater e = absurd (false≢true e)
+
+-- sums of rows that pass a test
+sum_by-filter : (f : Row → ℕ) (test : Row → Bool) (xs : List Row) → sum_by f (filter test xs) ≡ sum_by (λ x. cond (test x) (f x) 0) xs
+sum_by-filter f test [] = refl
+sum_by-filter f test (x ∷ xs) = sym (sum_by-cons (λ y. cond (test y) (f y) 0) x xs ∙ split (test x) (sum_by-filter f test xs))
+  where
+    split : (b : Bool) → sum_by f (filter test xs) ≡ sum_by (λ y. cond (test y) (f y) 0) xs
+        → cond b (f x) 0 + sum_by (λ y. cond (test y) (f y) 0) xs ≡ sum_by f (cond b (x ∷ filter test xs) (filter test xs))
+    split true e = rw (sum_by-cons f x (filter test xs), e)
+    split false e = rw e (zero-add _)
+
+-- each row of a list whose keys rise is the one found at its key
+module _ (keys : KeyFacts) where
+  found-behind : (x : Row) (xs ys : List Row) → AllByRecursion (λ k. key_cmp x.key k ≡ Less) (map (λ row. row.key) ys) → AllByRecursion (λ y. row_at xs y.key ≡ Some y) ys
+      → AllByRecursion (λ y. row_at (x ∷ xs) y.key ≡ Some y) ys
   found-behind x xs [] above own = tt
   found-behind x xs (y ∷ ys) above own =
-      let greater : R (key y) (key x) ≡ Greater = o.antisymm (key y) (key x) ∙ ap ordering_reverse above.0 in
+      let greater : key_cmp y.key x.key ≡ Greater = keys.total.antisymm y.key x.key ∙ ap ordering_reverse above.0 in
       (rw greater own.0, found-behind x xs ys above.1 own.1)
 
-  each-found : (xs : List X) → Rises R key xs → AllByRecursion (λ x. find_at R key (key x) xs ≡ Some x) xs
+  each-found : (xs : List Row) → IsStrictlySortedBy key_cmp (map (λ row. row.key) xs) → AllByRecursion (λ x. row_at xs x.key ≡ Some x) xs
+  unfolding IsStrictlySortedBy
   each-found [] rises = tt
-  each-found (x ∷ xs) rises = (rw (is-equal (key x)) refl, found-behind x xs xs (rises_head R key x xs rises) (each-found xs (rises_tail R key x xs rises)))
+  each-found (x ∷ xs) rises = (rw (tied_itself keys.total x.key) refl, found-behind x xs xs rises.0 (each-found xs rises.1))
 
 module _ (f : Row → ℕ) where
   abbrev weight : (Row → Bool) → Row → ℕ
@@ -123,17 +149,17 @@ same_key : (a b : Key) → a.panel ≡ b.panel → a.date ≡ b.date → a.paren
 same_key a b p d r l m o = λ i. record { panel = p i; date = d i; parent = r i; label = l i; method = m i; protocol = o i }
 
 -- a day whose key is there is among the days' rows
-day-there : (date : ℕ) (rows : List Row) → is_some (row_at rows (day_key date)) ≡ true → list_any (λ day. date == day.key.date) (day_rows rows) ≡ true
-day-there date [] e = e
-day-there date (x ∷ xs) e = elim (is_same_key (day_key date) x.key) as (λ v. is_same_key (day_key date) x.key ≡ v → is_some (cond v (Some x) (row_at xs (day_key date))) ≡ true → list_any (λ day. date == day.key.date) (day_rows (x ∷ xs)) ≡ true) [
+day-there : KeyFacts → (date : ℕ) (rows : List Row) → is_some (row_at rows (day_key date)) ≡ true → list_any (λ day. date == day.key.date) (day_rows rows) ≡ true
+day-there keys date [] e = e
+day-there keys date (x ∷ xs) e = elim (is_same_key (day_key date) x.key) as (λ v. is_same_key (day_key date) x.key ≡ v → is_some (cond v (Some x) (row_at xs (day_key date))) ≡ true → list_any (λ day. date == day.key.date) (day_rows (x ∷ xs)) ≡ true) [
   | true ↦ λ same here.
-      let is : day_key date ≡ x.key = key_cmp_exact (day_key date) x.key (equal_from_is_eq _ same) in
-      let panel : is_same_panel x.key.panel Visitors ≡ true = subst (λ (k : Key). is_same_panel k.panel Visitors ≡ true) is (is_same_panel-itself Visitors) in
+      let is : day_key date ≡ x.key = keys.exact (day_key date) x.key (equal-by _ same) in
+      let panel : is_same_panel x.key.panel Visitors ≡ true = subst (λ (k : Key). is_same_panel k.panel Visitors ≡ true) is (keys.itself Visitors) in
       let of : (date == x.key.date) ≡ true = subst (λ (k : Key). (date == k.date) ≡ true) is (eq-eqb date date refl) in
       rw (panel, of) refl
   | false ↦ λ other there. elim (is_same_panel x.key.panel Visitors) as (λ v. list_any (λ day. date == day.key.date) (cond v (x ∷ day_rows xs) (day_rows xs)) ≡ true) [
-    | true ↦ or-true (date == x.key.date) (day-there date xs there)
-    | false ↦ day-there date xs there
+    | true ↦ or-true (date == x.key.date) (day-there keys date xs there)
+    | false ↦ day-there keys date xs there
   ]
 ] refl e
   where
@@ -141,14 +167,14 @@ day-there date (x ∷ xs) e = elim (is_same_key (day_key date) x.key) as (λ v. 
     or-true true e = refl
     or-true false e = e
 
-module _ (s : SummaryValue) (is : IsSummary s) where
-  found : AllByRecursion (λ row. row_at s.rows row.key ≡ Some row) s.rows
-  found = each-found key_cmp key_cmp_total (λ (row : Row). row.key) s.rows is.ordered.keys
+module _ (keys : KeyFacts) (s : SummaryValue) (is : IsSummary s) where
+  pub found : AllByRecursion (λ row. row_at s.rows row.key ≡ Some row) s.rows
+  found = each-found keys s.rows is.ordered.keys
 
   -- a day's row has the day's key
-  day-is : (day : Row) → is_same_panel day.key.panel Visitors ≡ true → row_at s.rows day.key ≡ Some day → day.key ≡ day_key day.key.date
+  pub day-is : (day : Row) → is_same_panel day.key.panel Visitors ≡ true → row_at s.rows day.key ≡ Some day → day.key ≡ day_key day.key.date
   day-is day panel at =
-      let visitors : day.key.panel ≡ Visitors = same_panel day.key.panel Visitors panel in
+      let visitors : day.key.panel ≡ Visitors = keys.same_panel day.key.panel Visitors panel in
       let form = is.sound.form day.key (rw at refl) in
       let request = form.request (rw visitors refl) in
       same_key day.key (day_key day.key.date) visitors refl (form.parent.1 (rw visitors refl)) (form.label visitors) request.0 request.1
@@ -179,7 +205,7 @@ module _ (s : SummaryValue) (is : IsSummary s) where
     host-days : sum_by f (of_host host s.rows) ≤ sum_by f (day_rows s.rows)
     host-days =
         let dated = all-weaker (λ row. row_at s.rows row.key ≡ Some row) (λ row. is_of_host host row ≡ true → list_any (λ day. of-day f day row) (day_rows s.rows) ≡ true)
-        (λ row at of. day-there row.key.date s.rows (is.sound.day row.key (rw at refl))) s.rows found in
+        (λ row at of. day-there keys row.key.date s.rows (is.sound.day row.key (rw at refl))) s.rows found in
         let within = all-filter (λ row. row_at s.rows row.key ≡ Some row) (λ day. total f (λ row. of-day f day row && is_of_host host row) s.rows ≤ f day)
         (λ row. is_same_panel row.key.panel Visitors) day-within s.rows found in
         omega (arith, sum_by-filter f (is_of_host host) s.rows, cover f (is_of_host host) s.rows (day_rows s.rows) dated within)

@@ -1,12 +1,17 @@
 pub mod CountSteps
 pub mod DaySteps
+pub mod Endings
 pub mod FormatLemmas
 pub mod HostArrangement
 pub mod HostOrder
 pub mod HostSums
+pub mod LogEnds
 pub mod LogReads
+pub mod OneCount
+pub mod OneRun
 pub mod RowTexts
 pub mod Runs
+pub mod SortedLists
 pub mod Takes
 pub mod TallySteps
 pub mod WordLemmas

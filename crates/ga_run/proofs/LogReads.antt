@@ -1,11 +1,25 @@
 -- What one more read does to the view of files that gave bytes already.
-use Rattle.std.proofs.Common.{◌≡◌, ℕ, ◌+◌, ◌≤◌, true, false, List, ◌++◌, ap, sym, ◌∙◌, None, arith, take, drop}
+use Rattle.std.proofs.Common.{◌≡◌, ◌≢◌, ℕ, ◌+◌, ◌≤◌, ◌||◌, Bool, true, false, List, ◌++◌, refl, ap, sym, ◌∙◌, Option, Some, None, IfSome, is_none, Result, arith, take, drop}
+use Rattle.std.specs.Result.{is_err}
 use Rattle.std.proofs.Math.Seq.{take-add}
-use Rattle.ga_ports.specs.Counts.{raised}
-use Rattle.ga_ports.specs.Files.{FilesView, gives, calls_once, fails_once, is_short, Fails}
+use Rattle.ga_ports.specs.Counts.{raised, is_due, NoneDue}
+use Rattle.ga_ports.specs.Files.{Contents, FilesView, content_of, told, is_absent, gives, calls_once, fails_once, is_short, Fails}
 use Rattle.ga_run.specs.Reading.{after_reads, StopsReading, MissesRest}
 use Rattle.ga_run.specs.declared.reading.LogFault.{LogFault}
 use Rattle.ga_run.specs.declared.reading.LogFault.TheVariants.{Failed, Short, NoMemory}
+
+-- what holds of a value that may be there
+pub if_some-all : {A : Type 0} (P : A → Type 0) → (o : Option A) → ((x : A) → P x) → IfSome o P
+if_some-all P None all = tt
+if_some-all P (Some x) all = all x
+
+pub if_some-map : {A : Type 0} (P Q : A → Type 0) → (o : Option A) → ((x : A) → P x → Q x) → IfSome o P → IfSome o Q
+if_some-map P Q None step p = tt
+if_some-map P Q (Some x) step p = step x p
+
+pub if_some-both : {A : Type 0} (P Q R : A → Type 0) → (o : Option A) → ((x : A) → P x → Q x → R x) → IfSome o P → IfSome o Q → IfSome o R
+if_some-both P Q R None step p q = tt
+if_some-both P Q R (Some x) step p q = step x p q
 
 raised-nothing : (c : ℕ) → raised c 0 ≡ c
 raised-nothing c = omega arith
@@ -78,3 +92,31 @@ front-more a n bytes log log' e h = h ∙ ap (λ (x : List ℕ). x ++ take n (dr
 pub misses-more : (a room size : ℕ) (v w u : FilesView) (fault : LogFault) → w ≡ after_reads w.counts.calls a v → a + room ≤ size
     → MissesRest room w u fault → MissesRest size v u fault
 misses-more a room size v w u fault e fits m = (a + m.0, omega (arith, m.1, fits), stops-more a m.0 v w u fault e m.2)
+
+-- no call fails where none is due
+pub served : {A E : Type 0} → (calls later : ℕ) (told : Option (List ℕ)) (r : Result A E) → NoneDue told calls → calls ≤ later
+    → IfSome told (λ listed. is_err r ≡ is_due listed later) → is_err r ≡ false
+served calls later None r none le exact = absurd none
+served calls later (Some listed) r none le exact = exact ∙ none later le
+
+-- nor does an `open` of a name that is there
+pub opened : {A E : Type 0} → (calls : ℕ) (told : Option (List ℕ)) (absent : Bool) (r : Result A E) → NoneDue told calls → absent ≡ false
+    → IfSome told (λ listed. is_err r ≡ (is_due listed calls || absent)) → is_err r ≡ false
+opened calls None absent r none there exact = absurd none
+opened calls (Some listed) absent r none there exact =
+    let due : is_due listed calls ≡ false = none calls (omega arith) in
+    exact ∙ ap (λ (b : Bool). b || absent) due ∙ there
+
+-- what is due later is due from then on
+pub none-later : (calls later : ℕ) (told : Option (List ℕ)) → calls ≤ later → NoneDue told calls → NoneDue told later
+none-later calls later None le none = absurd none
+none-later calls later (Some listed) le none = λ call from. none call (omega (arith, le, from))
+
+-- a name that is told is there
+pub present : (name : List ℕ) (contents : Option Contents) → told name contents ≢ None → is_absent name contents ≡ false
+present name None some = absurd (some refl)
+present name (Some contents) some = by (content_of name contents) some
+  where
+    by : (o : Option (List ℕ)) → o ≢ None → is_none o ≡ false
+    by None some = absurd (some refl)
+    by (Some bytes) some = refl

@@ -1,14 +1,14 @@
 -- What one more write does to a target that took bytes already.
-use Rattle.std.proofs.Common.{◌≡◌, ℕ, ◌+◌, ◌-◌, ◌≤◌, ◌<◌, List, [], ◌∷◌, ◌++◌, length, refl, ap, sym, ◌∙◌, Option, Some, None, option_map, arith, append_assoc, append-nil, length-append, take, subst, Err, false, IfSome, drop, length-drop, take_all, map, get_or, suc, inr}
+use Rattle.std.proofs.Common.{◌≡◌, ◌≢◌, ℕ, ◌||◌, Bool, ne_eqb, ◌+◌, ◌-◌, ◌≤◌, ◌<◌, List, [], ◌∷◌, ◌++◌, length, refl, ap, sym, ◌∙◌, Option, Some, None, option_map, arith, append_assoc, append-nil, length-append, take, subst, Err, false, IfSome, drop, length-drop, take_all, map, get_or, suc, inr}
 use Rattle.std.proofs.Math.Seq.{take-add, drop-cons, take-append-add}
 use Rattle.std.proofs.lemmas.List.{take-append-drop, take-append-le, map-append}
 use Rattle.std.proofs.lemmas.List.Concat.{flat_map-append}
 use Rattle.ga_run.specs.Statuses.{joined}
-use Rattle.ga_ports.specs.Counts.{raised}
-use Rattle.ga_ports.specs.Outs.{TargetView, OutsView, target, with_target, takes, fails_once, after, after_failure, is_full, WritesExactly, WritesIfListed}
+use Rattle.ga_ports.specs.Counts.{raised, Rose, is_due, NoneDue}
+use Rattle.ga_ports.specs.Outs.{TargetView, OutsView, target, with_target, takes, fails_once, after, after_failure, is_full, fitting, WritesExactly, WritesIfListed}
 use Rattle.ga_ports.specs.declared.outs.To.{To}
 use Rattle.ga_ports.specs.declared.outs.To.TheVariants.{Stdout, Stderr, File}
-use Rattle.ga_run.specs.Printing.{printed, ChangesOnly, NothingFails, Stops, TakesOrStops}
+use Rattle.ga_run.specs.Printing.{printed, ChangesOnly, OutputCanTake, Stops, TakesOrStops}
 
 raised-nothing : (c : ℕ) → raised c 0 ≡ c
 raised-nothing c = omega arith
@@ -74,6 +74,11 @@ after_failure-printed Stdout a n s v = refl
 after_failure-printed Stderr a n s v = refl
 after_failure-printed File a n s v = refl
 
+calls-after : (to : To) (more : List ℕ) (v : OutsView) → (after to more v).calls ≡ raised v.calls 1
+calls-after Stdout more v = refl
+calls-after Stderr more v = refl
+calls-after File more v = refl
+
 -- nothing is printed yet
 pub printed-nil : (to : To) (v : OutsView) → v ≡ printed to [] v.calls v
 printed-nil Stdout v = ap (λ (t : TargetView). record v { stdout = t }) (sym (takes-nil v.stdout))
@@ -109,22 +114,42 @@ fails-after to a v w u e h =
 pub printed-all : (to : To) (b : List ℕ) (v w : OutsView) → w ≡ printed to b w.calls v → (target to w ≡ takes b (target to v)) × ChangesOnly to v w
 printed-all to b v w e = changes_only to _ w.calls v.starved v w (e ∙ printed-is to b w.calls v)
 
-room_kept : (to : To) (s : ℕ) (w u : OutsView) → u ≡ after_failure to s w → (target to u).room ≡ (target to w).room
-room_kept Stdout s w u h = ap (λ (x : OutsView). x.stdout.room) h
-room_kept Stderr s w u h = ap (λ (x : OutsView). x.stderr.room) h
-room_kept File s w u h = ap (λ (x : OutsView). x.file.room) h
+-- a write adds a call
+pub calls-later : (to : To) (more : List ℕ) (v w u : OutsView) → v.calls ≤ w.calls → u ≡ after to more w → v.calls ≤ u.calls
+calls-later to more v w u le e =
+    let calls : u.calls ≡ raised w.calls 1 = ap (λ (x : OutsView). x.calls) e ∙ calls-after to more w in
+    omega arith
 
--- where nothing can fail, no write fails
-pub nothing_fails : {E : Type 0} → (to : To) (a piece : List ℕ) (x : E) (v w u : OutsView) → w ≡ printed to a w.calls v → u ≡ after_failure to u.starved w
-    → WritesIfListed to piece w u (Err x) → NothingFails to v u → ⊥
-nothing_fails to a piece x v w u e h exact sure =
-    let listed : w.listed ≡ Some [] = ap (λ (y : OutsView). y.listed) e ∙ listed-printed to a w.calls v ∙ sure.listed in
-    let starved : w.starved ≡ v.starved = ap (λ (y : OutsView). y.starved) (e ∙ printed-is to a w.calls v) in
-    let exactly = subst (λ (o : Option (List ℕ)). IfSome o (λ (calls : List ℕ). WritesExactly to piece calls w u (Err x))) listed exact in
-    let kept : (target to u).room ≡ (target to w).room = room_kept to u.starved w u h in
-    let open_room : is_full (target to w).room ≡ false = rw (← kept) sure.room in
-    let rose : u.starved ≡ raised w.starved 1 = exactly.fails.starved open_room in
-    sure.fed (rw (rose, starved) (omega arith))
+-- a room in which all fits is not full before the end
+room-left : (room : Option ℕ) (at size : ℕ) → fitting room size ≡ size → at < size → is_full (option_map (λ room. room - at) room) ≡ false
+room-left None at size fits early = refl
+room-left (Some room) at size fits early =
+    let left : room - at ≢ 0 = λ none. absurd (omega arith) in
+    ne_eqb (room - at) 0 left
+
+room-printed : (to : To) (a : List ℕ) (v w : OutsView) → w ≡ printed to a w.calls v → (target to w).room ≡ option_map (λ room. room - length a) (target to v).room
+room-printed to a v w e =
+    ap (λ (x : OutsView). (target to x).room) (e ∙ printed-is to a w.calls v) ∙ ap (λ (t : TargetView). t.room) (target-set_target to (takes a (target to v)) w.calls v.starved v)
+
+-- a write before the end fails for want of memory alone, where it is told that the target can take all
+pub starves : {E : Type 0} → (to : To) (a piece : List ℕ) (size : ℕ) (x : E) (v w u : OutsView) → w ≡ printed to a w.calls v → v.calls ≤ w.calls → length a < size
+    → WritesIfListed to piece w u (Err x) → OutputCanTake to size v → Rose v.starved u.starved
+starves to a piece size x v w u e later early exact can = by w.listed listed exact
+  where
+    listed : w.listed ≡ v.listed
+    listed = ap (λ (y : OutsView). y.listed) e ∙ listed-printed to a w.calls v
+
+    open_room : is_full (target to w).room ≡ false
+    open_room = ap (λ (o : Option ℕ). is_full o) (room-printed to a v w e) ∙ room-left (target to v).room (length a) size can.room early
+
+    by : (told : Option (List ℕ)) → told ≡ v.listed → IfSome told (λ (calls : List ℕ). WritesExactly to piece calls w u (Err x)) → Rose v.starved u.starved
+    by None same h = absurd (subst (λ (o : Option (List ℕ)). NoneDue o v.calls) (sym same) can.none_due)
+    by (Some calls) same h =
+        let none : NoneDue (Some calls) v.calls = subst (λ (o : Option (List ℕ)). NoneDue o v.calls) (sym same) can.none_due in
+        let bound : (is_due calls w.calls || is_full (target to w).room) ≡ false = ap (λ (b : Bool). b || is_full (target to w).room) (none w.calls later) ∙ open_room in
+        let rose : u.starved ≡ raised w.starved 1 = h.fails.starved bound in
+        let kept : w.starved ≡ v.starved = starved-printed to a v w e in
+        omega arith
 
 -- the rest of a list from a place on, as a slice to its end is seen
 pub to_end : (at : ℕ) (xs : List ℕ) → take (length xs - at) (drop at xs) ≡ drop at xs

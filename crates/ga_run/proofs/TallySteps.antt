@@ -13,9 +13,9 @@ use Rattle.ga_base.specs.declared.counts.TheConstants.{LIMIT}
 use Rattle.ga_summary.specs.Rows.{Row, SummaryValue}
 use Rattle.ga_summary.specs.Sound.{IsSummary}
 use Rattle.ga_run.specs.Hosts.{is_of, is_of_host, of_host, hits_of, visitors_of, bytes_of}
-use Rattle.ga_run.specs.Tallies.{tally_in, tally_of, no_tally, plus, one_more, IsTallied, Adds}
+use Rattle.ga_run.specs.Steps.Tallies.{tally_in, tally_of, no_tally, plus, one_more, IsTallied, Adds}
 use Rattle.ga_run.specs.declared.hosts.Tally.{Tally}
-use Rattle.ga_run.proofs.HostSums.{hits-fit, visitors-fit, bytes-fit, host-more}
+use Rattle.ga_run.proofs.HostSums.{KeyFacts, hits-fit, visitors-fit, bytes-fit, host-more}
 
 -- what one row has
 abbrev pub row_tally : Row → Tally
@@ -130,17 +130,17 @@ tally-room true t more h v b = tt
 tally-room false t more h v b = (omega arith, omega arith, omega arith)
 
 -- there is room for one row more of a summary
-pub added-room : {S : Type 0} → (s : SummaryValue) → IsSummary s → (n : ℕ) (row : Row) (host : List ℕ) (hosts : HashMap (List ℕ) Tally S) → slice_get s.rows n ≡ Some row
+pub added-room : {S : Type 0} → KeyFacts → (s : SummaryValue) → IsSummary s → (n : ℕ) (row : Row) (host : List ℕ) (hosts : HashMap (List ℕ) Tally S) → slice_get s.rows n ≡ Some row
     → is_of Hosts row ≡ true → host ≡ row.key.label → IsTallied (take n s.rows) hosts
     → IfSome (hash.get bytes_eq hosts host) (λ tally. (tally.hits + row.sums.hits < 2 ^ 64) × (tally.visitors + length row.names < 2 ^ 64) × (tally.bytes + row.sums.bytes < 2 ^ 64))
-added-room s is n row host hosts at of label before =
+added-room keys s is n row host hosts at of label before =
     let eq : bytes_eq row.key.label host ≡ true = (bytes_eq-Decides row.key.label host).1 (sym label) in
     let here : is_of_host host row ≡ true = rw (of, eq) refl in
     rw (before.tallies host)
     (tally-room (length (of_host host (take n s.rows)) == 0) (tally_in (of_host host (take n s.rows))) (row_tally row)
-    (omega (arith, host-more (λ (r : Row). r.sums.hits) host s.rows n row at here, hits-fit s is host))
-    (omega (arith, host-more (λ (r : Row). length r.names) host s.rows n row at here, visitors-fit s is host))
-    (omega (arith, host-more (λ (r : Row). r.sums.bytes) host s.rows n row at here, bytes-fit s is host)))
+    (omega (arith, host-more (λ (r : Row). r.sums.hits) host s.rows n row at here, hits-fit keys s is host))
+    (omega (arith, host-more (λ (r : Row). length r.names) host s.rows n row at here, visitors-fit keys s is host))
+    (omega (arith, host-more (λ (r : Row). r.sums.bytes) host s.rows n row at here, bytes-fit keys s is host)))
 
 -- one row more at the end of those that are read
 pub take-more : (n : ℕ) (rows : List Row) (row : Row) → slice_get rows n ≡ Some row → take (n + 1) rows ≡ take n rows ++ row ∷ []

@@ -1,7 +1,8 @@
 -- Words say one run at the most, and what is read of them from the front is that run.
 use Rattle.std.proofs.Common.{◌≡◌, ◌≢◌, ℕ, List, ◌∷◌, ◌++◌, refl, ap, sym, ◌∙◌, Option, Some, None, codes, arith}
 use Rattle.std.proofs.lemmas.List.{append_cancel_left}
-use Rattle.ga_run.specs.Words.{log_option, date_option, time_option, Said, optional, log_words, SaysRun, NoRun, TakesOption, NameLog, NameNone}
+use Rattle.ga_run.specs.Steps.Words.{TakesOption, NameLog, NameNone}
+use Rattle.ga_run.specs.Words.{log_option, date_option, time_option, Said, optional, log_words, SaysRun, NoRun}
 
 -- none of these words begins with the option
 abbrev LacksOption : List ℕ → List (List ℕ) → Type 0

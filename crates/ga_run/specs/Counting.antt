@@ -1,5 +1,5 @@
 -- What the lines of a log come to: outcomes, and their sum.
-use Rattle.std.specs.Prelude.{◌≡◌, ℕ, List, [], ◌∷◌, ◌++◌, Option, Some, None, true, IfSome}
+use Rattle.std.specs.Prelude.{◌≡◌, ℕ, List, [], ◌∷◌, ◌++◌, Option, Some, None, true}
 use Rattle.std.specs.List.{filter_map}
 use Rattle.ga_base.specs.declared.counts.Counter.{Counter}
 use Rattle.ga_base.specs.declared.counts.Totals.{Totals}
@@ -10,10 +10,10 @@ use Rattle.ga_line.specs.Records.{IsLineOf}
 use Rattle.ga_line.specs.declared.setup.LineSetup.{LineSetup}
 use Rattle.ga_panels.specs.Table.{table_keys}
 use Rattle.ga_panels.specs.Visitors.{visitor_in}
-use Rattle.ga_summary.specs.Limits.{over, passes}
-use Rattle.ga_summary.specs.Outcomes.{Outcome, Counted, hit_of, totals_of}
+use Rattle.ga_summary.specs.Limits.{over}
+use Rattle.ga_summary.specs.Outcomes.{Outcome, Counted, hit_of}
 use Rattle.ga_summary.specs.Outcomes as outcomes
-use Rattle.ga_summary.specs.Rows.{SummaryValue, totals_plus}
+use Rattle.ga_summary.specs.Rows.{SummaryValue}
 use Rattle.ga_summary.specs.Sums.{IsSumOf}
 
 -- each line says what stands at its place, read with this setup
@@ -50,18 +50,3 @@ pub record FillsCounter (setup : LineSetup) (log : List ℕ) (which : Counter) (
   pub said : List Line
   pub reads : Say setup front said
   pub full : over no_totals (outcomes_in said) ≡ Some (which, total)
-
--- one line more was counted
-pub record CountsLine (setup : LineSetup) (line : List ℕ) (old new : SummaryValue) : Type 0 where
-  pub said : Line
-  pub says : IsLineOf setup line said
-  pub sum : (before : List Outcome) → IsSumOf before old → IsSumOf (before ++ outcomes_in (said ∷ [])) new
-  pub fits : IfSome (outcome_in said) (λ outcome. passes (totals_plus old.totals (totals_of (outcome ∷ []))) ≡ None)
-
--- one line more would fill a counter
-pub record FillsAtLine (setup : LineSetup) (line : List ℕ) (old : SummaryValue) (which : Counter) (total : ℕ) : Type 0 where
-  pub said : Line
-  pub says : IsLineOf setup line said
-  pub outcome : Outcome
-  pub is : outcome_in said ≡ Some outcome
-  pub full : passes (totals_plus old.totals (totals_of (outcome ∷ []))) ≡ Some (which, total)

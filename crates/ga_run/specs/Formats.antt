@@ -1,19 +1,15 @@
 -- What the formats that the words say come to: the setup with which lines are read, or the first of them that is refused.
-use Rattle.std.specs.Prelude.{◌≡◌, ◌≢◌, ℕ, Bool, true, false, List, unwrap_or, Result, Ok, Err, codes}
+use Rattle.std.specs.Prelude.{◌≡◌, ℕ, Bool, true, false, List, unwrap_or, Result, Ok, Err, codes}
 use Rattle.std.specs.List.{list_any}
 use Rattle.ga_base.specs.declared.formats.FormatItem.{FormatItem}
 use Rattle.ga_base.specs.declared.formats.FormatItem.TheVariants.{Literal, Skip, Field, Forwarded}
 use Rattle.ga_base.specs.declared.formats.FormatFault.{FormatFault}
-use Rattle.ga_base.specs.declared.formats.FormatFault.TheVariants.{NoMemory as FormatNoMemory}
 use Rattle.ga_dates.specs.declared.item.Item.{Item}
-use Rattle.ga_dates.specs.declared.kind.Kind.{Kind}
 use Rattle.ga_dates.specs.declared.kind.Kind.TheVariants.{Date as DateKind, Time as TimeKind}
-use Rattle.ga_dates.specs.Grammar.{IsFormat, IsFormatFault}
+use Rattle.ga_dates.specs.Grammar.{IsAnswer}
 use Rattle.ga_format.specs.FormatOf.{FormatOf}
 use Rattle.ga_format.specs.Named.{StandsFor}
 use Rattle.ga_line.specs.declared.setup.LineSetup.{LineSetup}
-use Rattle.ga_run.specs.declared.formats.SetupFault.{SetupFault}
-use Rattle.ga_run.specs.declared.formats.SetupFault.TheVariants.{Forwarded as ForwardedHost, Refused, NoMemory}
 use Rattle.ga_run.specs.declared.status.Which.{Which}
 use Rattle.ga_run.specs.declared.status.Which.TheVariants.{Log, Date, Time}
 use Rattle.ga_run.specs.Words.{Said}
@@ -28,11 +24,6 @@ time_text said = unwrap_or said.time (codes "%H:%M:%S")
 -- the items that a log format means, or its first fault: it is a format text, or the name of one
 abbrev pub LogMeans : List ℕ → Result (List FormatItem) FormatFault → Type 0
 LogMeans word answer = (text : List ℕ) × StandsFor word text × FormatOf text answer
-
--- the items that a date or time format means, or its fault
-abbrev pub PartMeans : Kind → List ℕ → Result (List Item) FormatFault → Type 0
-PartMeans kind text (Ok items) = IsFormat kind text items
-PartMeans kind text (Err fault) = IsFormatFault kind text fault × (fault ≢ FormatNoMemory)
 
 -- the host in an X-Forwarded-For field, which isn't built
 abbrev pub is_forwarded : FormatItem → Bool
@@ -55,31 +46,14 @@ pub record HasForwarded (word : List ℕ) : Type 0 where
 -- the setup with which the lines of the log are read: each format is what its text means, and a status has to be one
 pub record IsSetupOf (said : Said) (setup : LineSetup) : Type 0 where
   pub format : IsBuilt said.format setup.format
-  pub date : PartMeans DateKind (date_text said) (Ok setup.date)
-  pub time : PartMeans TimeKind (time_text said) (Ok setup.time)
+  pub date : IsAnswer DateKind (date_text said) (Ok setup.date)
+  pub time : IsAnswer TimeKind (time_text said) (Ok setup.time)
   pub strict : setup.strict_status ≡ true
 
 -- that format is refused for this fault, and the formats before it are good
 abbrev pub IsRefused : Said → Which → FormatFault → Type 0
 IsRefused said Log fault = LogMeans said.format (Err fault)
-IsRefused said Date fault = (items : List FormatItem) × IsBuilt said.format items × PartMeans DateKind (date_text said) (Err fault)
-IsRefused said Time fault =
-    (items : List FormatItem) × (dates : List Item) × IsBuilt said.format items × PartMeans DateKind (date_text said) (Ok dates) × PartMeans TimeKind (time_text said) (Err fault)
-
--- why there is no setup
-abbrev pub IsSetupFault : Said → SetupFault → Type 0
-IsSetupFault said ForwardedHost = HasForwarded said.format
-IsSetupFault said (Refused which fault) = IsRefused said which fault
-IsSetupFault said NoMemory = Unit {0}
-
--- why there is no log format
-abbrev pub IsLogFault : List ℕ → SetupFault → Type 0
-IsLogFault word ForwardedHost = HasForwarded word
-IsLogFault word (Refused which fault) = (which ≡ Log) × LogMeans word (Err fault)
-IsLogFault word NoMemory = Unit {0}
-
--- that format is refused for such a fault, or memory ran out
-abbrev pub IsRefusal : Which → (FormatFault → Type 0) → SetupFault → Type 0
-IsRefusal which fails ForwardedHost = ⊥
-IsRefusal which fails (Refused other fault) = (other ≡ which) × fails fault
-IsRefusal which fails NoMemory = Unit {0}
+IsRefused said Date fault =
+    (items : List FormatItem) × IsBuilt said.format items × IsAnswer DateKind (date_text said) (Err fault)
+IsRefused said Time fault = (items : List FormatItem) × (dates : List Item) × IsBuilt said.format items
+    × IsAnswer DateKind (date_text said) (Ok dates) × IsAnswer TimeKind (time_text said) (Err fault)

@@ -1,10 +1,13 @@
 pub mod Counting
+pub mod Days
 pub mod Formats
 pub mod Hosts
+pub mod LogRun
+pub mod OneRun
 pub mod Printing
 pub mod Reading
 pub mod Report
 pub mod Run
 pub mod Statuses
-pub mod Tallies
+pub mod Steps
 pub mod Words

@@ -1,8 +1,8 @@
 -- What it is that a target took bytes, all or up to a place.
-use Rattle.std.specs.Prelude.{◌≡◌, ℕ, ◌<◌, ◌≤◌, ◌⊎◌, List, length, take, false, Some, [], Result, OnOk, IfErr}
+use Rattle.std.specs.Prelude.{◌≡◌, ℕ, ◌<◌, ◌≤◌, ◌⊎◌, List, length, take, Result, OnOk, IfErr}
 use Rattle.std.specs.Result.{IsOk}
-use Rattle.ga_ports.specs.Counts.{Rose}
-use Rattle.ga_ports.specs.Outs.{TargetView, OutsView, target, with_target, takes, fails_once, is_full}
+use Rattle.ga_ports.specs.Counts.{Rose, NoneDue}
+use Rattle.ga_ports.specs.Outs.{TargetView, OutsView, target, with_target, takes, fails_once, fitting}
 use Rattle.ga_ports.specs.declared.outs.To.{To}
 
 -- only that target changed, and how many calls there were
@@ -22,15 +22,15 @@ TakesOrStops bytes old new = (new ≡ takes bytes old) ⊎ ((at : ℕ) × Stops 
 abbrev pub printed : To → List ℕ → ℕ → OutsView → OutsView
 printed to bytes calls v = record (with_target to (takes bytes (target to v)) v) { calls = calls }
 
--- nothing can fail: no call is listed to, something is left of the target's room, and no call found no memory
-pub record NothingFails (to : To) (old new : OutsView) : Type 0 where
-  pub listed : old.listed ≡ Some []
-  pub room : is_full (target to new).room ≡ false
-  pub fed : ¬ Rose old.starved new.starved
+-- it is told that a target can take so many bytes: no call from now on is listed to fail, and they fit in its room
+pub record OutputCanTake (to : To) (size : ℕ) (outs : OutsView) : Type 0 where
+  pub none_due : NoneDue outs.listed outs.calls
+  pub room : fitting (target to outs).room size ≡ size
 
 pub record Prints (to : To) (bytes : List ℕ) (old new : OutsView) (result : Result (Unit {0}) ℕ) : Type 0 where
   pub ok : OnOk result (new ≡ printed to bytes new.calls old)
   pub failed : IfErr result (λ at. Stops at bytes (target to old) (target to new))
   pub others : ChangesOnly to old new
   pub starved : old.starved ≤ new.starved
-  pub sure : NothingFails to old new → IsOk result
+  -- where it is told that the target can take them, only want of memory, which is counted, can stop it
+  pub sure : OutputCanTake to (length bytes) old → ¬ Rose old.starved new.starved → IsOk result

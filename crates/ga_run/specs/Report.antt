@@ -1,8 +1,6 @@
 -- The report as text: what `csv` writes for the header row, a row for each day, and a row for each host.
-use Rattle.std.specs.Prelude.{◌≡◌, ℕ, List, [], ◌∷◌, ◌++◌, Some, codes, decimal, Vec, false, suc}
-use Rattle.std.specs.Global.{Global}
-use Rattle.csv.specs.Writing.{row_text, default_writer, text_written, writer_setup, fields_written, has_written}
-use Rattle.csv.specs.declared.writer.Writer.{Writer}
+use Rattle.std.specs.Prelude.{ℕ, List, [], ◌∷◌, ◌++◌, codes, decimal, suc}
+use Rattle.csv.specs.Writing.{row_text, default_writer}
 use Rattle.ga_run.specs.declared.panel_row.PanelRow.{PanelRow}
 
 abbrev pub header_fields : List (List ℕ)
@@ -13,7 +11,7 @@ header_fields =
 -- the fields of a panel's row with this id
 abbrev pub row_fields : List ℕ → ℕ → PanelRow → List (List ℕ)
 row_fields panel id row =
-    decimal id ∷ [] ∷ panel ∷ decimal row.hits.0 ∷ [] ∷ decimal row.visitors ∷ [] ∷ decimal row.bytes ∷ [] ∷ [] ∷ [] ∷ [] ∷ [] ∷ [] ∷ row.label ∷ []
+    decimal id ∷ [] ∷ panel ∷ decimal row.hits ∷ [] ∷ decimal row.visitors ∷ [] ∷ decimal row.bytes ∷ [] ∷ [] ∷ [] ∷ [] ∷ [] ∷ [] ∷ row.label ∷ []
 
 -- the rows of a panel, whose ids rise from the first one's
 abbrev pub rows_text : List ℕ → ℕ → List PanelRow → List ℕ
@@ -22,10 +20,3 @@ rows_text panel id (row ∷ rows) = row_text default_writer (row_fields panel id
 
 abbrev pub text_of : List PanelRow → List PanelRow → List ℕ
 text_of days hosts = (row_text default_writer header_fields ++ rows_text (codes "visitors") 0 days) ++ rows_text (codes "hosts") 0 hosts
-
--- a writer with the defaults of `csv` has written this text, which ends with a row
-pub record HasWritten (text : List ℕ) (writer : Writer (Vec ℕ Global)) : Type 0 where
-  pub setup : writer_setup writer ≡ default_writer
-  pub fields : fields_written writer ≡ 0
-  pub clean : has_written writer ≡ false
-  pub text_is : text_written (λ v. Some v.items) writer ≡ Some text

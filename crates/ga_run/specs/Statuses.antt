@@ -1,21 +1,21 @@
 -- The exit status of a run, and the line that it writes to standard error.
-use Rattle.std.specs.Prelude.{ℕ, List, [], ◌∷◌, ◌++◌, Option, Some, None, codes, decimal}
+use Rattle.std.specs.Prelude.{◌≡◌, ℕ, List, [], ◌∷◌, ◌++◌, Option, Some, None, codes, decimal}
 use Rattle.std.specs.List.{flat_map}
 use Rattle.ga_base.specs.declared.counts.Counter.{Counter}
 use Rattle.ga_base.specs.declared.counts.Counter.TheVariants.{Lines, Bytes, Micros, Generations}
-use Rattle.ga_base.specs.declared.formats.FormatFault.{FormatFault}
-use Rattle.ga_base.specs.declared.formats.FormatFault.TheVariants.{UnknownSpecifier, Repeated, NoDelimiter, Missing, BadDirective, NoMemory as FormatNoMemory}
-use Rattle.ga_base.specs.declared.formats.Needed.TheVariants.{Host, Date as NeededDate, Request}
-use Rattle.ga_format.specs.FormatOf.{place_of}
+use Rattle.ga_base.specs.FormatFaults.{fault_place, fault_text}
 use Rattle.ga_ports.specs.declared.outs.To.{To}
-use Rattle.ga_ports.specs.declared.outs.To.TheVariants.{Stdout, Stderr, File}
+use Rattle.ga_ports.specs.declared.outs.To.TheVariants.{Stdout}
+use Rattle.ga_run.specs.Words.{Said, SaysRun, NamesLog}
+use Rattle.ga_run.specs.declared.status.Input.{Input}
+use Rattle.ga_run.specs.declared.status.Input.TheVariants.{Log as LogInput}
 use Rattle.ga_run.specs.declared.status.Status.{Status}
 use Rattle.ga_run.specs.declared.status.Status.TheVariants.{Done, Unbuilt, BadFormat, FileFault, FileShort, OutFault, CounterFull, NoMemory}
 use Rattle.ga_run.specs.declared.status.Which.{Which}
 use Rattle.ga_run.specs.declared.status.Which.TheVariants.{Log, Date, Time}
 
--- 0 where all is done, 1 for the words and their formats, 2 for the files, 4 for the report's target, 5 for a full counter, 7 for want
--- of memory
+-- 0 where all is done, 1 for the words and their formats, 2 for the files, 4 for the report's target, 5 for a full
+-- counter, 7 for want of memory
 abbrev pub code_of : Status → ℕ
 code_of Done = 0
 code_of Unbuilt = 1
@@ -29,11 +29,6 @@ code_of NoMemory = 7
 -- pieces one after the other
 abbrev pub joined : List (List ℕ) → List ℕ
 joined pieces = flat_map (λ piece. piece) pieces
-
-abbrev pub target_name : To → List ℕ
-target_name Stdout = codes "standard output"
-target_name Stderr = codes "standard error"
-target_name File = codes "report"
 
 abbrev pub counter_name : Counter → List ℕ
 counter_name Lines = codes "lines "
@@ -51,28 +46,45 @@ abbrev pub place_pieces : Option ℕ → List (List ℕ)
 place_pieces None = []
 place_pieces (Some at) = codes ", byte " ∷ decimal at ∷ []
 
--- what a format's fault is
-abbrev pub format_fault : FormatFault → List ℕ
-format_fault (UnknownSpecifier at) = codes ": unknown specifier\n"
-format_fault (Repeated at) = codes ": repeated\n"
-format_fault (NoDelimiter at) = codes ": no delimiter\n"
-format_fault (Missing Host) = codes ": no host\n"
-format_fault (Missing NeededDate) = codes ": no date\n"
-format_fault (Missing Request) = codes ": no request\n"
-format_fault (BadDirective at) = codes ": bad directive\n"
-format_fault FormatNoMemory = codes ": no memory\n"
-
 -- the pieces of the line that a run with this status writes to standard error: none where it is done.
--- `name` is the log's
+-- `name` is that of the input or of the target that failed
 abbrev pub fault_pieces : List ℕ → Status → List (List ℕ)
 fault_pieces name Done = []
 fault_pieces name Unbuilt = codes "goaccess: not built\n" ∷ []
-fault_pieces name (BadFormat which fault) = codes "goaccess: " ∷ format_name which ∷ (place_pieces (place_of fault) ++ format_fault fault ∷ [])
+fault_pieces name (BadFormat which fault) =
+    codes "goaccess: " ∷ format_name which ∷ (place_pieces (fault_place fault) ++ codes ": " ∷ fault_text fault ∷ codes "\n" ∷ [])
 fault_pieces name (FileFault file) = codes "goaccess: " ∷ name ∷ codes ": read failed\n" ∷ []
 fault_pieces name (FileShort file at) = codes "goaccess: " ∷ name ∷ codes ": short at " ∷ decimal at ∷ codes "\n" ∷ []
-fault_pieces name (OutFault to at) = codes "goaccess: " ∷ target_name to ∷ codes ": write failed after " ∷ decimal at ∷ codes " bytes\n" ∷ []
-fault_pieces name (CounterFull which total) = codes "goaccess: counter full: " ∷ counter_name which ∷ decimal total ∷ codes "\n" ∷ []
+fault_pieces name (OutFault to at) =
+    codes "goaccess: " ∷ name ∷ codes ": write failed after " ∷ decimal at ∷ codes " bytes\n" ∷ []
+fault_pieces name (CounterFull which total) =
+    codes "goaccess: counter full: " ∷ counter_name which ∷ decimal total ∷ codes "\n" ∷ []
 fault_pieces name NoMemory = codes "goaccess: no memory\n" ∷ []
 
 abbrev pub fault_line : List ℕ → Status → List ℕ
 fault_line name status = joined (fault_pieces name status)
+
+-- the name of an input, as the words have it
+abbrev pub NamesInput : List (List ℕ) → Input → List ℕ → Type 0
+NamesInput words (LogInput place) name = NamesLog words place name
+
+-- what a line calls the target that `-o` says: standard output, as no words are built that name another
+abbrev pub NamesTarget : List (List ℕ) → To → List ℕ → Type 0
+NamesTarget words to name = ((said : Said) × SaysRun words said) × (to ≡ Stdout) × (name ≡ codes "standard output")
+
+-- the name of what failed, as the words give it; a status without one leaves it empty
+abbrev pub NamesFailed : List (List ℕ) → Status → List ℕ → Type 0
+NamesFailed words Done name = name ≡ []
+NamesFailed words Unbuilt name = name ≡ []
+NamesFailed words (BadFormat which fault) name = name ≡ []
+NamesFailed words (FileFault file) name = NamesInput words file name
+NamesFailed words (FileShort file at) name = NamesInput words file name
+NamesFailed words (OutFault to at) name = NamesTarget words to name
+NamesFailed words (CounterFull which total) name = name ≡ []
+NamesFailed words NoMemory name = name ≡ []
+
+-- the line of a run with these words and this status
+pub record IsFaultLine (words : List (List ℕ)) (status : Status) (line : List ℕ) : Type 0 where
+  pub name : List ℕ
+  pub names : NamesFailed words status name
+  pub is : line ≡ fault_line name status

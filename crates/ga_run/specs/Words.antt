@@ -1,6 +1,5 @@
 -- Which words say a run, and what they say of it.
-use Rattle.std.specs.Prelude.{◌≡◌, ◌≢◌, ℕ, List, [], ◌∷◌, ◌++◌, Option, Some, None, option_map, codes}
-use Rattle.ga_run.specs.declared.words.RunWords.{RunWords}
+use Rattle.std.specs.Prelude.{◌≡◌, ◌≢◌, ℕ, List, [], ◌∷◌, ◌++◌, Option, Some, None, slice_get, codes}
 
 -- the byte with which an option begins
 abbrev pub dash : ℕ
@@ -50,20 +49,10 @@ pub record SaysRun (words : List (List ℕ)) (said : Said) : Type 0 where
 abbrev pub NoRun : List (List ℕ) → Type 0
 NoRun words = (said : Said) → ¬ SaysRun words said
 
--- what is read of the words, as it stands in them
-abbrev pub said_by : RunWords → Said
-said_by words = record { format = words.format.now; date = option_map (λ text. text.now) words.date; time = option_map (λ text. text.now) words.time; name = words.name.now }
+-- the logs of a run, in the order in which the words name them: as yet one
+abbrev pub logs_of : Said → List (List ℕ)
+logs_of said = said.name ∷ []
 
--- the first word is the option with this text, and these words stand behind it; or it is another, and all words are left
-abbrev pub TakesOption : List ℕ → List (List ℕ) → Option (List ℕ) → List (List ℕ) → Type 0
-TakesOption option words None rest = (rest ≡ words) × ((text : List ℕ) (more : List (List ℕ)) → words ≢ (option ++ text) ∷ more)
-TakesOption option words (Some text) rest = words ≡ (option ++ text) ∷ rest
-
--- the words behind the formats name this log
-pub record NameLog (words : List (List ℕ)) (name : List ℕ) : Type 0 where
-  pub form : words ≡ log_words name
-  pub is_log : IsLogName name
-
--- they name none
-abbrev pub NameNone : List (List ℕ) → Type 0
-NameNone words = (name : List ℕ) → ¬ NameLog words name
+-- the words say a run whose log at this place, from 0, has this name
+abbrev pub NamesLog : List (List ℕ) → ℕ → List ℕ → Type 0
+NamesLog words place name = (said : Said) × SaysRun words said × (slice_get (logs_of said) place ≡ Some name)

@@ -1,21 +1,22 @@
 ghost use Rattle.std.specs.Prelude.{◌≡◌, ◌≤◌, map};
 ghost use Rattle.ga_ports.specs.declared.outs.To.TheVariants.{Stderr};
+ghost use Rattle.ga_ports.specs.Stretch.{OutsWent};
 ghost use Rattle.ga_run.specs.Printing.{ChangesOnly, TakesOrStops};
-ghost use Rattle.ga_format.specs.FormatOf.{place_of};
-ghost use Rattle.ga_run.specs.Statuses.{counter_name, fault_line, format_fault, format_name, joined, target_name};
+ghost use Rattle.ga_run.specs.Statuses.{counter_name, fault_line, format_name, joined};
 
 use crate::printing::print;
 use crate::{Status, Which};
-use ga_base::{Counter, FormatFault, Needed};
+use ga_base::Counter;
 use ga_ports::{Outs, To};
 use itoa::Buffer;
 
 /// Writes the fault line of a status to standard error, nothing for `Done`. It takes no memory, and a fault of
-/// standard error ends the line. `name` is the log's.
+/// standard error ends the line. `name` is that of the input or of the target that failed.
 pub fn tell<O: Outs>(outs: &mut O, name: &[u8], status: &Status)
     ensures line { TakesOrStops (fault_line name.now status.now) (O.view outs.old).stderr (O.view outs.new).stderr }
     ensures others { ChangesOnly Stderr (O.view outs.old) (O.view outs.new) }
     ensures starved { (O.view outs.old).starved ≤ (O.view outs.new).starved }
+    ensures calls { OutsWent (O.view outs.old) (O.view outs.new) }
 {
     let mut digits = Buffer::new();
     match status {
@@ -23,12 +24,15 @@ pub fn tell<O: Outs>(outs: &mut O, name: &[u8], status: &Status)
         Status::Unbuilt => say(outs, &[b"goaccess: not built\n"]),
         Status::BadFormat { which, fault } => {
             let format = format_name(*which);
-            let text = format_fault(*fault);
-            match place_of(*fault) {
-                None => say(outs, &[b"goaccess: ", format, text]),
+            let text = fault.text().as_bytes();
+            match fault.place() {
+                None => say(outs, &[b"goaccess: ", format, b": ", text, b"\n"]),
                 Some(at) => {
                     let at = digits.format(at).as_bytes();
-                    say(outs, &[b"goaccess: ", format, b", byte ", at, text])
+                    say(
+                        outs,
+                        &[b"goaccess: ", format, b", byte ", at, b": ", text, b"\n"],
+                    )
                 }
             }
         }
@@ -37,19 +41,10 @@ pub fn tell<O: Outs>(outs: &mut O, name: &[u8], status: &Status)
             let at = digits.format(*at).as_bytes();
             say(outs, &[b"goaccess: ", name, b": short at ", at, b"\n"])
         }
-        Status::OutFault { to, at } => {
+        Status::OutFault { at, .. } => {
             let at = digits.format(*at).as_bytes();
-            let target = target_name(*to);
-            say(
-                outs,
-                &[
-                    b"goaccess: ",
-                    target,
-                    b": write failed after ",
-                    at,
-                    b" bytes\n",
-                ],
-            )
+            let taken = b": write failed after ";
+            say(outs, &[b"goaccess: ", name, taken, at, b" bytes\n"])
         }
         Status::CounterFull { which, total } => {
             let total = digits.format(*total).as_bytes();
@@ -57,16 +52,6 @@ pub fn tell<O: Outs>(outs: &mut O, name: &[u8], status: &Status)
             say(outs, &[b"goaccess: counter full: ", counter, total, b"\n"])
         }
         Status::NoMemory => say(outs, &[b"goaccess: no memory\n"]),
-    }
-}
-
-fn target_name(to: To) -> &'static [u8]
-    ensures { result.now ≡ target_name to }
-{
-    match to {
-        To::Stdout => b"standard output",
-        To::Stderr => b"standard error",
-        To::File => b"report",
     }
 }
 
@@ -91,45 +76,12 @@ fn format_name(which: Which) -> &'static [u8]
     }
 }
 
-/// The byte of a format's text at which a fault stands, if it has a place.
-fn place_of(fault: FormatFault) -> Option<u64>
-    ensures { result ≡ place_of fault }
-{
-    match fault {
-        FormatFault::UnknownSpecifier { at }
-        | FormatFault::Repeated { at }
-        | FormatFault::NoDelimiter { at }
-        | FormatFault::BadDirective { at } => Some(at),
-        FormatFault::Missing { .. } | FormatFault::NoMemory => None,
-    }
-}
-
-fn format_fault(fault: FormatFault) -> &'static [u8]
-    ensures { result.now ≡ format_fault fault }
-{
-    match fault {
-        FormatFault::UnknownSpecifier { .. } => b": unknown specifier\n",
-        FormatFault::Repeated { .. } => b": repeated\n",
-        FormatFault::NoDelimiter { .. } => b": no delimiter\n",
-        FormatFault::Missing {
-            field: Needed::Host,
-        } => b": no host\n",
-        FormatFault::Missing {
-            field: Needed::Date,
-        } => b": no date\n",
-        FormatFault::Missing {
-            field: Needed::Request,
-        } => b": no request\n",
-        FormatFault::BadDirective { .. } => b": bad directive\n",
-        FormatFault::NoMemory => b": no memory\n",
-    }
-}
-
 /// Writes pieces one after the other to standard error, up to its first fault.
 fn say<O: Outs>(outs: &mut O, pieces: &[&[u8]])
     ensures line { TakesOrStops (joined (map (λ piece. piece.now) pieces.now)) (O.view outs.old).stderr (O.view outs.new).stderr }
     ensures others { ChangesOnly Stderr (O.view outs.old) (O.view outs.new) }
     ensures starved { (O.view outs.old).starved ≤ (O.view outs.new).starved }
+    ensures calls { OutsWent (O.view outs.old) (O.view outs.new) }
 {
     for piece in pieces {
         match print(outs, To::Stderr, piece) {

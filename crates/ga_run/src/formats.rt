@@ -2,8 +2,10 @@ ghost use Rattle.std.specs.Prelude.{◌≡◌, ◌≢◌, true, false, IfOk, IfE
 ghost use Rattle.std.specs.List.{list_any};
 ghost use Rattle.ga_base.specs.declared.formats.FormatFault.TheVariants.{NoMemory as FormatNoMemory};
 ghost use Rattle.ga_dates.specs.declared.kind.Kind.TheVariants.{Date as DateKind, Time as TimeKind};
-ghost use Rattle.ga_run.specs.Formats.{IsBuilt, IsLogFault, IsRefusal, IsSetupFault, IsSetupOf, LogMeans, PartMeans, is_forwarded};
-ghost use Rattle.ga_run.specs.Words.{said_by};
+ghost use Rattle.ga_run.specs.Formats.{IsBuilt, IsSetupOf, LogMeans, is_forwarded};
+ghost use Rattle.ga_dates.specs.Grammar.{IsAnswer};
+ghost use Rattle.ga_run.specs.Steps.Formats.{IsLogFault, IsRefusal, IsSetupFault};
+ghost use Rattle.ga_run.specs.Steps.Words.{said_by};
 ghost use Rattle.ga_run.specs.declared.formats.SetupFault.TheVariants.{NoMemory as SetupNoMemory};
 ghost use Rattle.ga_run.specs.declared.status.Which.TheVariants.{Date as WhichDate, Time as WhichTime};
 
@@ -76,8 +78,8 @@ fn has_forwarded(format: &Format) -> bool
 }
 
 fn date_format(alloc: Global, text: &str) -> Result<DateFormat, SetupFault>
-    ensures ok { IfOk result (λ items. PartMeans DateKind text.now (Ok items)) }
-    ensures fault { IfErr result (IsRefusal WhichDate (λ fault. PartMeans DateKind text.now (Err fault))) }
+    ensures ok { IfOk result (λ items. IsAnswer DateKind text.now (Ok items)) }
+    ensures fault { IfErr result (IsRefusal WhichDate (λ fault. IsAnswer DateKind text.now (Err fault))) }
 {
     match compile_date(alloc, &Text::of(alloc, text)?) {
         Ok(format) => Ok(format),
@@ -86,8 +88,8 @@ fn date_format(alloc: Global, text: &str) -> Result<DateFormat, SetupFault>
 }
 
 fn time_format(alloc: Global, text: &str) -> Result<TimeFormat, SetupFault>
-    ensures ok { IfOk result (λ items. PartMeans TimeKind text.now (Ok items)) }
-    ensures fault { IfErr result (IsRefusal WhichTime (λ fault. PartMeans TimeKind text.now (Err fault))) }
+    ensures ok { IfOk result (λ items. IsAnswer TimeKind text.now (Ok items)) }
+    ensures fault { IfErr result (IsRefusal WhichTime (λ fault. IsAnswer TimeKind text.now (Err fault))) }
 {
     match compile_time(alloc, &Text::of(alloc, text)?) {
         Ok(format) => Ok(format),

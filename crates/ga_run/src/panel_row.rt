@@ -1,11 +1,10 @@
 use ga_base::Text;
-use std::cmp::Reverse;
 
-/// A row of a panel. Rows are ordered by hits falling, then by the label's bytes.
-#[derive(Debug, PartialEq, Eq, PartialOrd, Ord, Drop)]
+/// A row of a panel.
+#[derive(Debug, Drop)]
 pub struct PanelRow {
     /// The number of valid lines.
-    pub hits: Reverse<u64>,
+    pub hits: u64,
     /// The day's digits, or the host.
     pub label: Text,
     /// The number of different visitors.

@@ -1,4 +1,5 @@
 ghost use Rattle.ga_ports.specs.Outs.{CanTake};
+ghost use Rattle.ga_ports.specs.Stretch.{OutsWent};
 ghost use Rattle.ga_run.specs.Printing.{Prints};
 
 use ga_ports::{Outs, To};
@@ -6,7 +7,8 @@ use ga_ports::{Outs, To};
 /// Writes all bytes to a target. An `Err` is the number of bytes that it took before it failed.
 pub fn print<O: Outs>(outs: &mut O, to: To, bytes: &[u8]) -> Result<(), u64>
     requires { CanTake to (O.view outs.old) }
-    ensures { Prints to bytes.now (O.view outs.old) (O.view outs.new) result }
+    ensures prints { Prints to bytes.now (O.view outs.old) (O.view outs.new) result }
+    ensures calls { OutsWent (O.view outs.old) (O.view outs.new) }
 {
     let mut at = 0;
     while at < bytes.len() {

@@ -1,8 +1,11 @@
-ghost use Rattle.std.specs.Prelude.{◌≡◌, ◌≢◌, [], Some, IfOk, IfErr, IfSome, IsSome, IsTrue, length, ◌<◌};
-ghost use Rattle.ga_run.specs.Reading.{ReadsLog, MissesLog, ReadsWhole, ReadsSlice, MissesRest};
+ghost use Rattle.std.specs.Prelude.{◌≡◌, ◌≢◌, Some, IfOk, IfErr, IfSome, IsSome, IsTrue, length, ◌<◌};
+ghost use Rattle.ga_ports.specs.Counts.{NoneDue};
+ghost use Rattle.ga_ports.specs.Stretch.{FilesWent};
+ghost use Rattle.ga_run.specs.Reading.{FilesCanServe, ReadsLog, MissesLog, ReadsWhole, ReadsSlice, MissesRest};
 ghost use Rattle.ga_run.specs.declared.reading.LogFault.TheVariants.{Failed as ReadFailed, NoMemory as ReadNoMemory};
 
 use ga_base::Text;
+use ga_ports::laws::files_stay;
 use ga_ports::{Failed, Files};
 use std::alloc::{AllocError, Global};
 
@@ -36,10 +39,13 @@ impl From<Failed> for LogFault {
     }
 }
 
-/// Reads the log of this name whole. It is opened once, and its size is that of the first answer.
+/// Reads the log of this name whole. It is opened once, and its size is that of the first answer. Where it is told that
+/// no call can fail, only memory is wanted.
 pub fn read_log<F: Files>(alloc: Global, files: &mut F, name: &Text) -> Result<Vec<u8>, LogFault>
     ensures ok { IfOk result (λ log. ReadsLog name.now (F.view files.old) (F.view files.new) log.items) }
     ensures failed { IfErr result (λ fault. MissesLog name.now (F.view files.old) (F.view files.new) fault) }
+    ensures calls { FilesWent (F.view files.old) (F.view files.new) }
+    ensures sure { FilesCanServe name.now (F.view files.old) → IfErr result (λ fault. fault ≡ ReadNoMemory) }
 {
     files.open(name)?;
     let size = files.size()?;
@@ -67,8 +73,11 @@ fn read_all<F: Files>(
     requires room { 0 < length buffer.old }
     ensures ok { IfOk result (λ log. ReadsWhole size (F.view files.old) (F.view files.new) log.items) }
     ensures failed { IfErr result (λ fault. MissesRest size (F.view files.old) (F.view files.new) fault) }
-    ensures sure { (F.view files.old).listed ≡ Some [] → IfErr result (λ fault. fault ≢ ReadFailed) }
+    ensures calls { FilesWent (F.view files.old) (F.view files.new) }
+    ensures sure { NoneDue (F.view files.old).listed (F.view files.old).counts.calls → IfErr result (λ fault. fault ≢ ReadFailed) }
 {
+    // That the number of calls doesn't fall, for the proof alone.
+    files_stay();
     let mut log = Vec::new(alloc);
     let mut at = 0u64;
     while at < size {
@@ -93,7 +102,8 @@ fn read_slice<F: Files>(
     requires room { 0 < length buffer.old }
     ensures ok { IfOk result (λ count. ReadsSlice at count (length buffer.old) (F.view files.old) (F.view files.new) log.old.items log.new.items) }
     ensures failed { IfErr result (λ fault. MissesRest (length buffer.old) (F.view files.old) (F.view files.new) fault) }
-    ensures sure { (F.view files.old).listed ≡ Some [] → IfErr result (λ fault. fault ≢ ReadFailed) }
+    ensures calls { FilesWent (F.view files.old) (F.view files.new) }
+    ensures sure { NoneDue (F.view files.old).listed (F.view files.old).counts.calls → IfErr result (λ fault. fault ≢ ReadFailed) }
 {
     let count = files.read_at(at, buffer)?;
     if count == 0 {

@@ -1,10 +1,13 @@
 ghost use Rattle.std.specs.Prelude.{◌≡◌, ℕ, IfOk, IsErrOf};
 ghost use Rattle.ga_base.specs.declared.counts.Counter.{Counter};
 ghost use Rattle.ga_run.specs.Counting.{FillsCounter};
-ghost use Rattle.ga_run.specs.Hosts.{AreHostRows, day_rows};
+ghost use Rattle.ga_run.specs.Days.{AreDayRows};
+ghost use Rattle.ga_run.specs.Hosts.{AreHostRows};
 ghost use Rattle.ga_run.specs.Report.{text_of};
-ghost use Rattle.ga_run.specs.Run.{IsRun, EndsLog, EndsRun, IsReportOf};
-ghost use Rattle.ga_run.specs.Words.{said_by};
+ghost use Rattle.ga_run.specs.LogRun.{IsReportOf};
+ghost use Rattle.ga_run.specs.Run.{IsRun};
+ghost use Rattle.ga_run.specs.Steps.Run.{EndsLog, EndsRun, failed_name};
+ghost use Rattle.ga_run.specs.Steps.Words.{said_by};
 
 use crate::counting::count_log;
 use crate::days::day_rows;
@@ -15,7 +18,7 @@ use crate::printing::print;
 use crate::reading::{LogFault, read_log};
 use crate::text::report_text;
 use crate::words::{RunWords, run_words};
-use crate::{Input, Status};
+use crate::{Input, Status, laws};
 use ga_base::{NoMemory, Text};
 use ga_line::LineSetup;
 use ga_ports::{Files, Outs, To};
@@ -34,6 +37,9 @@ pub fn goaccess_run<F: Files, O: Outs>(
 ) -> Status
     ensures { IsRun words.now (F.view files.old) (F.view files.new) (O.view outs.old) (O.view outs.new) result }
 {
+    // What is known of formats and lines, for the proof alone: the calls do nothing.
+    laws::one_outcome();
+    laws::one_count();
     match run_words(words) {
         None => {
             tell(outs, b"", &Status::Unbuilt);
@@ -41,9 +47,20 @@ pub fn goaccess_run<F: Files, O: Outs>(
         }
         Some(said) => {
             let status = run_said(alloc, &said, files, outs);
-            tell(outs, said.name.bytes(), &status);
+            tell(outs, failed_name(&said, &status), &status);
             status
         }
+    }
+}
+
+/// What the fault line of a status calls what failed: the log by its name, or the report's target.
+fn failed_name<'a>(said: &RunWords<'a>, status: &Status) -> &'a [u8]
+    ensures { result.now ≡ failed_name (said_by said.now) status.now }
+{
+    match status {
+        Status::FileFault { .. } | Status::FileShort { .. } => said.name.bytes(),
+        Status::OutFault { .. } => b"standard output",
+        _ => b"",
     }
 }
 
@@ -102,7 +119,8 @@ fn run_log<F: Files, O: Outs>(
 /// The text of the report on a log.
 fn log_report(alloc: Global, setup: &LineSetup, log: &[u8]) -> Result<Vec<u8>, MergeFault>
     ensures ok { IfOk result (λ text. IsReportOf setup.now log.now text.items) }
-    ensures full { (which : Counter) (total : ℕ) → IsErrOf result (MergeFault.CounterFull which total) → FillsCounter setup.now log.now which total }
+    ensures full { (which : Counter) (total : ℕ) → IsErrOf result (MergeFault.CounterFull which total)
+        → FillsCounter setup.now log.now which total }
 {
     let summary = count_log(alloc, setup, log)?;
     let text = summary_text(alloc, &summary)?;
@@ -111,7 +129,8 @@ fn log_report(alloc: Global, setup: &LineSetup, log: &[u8]) -> Result<Vec<u8>, M
 
 /// The text of the report on a summary.
 fn summary_text(alloc: Global, summary: &Summary) -> Result<Vec<u8>, NoMemory>
-    ensures { IfOk result (λ text. (hosts : _) × AreHostRows summary.now.rows hosts × (text.items ≡ text_of (day_rows summary.now.rows) hosts)) }
+    ensures { IfOk result (λ text. (days hosts : _) × AreDayRows summary.now.rows days × AreHostRows summary.now.rows hosts
+        × (text.items ≡ text_of days hosts)) }
 {
     let days = day_rows(alloc, summary)?;
     let hosts = host_rows(alloc, summary)?;

@@ -1,6 +1,7 @@
 ghost use Rattle.std.specs.Prelude.{◌≡◌, ◌++◌, [], IfOk, OnOk, map};
 ghost use Rattle.csv.specs.Writing.{row_text, default_writer};
-ghost use Rattle.ga_run.specs.Report.{HasWritten, header_fields, row_fields, rows_text, text_of};
+ghost use Rattle.ga_run.specs.Report.{header_fields, row_fields, rows_text, text_of};
+ghost use Rattle.ga_run.specs.Steps.Report.{HasWritten};
 
 use crate::panel_row::PanelRow;
 use csv::{Writer, WriterBuilder};
@@ -91,7 +92,7 @@ fn write_row(
     let mut visitors_digits = Buffer::new();
     let mut bytes_digits = Buffer::new();
     let id = id_digits.format(id).as_bytes();
-    let hits = hits_digits.format(row.hits.0).as_bytes();
+    let hits = hits_digits.format(row.hits).as_bytes();
     let visitors = visitors_digits.format(row.visitors).as_bytes();
     let bytes = bytes_digits.format(row.bytes).as_bytes();
     let label = row.label.bytes();

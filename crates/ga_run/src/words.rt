@@ -1,5 +1,6 @@
 ghost use Rattle.std.specs.Prelude.{◌↔◌, ◌≡◌, ◌≢◌, ◌++◌, ℕ, List, IfSome, IfNone, IsTrue, MatchOption, option_map};
-ghost use Rattle.ga_run.specs.Words.{IsLogName, NameLog, NameNone, NoRun, SaysRun, TakesOption, said_by};
+ghost use Rattle.ga_run.specs.Steps.Words.{NameLog, NameNone, TakesOption, said_by};
+ghost use Rattle.ga_run.specs.Words.{IsLogName, NoRun, SaysRun};
 
 use ga_base::Text;
 

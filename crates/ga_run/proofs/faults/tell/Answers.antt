@@ -9,7 +9,7 @@ returns-in-FileShort-clause-line g c = rw (c.in-FileShort.is, ← c.format-in-Fi
 
 pub returns-in-OutFault-clause-line : goal.returns-in-OutFault-clause-line
 returns-in-OutFault-clause-line g c =
-    rw (c.in-OutFault.is, ← c.format-in-OutFault.ensures.text, ← c.as_bytes-at-in-OutFault.ensures.value, ← c.target_name-target.ensures) c.say-in-OutFault.ensures.line
+    rw (c.in-OutFault.is, ← c.format-in-OutFault.ensures.text, ← c.as_bytes-at-in-OutFault.ensures.value) c.say-in-OutFault.ensures.line
 
 pub returns-in-NoMemory-clause-line : goal.returns-in-NoMemory-clause-line
 returns-in-NoMemory-clause-line g c = rw c.in-NoMemory.is c.say-in-NoMemory.ensures.line
@@ -20,10 +20,10 @@ returns-in-CounterFull-clause-line g c =
 
 pub returns-in-None-clause-line : goal.returns-in-None-clause-line
 returns-in-None-clause-line g c =
-    let place = sym c.place_of.ensures ∙ c.in-None.is in
-    rw (c.in-BadFormat.is, place, ← c.format_name-format.ensures, ← c.format_fault-text.ensures) c.say-in-None.ensures.line
+    let place = sym c.place.ensures ∙ c.in-None.is in
+    rw (c.in-BadFormat.is, place, ← c.format_name-format.ensures, ← c.text.ensures, ← c.as_bytes-text.ensures.value) c.say-in-None.ensures.line
 
 pub returns-in-Some-clause-line : goal.returns-in-Some-clause-line
 returns-in-Some-clause-line g c =
-    let place = sym c.place_of.ensures ∙ c.in-Some.is in
-    rw (c.in-BadFormat.is, place, ← c.format_name-format.ensures, ← c.format_fault-text.ensures, ← c.format.ensures.text, ← c.as_bytes-at.ensures.value) c.say-in-Some.ensures.line
+    let place = sym c.place.ensures ∙ c.in-Some.is in
+    rw (c.in-BadFormat.is, place, ← c.format_name-format.ensures, ← c.text.ensures, ← c.as_bytes-text.ensures.value, ← c.format.ensures.text, ← c.as_bytes-at.ensures.value) c.say-in-Some.ensures.line

@@ -2,7 +2,7 @@ use Rattle.std.proofs.lemmas.Result.{IfOk-weaker}
 use Rattle.std.proofs.Common.{List}
 use Rattle.ga_summary.specs.Rows.{Row}
 use Rattle.ga_run.specs.Hosts.{AreHostRows}
-use Rattle.ga_run.specs.Tallies.{IsTallied}
+use Rattle.ga_run.specs.Steps.Tallies.{IsTallied}
 use Rattle.ga_run.proofs.hosts.host_rows.Goals as goal
 
 pub returns : goal.returns

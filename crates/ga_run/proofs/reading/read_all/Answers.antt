@@ -1,15 +1,16 @@
 use Rattle.std.proofs.Common.{arith, ℕ, ◌≡◌, ◌<◌, ◌+◌, ◌++◌, ◌∙◌, length, take, drop, subst, sym, ap, take_all, length-take}
 use Rattle.std.specs.Option.{IfSome}
 use Rattle.std.proofs.lemmas.Result.{err_from_is_err_and}
-use Rattle.ga_ports.proofs.Results.{if_some-all, if_some-map, if_some-both}
+use Rattle.ga_ports.specs.Counts.{NoneDue}
+use Rattle.ga_ports.specs.Stretch.FilesWent.{no_files_call, files_then}
 use Rattle.ga_run.specs.Reading.{after_reads}
-use Rattle.ga_run.proofs.LogReads.{reads-nil, reads-more, bytes-after_reads, listed-after_reads, front-more, misses-more}
+use Rattle.ga_run.proofs.LogReads.{if_some-all, if_some-map, if_some-both, reads-nil, reads-more, bytes-after_reads, listed-after_reads, front-more, misses-more, none-later}
 use Rattle.ga_run.proofs.reading.read_all.Goals as goal
 
 pub loop-at-init : goal.loop-at-init
 loop-at-init g c =
     let empty = c.new-log.ensures.items in
-    record { within = omega arith; so_far = ap length empty; files = reads-nil _; bytes = if_some-all (λ bytes. c.new-log.result.items ≡ take 0 bytes) _ (λ bytes. empty) }
+    record { within = omega arith; so_far = ap length empty; went = no_files_call; files = reads-nil _; bytes = if_some-all (λ bytes. c.new-log.result.items ≡ take 0 bytes) _ (λ bytes. empty) }
 
 pub read_slice-requires-clause-told : goal.read_slice-requires-clause-told
 read_slice-requires-clause-told g c =
@@ -25,6 +26,7 @@ loop-at-preserved g c =
     record {
       within = omega (arith, ok.within, length-take {A = ℕ});
       so_far = omega (arith, ok.long);
+      went = files_then c.loop-at.invariant.went c.read_slice.ensures.calls;
       files = reads-more c.loop-at.at c.in_ok-count.count (g.F.Files.view c.args.files.now) (g.F.Files.view c.loop-at.files) (g.F.Files.view c.read_slice.new.files) c.loop-at.invariant.files ok.files;
       bytes =
           if_some-both (λ bytes. c.loop-at.log.items ≡ take c.loop-at.at bytes) _
@@ -39,11 +41,15 @@ returns-in_err-count-clause-failed g c =
     rw (p.1, p.2) (misses-more c.loop-at.at _ c.args.size (g.F.Files.view c.args.files.now) (g.F.Files.view c.loop-at.files) _ _ c.loop-at.invariant.files
     (omega (arith, length-take {A = ℕ})) misses)
 
+pub returns-in_err-count-clause-calls : goal.returns-in_err-count-clause-calls
+returns-in_err-count-clause-calls g c = files_then c.loop-at.invariant.went c.read_slice.ensures.calls
+
 pub returns-in_err-count-clause-sure : goal.returns-in_err-count-clause-sure
 returns-in_err-count-clause-sure g c =
     let p = err_from_is_err_and c.from_residual.result c.from_residual.ensures.1 in
     let same = listed-after_reads c.loop-at.at (g.F.Files.view c.args.files.now) (g.F.Files.view c.loop-at.files) c.loop-at.invariant.files in
-    λ listed. rw (p.1, p.2) (c.in_err-count.ensures.sure (same ∙ listed))
+    λ none. rw (p.1, p.2) (c.in_err-count.ensures.sure (subst (λ told. NoneDue told (g.F.Files.view c.loop-at.files).counts.calls) (sym same)
+    (none-later _ _ (g.F.Files.view c.args.files.now).listed (c.files_stay.ensures _ _ c.loop-at.invariant.went).calls none)))
 
 pub returns-clause-ok : goal.returns-clause-ok
 returns-clause-ok g c = record {

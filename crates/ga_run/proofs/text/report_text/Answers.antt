@@ -1,6 +1,7 @@
 use Rattle.std.proofs.Common.{[], ◌≡◌, List, ℕ}
 use Rattle.std.proofs.lemmas.Result.{IfOk-weaker}
-use Rattle.ga_run.specs.Report.{HasWritten, text_of}
+use Rattle.ga_run.specs.Report.{text_of}
+use Rattle.ga_run.specs.Steps.Report.{HasWritten}
 use Rattle.ga_run.proofs.text.report_text.Goals as goal
 
 pub returns : goal.returns

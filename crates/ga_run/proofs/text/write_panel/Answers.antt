@@ -1,6 +1,7 @@
 use Rattle.std.proofs.Common.{◌++◌, refl, subst}
 use Rattle.csv.specs.Writing.{row_text, default_writer}
-use Rattle.ga_run.specs.Report.{HasWritten, row_fields}
+use Rattle.ga_run.specs.Report.{row_fields}
+use Rattle.ga_run.specs.Steps.Report.{HasWritten}
 use Rattle.ga_run.proofs.RowTexts.{rows_text-step, rows_text-done}
 use Rattle.ga_run.proofs.text.write_panel.Goals as goal
 

@@ -1,5 +1,6 @@
 use Rattle.std.proofs.Common.{◌≡◌, ◌++◌, drop, List, ℕ}
-use Rattle.ga_run.specs.Report.{HasWritten, rows_text}
+use Rattle.ga_run.specs.Report.{rows_text}
+use Rattle.ga_run.specs.Steps.Report.{HasWritten}
 use Rattle.ga_run.proofs.text.write_panel.Given as goal
 
 abbrev pub invariant-loop-id : goal.invariant-loop-id

@@ -29,7 +29,7 @@ one_more more None = more
 one_more more (Some tally) = plus tally more
 
 abbrev pub row_of : List ℕ × Tally → PanelRow
-row_of entry = record { hits = record { 0 = entry.1.hits }; label = entry.0; visitors = entry.1.visitors; bytes = entry.1.bytes }
+row_of entry = record { hits = entry.1.hits; label = entry.0; visitors = entry.1.visitors; bytes = entry.1.bytes }
 
 module _ {S : Type 0} where
   -- the tallies of the hosts of these rows
