@@ -1,6 +1,9 @@
+ghost use Rattle.std.specs.Prelude.{◌≡◌, ◌↔◌, IfOk, IsErr};
+ghost use Rattle.std.specs.Fs.{IsFile, file_type};
+
 use ga_base::Text;
 use ga_ports::{Failed, FileCounts, Files, is_short};
-use std::fs::{self, File};
+use std::fs::{self, File, Metadata};
 use std::os::unix::fs::FileExt;
 use std::{io, rt};
 
@@ -9,9 +12,13 @@ use std::{io, rt};
 /// Only a regular file is opened: a folder or a pipe has no size that says how much there is to read.
 #[derive(Drop)]
 pub struct RealFiles<'a, R: rt::Files<File = File>> {
+    /// What opens files.
     rt: &'a R,
+    /// The open file.
     file: Option<File>,
+    /// The size last answered for the open file.
     measured: Option<u64>,
+    /// How often each kind of call came and failed.
     counts: FileCounts,
 }
 
@@ -44,7 +51,7 @@ impl<'a, R: rt::Files<File = File>> Files for RealFiles<'a, R> {
         self.measured = None;
         self.counts.ask(false);
         match open_regular(self.rt, name.as_str()) {
-            Ok(file) => {
+            Ok((file, _)) => {
                 self.counts.call();
                 self.file = Some(file);
                 Ok(())
@@ -61,6 +68,7 @@ impl<'a, R: rt::Files<File = File>> Files for RealFiles<'a, R> {
             Some(Ok(metadata)) => {
                 let size = metadata.len();
                 self.counts.call();
+                self.counts.measure(size);
                 self.measured = Some(size);
                 Ok(size)
             }
@@ -91,10 +99,25 @@ impl<'a, R: rt::Files<File = File>> Files for RealFiles<'a, R> {
     }
 }
 
-/// Opens a file that has a size.
-fn open_regular<R: rt::Files<File = File>>(rt: &R, path: &str) -> io::Result<File> {
-    if !fs::metadata(rt, path)?.is_file() {
-        return Err(io::Error::from(io::ErrorKind::InvalidInput));
+/// Opens a regular file, and gives what the system says of it once it is open. The kind is asked for before opening too,
+/// since a pipe without a writer would block there.
+fn open_regular<R: rt::Files<File = File>>(rt: &R, path: &str) -> io::Result<(File, Metadata)>
+    ensures { IfOk result (λ opened. IsFile (file_type opened.1)) }
+{
+    regular(fs::metadata(rt, path)?)?;
+    let file = fs::open(rt, path)?;
+    let metadata = regular(file.metadata()?)?;
+    Ok((file, metadata))
+}
+
+/// What the system says of a file, where that is a regular one: a folder, a pipe or a device is none.
+fn regular(metadata: Metadata) -> io::Result<Metadata>
+    ensures regular { IfOk result (λ same. (same ≡ metadata) × IsFile (file_type same)) }
+    ensures other { IsErr result ↔ ¬ IsFile (file_type metadata) }
+{
+    if metadata.is_file() {
+        Ok(metadata)
+    } else {
+        Err(io::Error::from(io::ErrorKind::InvalidInput))
     }
-    fs::open(rt, path)
 }

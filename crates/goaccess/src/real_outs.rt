@@ -10,14 +10,23 @@ use std::{fs, rt};
 /// that takes nothing of a piece that isn't empty is one.
 #[derive(Drop)]
 pub struct RealOuts<'a, R: rt::Files, P: Print, E: Print> {
+    /// What makes the report's file.
     rt: &'a R,
+    /// Standard output.
     output: &'a P,
+    /// Standard error.
     errors: &'a E,
+    /// The report's file, once it is made.
     report: Option<R::File>,
+    /// What standard output took, and how often it failed.
     stdout: TargetCounts,
+    /// The same of standard error.
     stderr: TargetCounts,
+    /// The same of the report's file.
     file: TargetCounts,
+    /// How often a report's file was asked for.
     made: u64,
+    /// How many calls there were, over all targets.
     calls: u64,
 }
 
@@ -85,7 +94,8 @@ impl<'a, R: rt::Files, P: Print, E: Print> Outs for RealOuts<'a, R, P, E> {
     }
 }
 
-/// Counts a write that was tried.
+/// Counts a write of a piece that was tried on a target: what it took, or a failure. Nothing taken of a piece that isn't
+/// empty is a failure.
 fn settle(
     counts: &mut TargetCounts,
     piece: &[u8],

@@ -1,11 +1,11 @@
-ghost use Rattle.std.specs.Prelude.{◌≡◌, ◌≢◌};
-ghost use Rattle.std.specs.IoError.{error_kind};
-ghost use Rattle.std.specs.declared.io.ErrorKind.TheVariants.{InvalidData};
-ghost use Rattle.goaccess.specs.Words.{words_line, words_code};
-ghost use Rattle.goaccess.specs.declared.words.WordsFault.TheVariants.{NotText as WordsNotText, NoMemory as WordsNoMemory};
+ghost use Rattle.std.specs.Prelude.{◌≡◌, IfOk, map, string_bytes};
+ghost use Rattle.std.specs.Vec.Iter.{into_iter_items};
+ghost use Rattle.goaccess.specs.Program.{words_in};
+ghost use Rattle.goaccess.specs.Words.{words_line, words_code, IsFaultOf};
 
 use ga_base::{NoMemory, Text, Texts};
-use std::env::{self, Env};
+use std::alloc::Global;
+use std::env::Args;
 use std::io::{self, ErrorKind};
 
 /// Why the words of the command line couldn't be had.
@@ -39,16 +39,8 @@ impl WordsFault {
     }
 }
 
-impl From<NoMemory> for WordsFault {
-    ghost from_gives = { λ _ e. e ≡ WordsNoMemory };
-
-    fn from(_: NoMemory) -> WordsFault {
-        WordsFault::NoMemory
-    }
-}
-
 impl From<io::Error> for WordsFault {
-    ghost from_gives = { λ error e. (error_kind error ≡ InvalidData → e ≡ WordsNotText) × (error_kind error ≢ InvalidData → e ≡ WordsNoMemory) };
+    ghost from_gives = { λ error fault. IsFaultOf error fault };
 
     fn from(error: io::Error) -> WordsFault {
         match error.kind() {
@@ -58,11 +50,21 @@ impl From<io::Error> for WordsFault {
     }
 }
 
-/// The words of the command line, without the program's name.
-pub fn words<R: Env + AllocGlobal>(rt: &R) -> Result<Texts, WordsFault> {
-    let mut words = Texts::new(rt.alloc());
-    for word in env::args(rt)?.skip(1) {
-        words.push(Text::from(word))?;
+/// The words of a command line: its arguments but the first, which is the program's name.
+pub fn words(alloc: Global, mut arguments: Args) -> Result<Texts, NoMemory>
+    ensures { IfOk result (λ words. words ≡ words_in (into_iter_items arguments)) }
+{
+    let _program = arguments.next();
+    texts(alloc, arguments)
+}
+
+/// The strings as texts.
+fn texts(alloc: Global, strings: Args) -> Result<Texts, NoMemory>
+    ensures { IfOk result (λ texts. texts ≡ map string_bytes (into_iter_items strings)) }
+{
+    let mut texts = Texts::new(alloc);
+    for string in strings {
+        texts.push(Text::from_string(alloc, string)?)?;
     }
-    Ok(words)
+    Ok(texts)
 }
