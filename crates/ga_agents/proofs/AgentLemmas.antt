@@ -69,13 +69,13 @@ same_truth true false to from = let clash : IsTrue false = to refl in cc
 same_truth false true to from = let clash : IsTrue false = from refl in cc
 same_truth false false to from = refl
 
-abbrev agent_of : List ℕ → List ℕ → List ℕ → List ℕ → Bool → Agent
-agent_of browser category system group crawler = record { browser = browser; category = category; system = system; system_group = group; crawler = crawler }
+abbrev agent_with : List ℕ → List ℕ → List ℕ → List ℕ → Bool → Agent
+agent_with browser category system group crawler = record { browser = browser; category = category; system = system; system_group = group; crawler = crawler }
 
 same_agent : (a c s g b d t h : List ℕ) (k l : Bool) → a ≡ b → c ≡ d → s ≡ t → g ≡ h → k ≡ l
     → ◌≡◌ {A = Agent} (record { browser = a; category = c; system = s; system_group = g; crawler = k }) (record { browser = b; category = d; system = t; system_group = h; crawler = l })
 same_agent a c s g b d t h k l e1 e2 e3 e4 e5 =
-    ap (λ x. agent_of x c s g k) e1 ∙ ap (λ x. agent_of b x s g k) e2 ∙ ap (λ x. agent_of b d x g k) e3 ∙ ap (λ x. agent_of b d t x k) e4 ∙ ap (λ x. agent_of b d t h x) e5
+    ap (λ x. agent_with x c s g k) e1 ∙ ap (λ x. agent_with b x s g k) e2 ∙ ap (λ x. agent_with b d x g k) e3 ∙ ap (λ x. agent_with b d t x k) e4 ∙ ap (λ x. agent_with b d t h x) e5
 
 pub one_agent : (file : List Rule) (agent : List ℕ) (one two : Agent) → IsAgent file agent one → IsAgent file agent two → one ≡ two
 one_agent file agent one two is other =
@@ -84,14 +84,6 @@ one_agent file agent one two is other =
     let crawler : one.crawler ≡ two.crawler =
     same_truth one.crawler two.crawler (λ yes. other.crawler.1 (sym browser.1 ∙ is.crawler.0 yes)) (λ yes. is.crawler.1 (browser.1 ∙ other.crawler.0 yes)) in
     same_agent one.browser one.category one.system one.system_group two.browser two.category two.system two.system_group one.crawler two.crawler browser.0 browser.1 system.0 system.1 crawler
-
-pub classified : (file : List Rule) (agent a c s g b d t h : List ℕ) (crawler : Bool) → HasBrowser (file ++ builtin_rules) agent a c → HasSystem agent s g → (IsTrue crawler ↔ (c ≡ crawlers))
-    → b ≡ a → d ≡ c → t ≡ s → h ≡ g → IsAgent file agent (record { browser = b; category = d; system = t; system_group = h; crawler = crawler })
-classified file agent a c s g b d t h crawler browser system tells e1 e2 e3 e4 = record {
-  browser = subst (λ x. HasBrowser (file ++ builtin_rules) agent x d) (sym e1) (subst (λ x. HasBrowser (file ++ builtin_rules) agent a x) (sym e2) browser);
-  system = subst (λ x. HasSystem agent x h) (sym e3) (subst (λ x. HasSystem agent s x) (sym e4) system);
-  crawler = subst (λ x. IsTrue crawler ↔ (x ≡ crawlers)) (sym e2) tells;
-}
 
 pub crawler_found : (file : List Rule) (agent : List ℕ) (found : Found) (answer : Bool) → IsFound (file ++ builtin_rules) agent found → (IsTrue answer ↔ (found.category.now ≡ crawlers)) → IsTrue answer ↔ IsCrawler file agent
 crawler_found file agent found answer is tells =

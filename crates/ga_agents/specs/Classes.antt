@@ -3,6 +3,7 @@
 use Rattle.std.specs.Prelude.{◌≡◌, ℕ, ◌↔◌, ◌⊎◌, Bool, ◌||◌, ◌==◌, List, ◌++◌, codes, IsTrue}
 use Rattle.std.specs.List.{before_first}
 use Rattle.ga_agents.specs.declared.agent.Agent.{Agent}
+use Rattle.ga_agents.specs.declared.agent.Class.{Class}
 use Rattle.ga_agents.specs.declared.row.Rule.{Rule}
 use Rattle.ga_agents.specs.Occurs.{StandsFirst, NoneOccurs, IsFirstEntry}
 use Rattle.ga_agents.specs.Tables.{System, builtin_rules, systems}
@@ -43,6 +44,16 @@ pub record IsAgent (file : List Rule) (agent : List ℕ) (answer : Agent) : Type
   pub browser : HasBrowser (file ++ builtin_rules) agent answer.browser answer.category
   pub system : HasSystem agent answer.system answer.system_group
   pub crawler : IsTrue answer.crawler ↔ (answer.category ≡ crawlers)
+
+-- what the borrowed form of an answer tells: each of its texts, and whether it is a crawler
+abbrev pub agent_of : Class → Agent
+agent_of class = record {
+  browser = class.browser.now;
+  category = class.category.now;
+  system = class.system.now;
+  system_group = class.system_group.now;
+  crawler = class.crawler;
+}
 
 -- the agent has a browser of the crawlers
 abbrev pub IsCrawler : List Rule → List ℕ → Type 0

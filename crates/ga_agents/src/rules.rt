@@ -1,13 +1,13 @@
 ghost use Rattle.std.specs.Prelude.{◌≡◌, ◌↔◌, ◌++◌, ℕ, [], List, IfOk, IfErr, OnOk, Ok, Err, IsTrue};
 ghost use Rattle.ga_agents.specs.declared.agent.Agent.{Agent as AgentSpec};
 ghost use Rattle.ga_agents.specs.declared.row.Rule.{Rule as RuleSpec};
-ghost use Rattle.ga_agents.specs.Classes.{IsAgent, IsCrawler};
+ghost use Rattle.ga_agents.specs.Classes.{IsAgent, IsCrawler, agent_of};
 ghost use Rattle.ga_agents.specs.RulesFile.{FileGives, IsBadLine, IsFileFault, LineGives, UnlessNoMemory};
 ghost use Rattle.ga_agents.specs.Steps.{IsLineFault};
 
 use crate::classes::{browser_in, found_in, system_in};
 use crate::row::{Row, row_of};
-use crate::{Agent, Rule, RuleFault};
+use crate::{Agent, Class, Rule, RuleFault};
 use bstr::ByteSlice;
 use ga_base::{Listing, NoMemory, Text};
 use std::alloc::Global;
@@ -65,21 +65,29 @@ impl Rules {
         })
     }
 
-    /// What an agent tells. The first rule counts whose token is a substring of it, byte for byte. The browser is the
-    /// text from the token's first place up to the first space, `;`, `,`, `(` or `)` at or after the token's end, or
-    /// to the end. The first system counts in the same way. What no entry gives is `Unknown`.
-    pub fn classify(&self, agent: &Text) -> Result<Agent, NoMemory>
-        ensures { IfOk result (IsAgent self.now agent.now) }
+    /// What an agent tells, borrowed from the agent and from these rules. This takes no memory. The first rule counts
+    /// whose token is a substring of the agent, byte for byte. The browser is the text from the token's first place up
+    /// to the first space, `;`, `,`, `(` or `)` at or after the token's end, or to the end. The first system counts in
+    /// the same way. What no entry gives is `Unknown`.
+    pub fn class_of<'a>(&'a self, agent: &'a Text) -> Class<'a>
+        ensures { IsAgent self.now agent.now (agent_of result) }
     {
         let browser = browser_in(self.file.items(), agent.as_str());
         let system = system_in(agent.as_str());
-        Ok(Agent {
-            browser: Text::of(self.alloc, browser.name)?,
-            category: Text::of(self.alloc, browser.category)?,
-            system: Text::of(self.alloc, system.name)?,
-            system_group: Text::of(self.alloc, system.group)?,
+        Class {
+            browser: browser.name,
+            category: browser.category,
+            system: system.name,
+            system_group: system.group,
             crawler: is_crawlers(browser.category),
-        })
+        }
+    }
+
+    /// What an agent tells, as `class_of` does, in texts of its own.
+    pub fn classify(&self, agent: &Text) -> Result<Agent, NoMemory>
+        ensures { IfOk result (IsAgent self.now agent.now) }
+    {
+        self.class_of(agent).to_agent(self.alloc)
     }
 
     /// Whether the category of an agent is `Crawlers`. This takes no memory.

@@ -1,4 +1,4 @@
-use crate::Rules;
+use crate::{Class, Rules};
 use ga_base::Text;
 use std::alloc::Global;
 use std::test::Fail;
@@ -57,11 +57,10 @@ Mozilla/5.0 (compatible; examplebot/1.2) => bot/1.2|Crawlers|Unknown|Unknown
 Mozilla/5.0 AppleWebKit/537.36 (KHTML, like Gecko; compatible; GPTBot/1.0; +https://openai.com/gptbot) => Bot/1.0|Crawlers|Unknown|Unknown
 ";
 
-/// What these rules tell of an agent.
-fn told(alloc: Global, rules: &Rules, agent: &Text) -> Result<String, Fail> {
-    let said = rules.classify(agent)?;
-    let (browser, category) = (said.browser.as_str(), said.category.as_str());
-    let (system, group) = (said.system.as_str(), said.system_group.as_str());
+/// A class as a row has it.
+fn told(alloc: Global, class: Class<'_>) -> Result<String, Fail> {
+    let (browser, category) = (class.browser, class.category);
+    let (system, group) = (class.system, class.system_group);
     Ok(format!(in alloc; "{browser}|{category}|{system}|{group}")?)
 }
 
@@ -72,7 +71,7 @@ fn agents_are_told_apart(rt: HostRuntime) -> Result<(), Fail> {
     for row in AGENTS.lines() {
         let (text, expected) = cells(row);
         let agent = Text::of(alloc, text)?;
-        let said = told(alloc, &rules, &agent)?;
+        let said = told(alloc, rules.class_of(&agent))?;
         assert_eq!(rt; said.as_str(), expected, "{text}");
         assert_eq!(rt;
             rules.is_crawler(&agent),
@@ -97,6 +96,7 @@ Foo\tBar\r\r; => Foo => Foo|Bar\r|Unknown|Unknown
 Fo\tX;Foo\tY; => Foo => Foo|X|Unknown|Unknown
 Chrome\tMine => Edg Chrome/1;2 => Chrome/1|Mine|Unknown|Unknown
 a(b c\tX => a(b cd e => a(b cd|X|Unknown|Unknown
+Foo\tCrawlers => Foo/2 (X11; Linux i686) => Foo/2|Crawlers|Linux|Linux
 # x;Foo => Foo => line 2: not a rule
 Foo => Foo => line 1: not a rule
 Foo Crawlers; => Foo => line 1: not a rule
@@ -124,6 +124,21 @@ fn file_of(alloc: Global, text: &str) -> Result<Vec<u8>, Fail> {
     Ok(file)
 }
 
+/// What these rules tell of an agent, in texts of its own.
+fn owned(alloc: Global, rules: &Rules, agent: &Text) -> Result<String, Fail> {
+    let said = rules.classify(agent)?;
+    told(
+        alloc,
+        Class {
+            browser: said.browser.as_str(),
+            category: said.category.as_str(),
+            system: said.system.as_str(),
+            system_group: said.system_group.as_str(),
+            crawler: said.crawler,
+        },
+    )
+}
+
 #[test]
 fn files_give_rules_or_a_fault(rt: HostRuntime) -> Result<(), Fail> {
     let alloc = rt.alloc();
@@ -131,7 +146,7 @@ fn files_give_rules_or_a_fault(rt: HostRuntime) -> Result<(), Fail> {
         let (text, rest) = cells(row);
         let (agent, expected) = cells(rest);
         let said = match Rules::read(alloc, &file_of(alloc, text)?) {
-            Ok(rules) => told(alloc, &rules, &Text::of(alloc, agent)?)?,
+            Ok(rules) => owned(alloc, &rules, &Text::of(alloc, agent)?)?,
             Err(fault) => format!(in alloc; "{fault}")?,
         };
         assert_eq!(rt; said.as_str(), expected, "{text}");
