@@ -1,5 +1,5 @@
 -- The first pair of a query that holds a phrase.
-use Rattle.std.proofs.Common.{◌≡◌, ℕ, List, [], ◌∷◌, ◌++◌, map, Option, Some, None, sym, ap, ◌∙◌, subst, arith, append_assoc, Result, Ok, Err, IfOk}
+use Rattle.std.proofs.Common.{◌≡◌, ℕ, List, [], ◌∷◌, ◌++◌, map, Option, Some, None, sym, ap, ◌∙◌, subst, arith, append_assoc}
 use Rattle.std.specs.Prelude.{codes}
 use Rattle.std.specs.List.{All}
 use Rattle.std.specs.Str.Lossy.{utf8_lossy}
@@ -47,11 +47,7 @@ phrase-itself name value phrase is some same =
     ([], [], ap (λ n. (n, value) ∷ []) is ∙ ap (λ v. (codes "q", v) ∷ []) (sym same), none-at-all, λ none. some (sym same ∙ none))
 
 module _ (referrer query : List ℕ) (google : IsGoogle referrer) (same : query ≡ query_of referrer) where
-  answer-is : (answer : Option (List ℕ)) → PhraseIs (pairs_of query) answer → KeyphraseIs referrer answer
-  answer-is None none = λ _. subst (λ q. PhraseIs (pairs_of q) None) same none
-  answer-is (Some phrase) found = (google, subst (λ q. PhraseIs (pairs_of q) (Some phrase)) same found)
-
   -- where the site is one of Google's, the phrase is the query's
-  pub keyphrase-is : {E : Type 0} (r : Result (Option (List ℕ)) E) → IfOk r (PhraseIs (pairs_of query)) → IfOk r (KeyphraseIs referrer)
-  keyphrase-is (Ok answer) h = answer-is answer h
-  keyphrase-is (Err e) h = tt
+  pub keyphrase-is : (answer : Option (List ℕ)) → PhraseIs (pairs_of query) answer → KeyphraseIs referrer answer
+  keyphrase-is None none = λ _. subst (λ q. PhraseIs (pairs_of q) None) same none
+  keyphrase-is (Some phrase) found = (google, subst (λ q. PhraseIs (pairs_of q) (Some phrase)) same found)

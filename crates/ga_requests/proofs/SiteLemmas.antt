@@ -1,12 +1,13 @@
 -- Which site a referrer names.
-use Rattle.std.proofs.Common.{◌≡◌, ◌↔◌, ℕ, ◌-◌, ◌≤◌, Bool, IsTrue, List, [], ◌++◌, length, take, drop, Some, None, refl, sym, ap, ◌∙◌, subst, arith, length-append, append_assoc, ⊎_elim}
+use Rattle.std.proofs.Common.{◌≡◌, ◌↔◌, ℕ, ◌-◌, ◌≤◌, Bool, IsTrue, List, [], ◌++◌, length, take, drop, Some, None, Result, Ok, Err, OnErr, MatchBool, refl, sym, ap, ◌∙◌, subst, arith, length-append, append_assoc, ⊎_elim}
 use Rattle.std.specs.Prelude.{codes}
 use Rattle.std.specs.List.{before_first}
 use Rattle.std.specs.Str.Iter.{HasSubslice}
-use Rattle.std.specs.Str.Pattern.{FindsText, LacksTextAt, SplitsAroundMatch}
+use Rattle.std.specs.Str.Pattern.{FindsText, HasMatch, LacksTextAt, SplitsAroundMatch}
 use Rattle.std.proofs.lemmas.Bool.{cases_lt}
 use Rattle.std.proofs.lemmas.List.{drop_at, take-append-drop}
 use Rattle.std.proofs.lemmas.List.Prefix.{end_rest}
+use Rattle.std.proofs.lemmas.Str.Pattern.{contains_text}
 use Rattle.ga_requests.specs.Referrers.{FollowsFirst, Names, SiteIs, IsGoogle, ends_site}
 
 module _ (mark text : List ℕ) where
@@ -52,8 +53,15 @@ module _ (referrer : List ℕ) where
   pub google-none : SiteIs referrer None → IsGoogle referrer → ⊥
   google-none none google = google.1.1 (none google.0 google.1.0)
 
-  pub google-some : (site : List ℕ) (r : Bool) → SiteIs referrer (Some site) → IsTrue r ↔ HasSubslice site (codes "google.") → IsTrue r ↔ IsGoogle referrer
-  google-some site r is holds = (
-    λ yes. (site, is, holds.0 yes),
-    λ google. holds.1 (subst (λ s. HasSubslice s (codes "google.")) (names-same google.0 site google.1.0 is.0) google.2),
-  )
+  -- a search of the site answers whether it is one of Google's
+  pub google-some : (site : List ℕ) (r : Bool) → SiteIs referrer (Some site) → MatchBool r (HasMatch (FindsText (codes "google.")) site) (FindsText (codes "google.") site None) → IsTrue r ↔ IsGoogle referrer
+  google-some site r is found =
+      let holds = contains_text r (codes "google.") site found in (
+        λ yes. (site, is, holds.0 yes),
+        λ google. holds.1 (subst (λ s. HasSubslice s (codes "google.")) (names-same google.0 site google.1.0 is.0) google.2),
+      )
+
+  -- memory may be wanted where the site is one of Google's
+  pub google-wants : {A E : Type 0} → (r : Result A E) → IsGoogle referrer → OnErr r (IsGoogle referrer)
+  google-wants (Ok answer) google = tt
+  google-wants (Err e) google = google

@@ -1,4 +1,4 @@
-ghost use Rattle.std.specs.Prelude.{◌≡◌, ◌↔◌, [], ◌∷◌, IfOk, IfSome, IfNone, IsTrue, Some, None};
+ghost use Rattle.std.specs.Prelude.{◌≡◌, ◌≢◌, [], ◌∷◌, IfOk, OnErr, IfSome, IfNone, Some, None, option_map};
 ghost use Rattle.std.specs.List.{before_first};
 ghost use Rattle.ga_requests.specs.Referrers.{SiteIs, ends_site, IsGoogle, KeyphraseIs};
 ghost use Rattle.ga_requests.specs.Referrers.{query_of, pairs_of, PhraseIs};
@@ -22,12 +22,59 @@ const PHRASE_NAME: &str = "q";
 /// The byte that begins a path.
 const SLASH: u8 = b'/';
 
-/// The site that a referrer names, with its port: what stands behind the first `://`, up to the first `/`, `?`,
-/// `#` or the end (own profile). `None` exactly where there is no `://` or nothing stands there.
+/// What a referrer says of where a request came from. The site is a piece of the referrer itself.
+#[derive(Debug, Drop)]
+pub struct Referral<'a> {
+    /// The site that it names, with its port, as `site_of` answers it.
+    pub site: Option<&'a str>,
+    /// The phrase that was searched for at that site, as `keyphrase` answers it.
+    pub phrase: Option<Text>,
+}
+
+/// The site and the key phrase of a referrer by one look at it. The site is borrowed, and memory is asked for only
+/// where the site is one of Google's and the query has a pair.
+pub fn referral_of(alloc: Global, referrer: &Text) -> Result<Referral<'_>, NoMemory>
+    ensures site { IfOk result
+        (λ referral. SiteIs referrer.now (option_map (λ site. site.now) referral.site)) }
+    ensures phrase { IfOk result (λ referral. KeyphraseIs referrer.now referral.phrase) }
+    ensures no_memory_site { OnErr result (IsGoogle referrer.now) }
+    ensures no_memory_pair { OnErr result (pairs_of (query_of referrer.now) ≢ []) }
+{
+    let Some(site) = site_of(referrer) else {
+        return Ok(Referral {
+            site: None,
+            phrase: None,
+        });
+    };
+    if !site.contains(GOOGLE) {
+        return Ok(Referral {
+            site: Some(site),
+            phrase: None,
+        });
+    }
+    let phrase = first_phrase(alloc, query_in(referrer.bytes()))?;
+    Ok(Referral {
+        site: Some(site),
+        phrase,
+    })
+}
+
+/// The site that a referrer names, with its port, borrowed from it: what stands behind the first `://`, up to the
+/// first `/`, `?`, `#` or the end (own profile). `None` exactly where there is no `://` or nothing stands there.
+pub fn site_of(referrer: &Text) -> Option<&str>
+    ensures some { IfSome result (λ site. SiteIs referrer.now (Some site.now)) }
+    ensures none { IfNone result (SiteIs referrer.now None) }
+{
+    let (_, rest) = referrer.as_str().split_once(AUTHORITY_MARK)?;
+    let site = site_in_front(rest);
+    if site.is_empty() { None } else { Some(site) }
+}
+
+/// The site that a referrer names, as `site_of` answers it, in a text of its own.
 pub fn referring_site(alloc: Global, referrer: &Text) -> Result<Option<Text>, NoMemory>
     ensures { IfOk result (SiteIs referrer.now) }
 {
-    match site_in(referrer.as_str()) {
+    match site_of(referrer) {
         Some(site) => Ok(Some(Text::of(alloc, site)?)),
         None => Ok(None),
     }
@@ -35,44 +82,24 @@ pub fn referring_site(alloc: Global, referrer: &Text) -> Result<Option<Text>, No
 
 /// The phrase that was searched for: where the referrer's site holds `google.`, the decoded value of the first pair
 /// named `q` with a value that isn't empty, in what stands behind the first `?` of the whole referrer and before the
-/// first `#` after it. The pairs are those of HTML forms (URL Standard, section 5). Else `None`. Only Google's searches
-/// are looked at (own profile).
+/// first `#` after it. The pairs are those of HTML forms (URL Standard, section 5). `None` exactly where the site holds
+/// no `google.` or there is no such pair. Only Google's searches are looked at (own profile).
 pub fn keyphrase(alloc: Global, referrer: &Text) -> Result<Option<Text>, NoMemory>
-    ensures { IfOk result (KeyphraseIs referrer.now) }
+    ensures phrase { IfOk result (KeyphraseIs referrer.now) }
+    ensures no_memory_site { OnErr result (IsGoogle referrer.now) }
+    ensures no_memory_pair { OnErr result (pairs_of (query_of referrer.now) ≢ []) }
 {
-    if !is_google(referrer.as_str()) {
-        return Ok(None);
-    }
-    first_phrase(alloc, query_in(referrer.bytes()))
-}
-
-/// The site that a referrer names, borrowed from it.
-fn site_in(referrer: &str) -> Option<&str>
-    ensures some { IfSome result (λ site. SiteIs referrer.now (Some site.now)) }
-    ensures none { IfNone result (SiteIs referrer.now None) }
-{
-    let (_, rest) = referrer.split_once(AUTHORITY_MARK)?;
-    let site = site_of(rest);
-    if site.is_empty() { None } else { Some(site) }
+    let Referral { phrase, .. } = referral_of(alloc, referrer)?;
+    Ok(phrase)
 }
 
 /// The site that begins the text.
-fn site_of(rest: &str) -> &str
+fn site_in_front(rest: &str) -> &str
     ensures { result.now ≡ before_first ends_site rest.now }
 {
     match memchr3(SLASH, QUESTION_MARK, NUMBER_SIGN, rest.as_bytes()) {
         Some(end) => &rest[..end],
         None => rest,
-    }
-}
-
-/// Whether the site that the referrer names is one of Google's.
-fn is_google(referrer: &str) -> bool
-    ensures { IsTrue result ↔ IsGoogle referrer.now }
-{
-    match site_in(referrer) {
-        Some(site) => site.contains(GOOGLE),
-        None => false,
     }
 }
 
@@ -88,7 +115,8 @@ fn query_in(referrer: &[u8]) -> &[u8]
 
 /// The value of the query's first pair that is named `q` and has a value.
 fn first_phrase(alloc: Global, query: &[u8]) -> Result<Option<Text>, NoMemory>
-    ensures { IfOk result (PhraseIs (pairs_of query.now)) }
+    ensures phrase { IfOk result (PhraseIs (pairs_of query.now)) }
+    ensures no_memory { OnErr result (pairs_of query.now ≢ []) }
 {
     for (name, value) in raw_pairs(query) {
         if let Some(phrase) = phrase_in(alloc, name, value)? {

@@ -1,4 +1,6 @@
-use crate::{Parts, decode_url, is_static, keyphrase, referring_site, split_request};
+use crate::{
+    Parts, Referral, decode_url, is_static, keyphrase, referral_of, referring_site, split_request,
+};
 use ga_base::{Text, Texts};
 use std::alloc::Global;
 use std::test::Fail;
@@ -137,6 +139,7 @@ const REFERRERS: &str = "\
 https://www.google.com/search?hl=en&q=rust+hash%20map => [www.google.com][rust hash map]
 http://example.org => [example.org]none
 http://example.org:8080/a => [example.org:8080]none
+https://www.google.com:443/search?q=a => [www.google.com:443][a]
 http://example.org#a?b => [example.org]none
 http://example.org?u=http://b.org/ => [example.org]none
 http://bücher.example/ => [bücher.example]none
@@ -166,15 +169,20 @@ https://www.google.com/#q=a => [www.google.com]none
 https://www.google.com/?#q=a => [www.google.com]none
 https://example.org/google.com?q=a => [example.org]none
 https://www.googlexcom/?q=a => [www.googlexcom]none
+http://example.org/?u=https://www.google.com/&q=a => [example.org]none
 google.com/?q=a => nonenone
 ";
 
-/// A text that was found, in brackets.
-fn shown(alloc: Global, found: &Option<Text>) -> Result<String, Fail> {
-    match found {
-        Some(text) => Ok(format!(in alloc; "[{}]", text.as_str())?),
-        None => Ok(String::from_str(alloc, "none")?),
+/// The site and the phrase that were found, each in brackets.
+fn shown(alloc: Global, site: Option<&str>, phrase: Option<&Text>) -> Result<String, Fail> {
+    let mut said = String::new(alloc);
+    for text in [site, phrase.map(|phrase| phrase.as_str())] {
+        match text {
+            Some(text) => write!(said, "[{text}]")?,
+            None => said.push_str("none")?,
+        }
     }
+    Ok(said)
 }
 
 #[test]
@@ -183,10 +191,17 @@ fn referrers_name_sites_and_phrases(rt: HostRuntime) -> Result<(), Fail> {
     for row in REFERRERS.lines() {
         let (text, expected) = cells(row);
         let referrer = Text::of(alloc, text)?;
-        let site = shown(alloc, &referring_site(alloc, &referrer)?)?;
-        let phrase = shown(alloc, &keyphrase(alloc, &referrer)?)?;
-        let said = format!(in alloc; "{site}{phrase}")?;
+        let Referral { site, phrase } = referral_of(alloc, &referrer)?;
+        let said = shown(alloc, site, phrase.as_ref())?;
         assert_eq!(rt; said.as_str(), expected, "{text}");
+        let site = referring_site(alloc, &referrer)?;
+        let phrase = keyphrase(alloc, &referrer)?;
+        let said = shown(
+            alloc,
+            site.as_ref().map(|site| site.as_str()),
+            phrase.as_ref(),
+        )?;
+        assert_eq!(rt; said.as_str(), expected, "{text}, owned");
     }
     Ok(())
 }
