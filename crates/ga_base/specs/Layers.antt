@@ -1,9 +1,9 @@
--- The layers of keys: of each panel those of its groups, and those of its entries.
-use Rattle.std.specs.Prelude.{ℕ, Bool, true, false, ◌&&◌, List, [], ◌∷◌}
+-- The form of keys, and their layers: of each panel the keys of its groups, and those of its entries.
+use Rattle.std.specs.Prelude.{◌≡◌, ◌↔◌, ℕ, Bool, true, false, ◌&&◌, List, [], ◌∷◌}
 use Rattle.ga_base.specs.declared.key.Key.{Key}
 use Rattle.ga_base.specs.declared.panel.Panel.{Panel}
 use Rattle.ga_base.specs.declared.panel.Panel.TheVariants.{Visitors, Requests, RequestsStatic, NotFound, Os, Browsers, StatusCodes, MimeType}
-use Rattle.ga_base.specs.Days.{eight_digits}
+use Rattle.ga_base.specs.Days.{HasEightDigits, eight_digits}
 use Rattle.ga_base.specs.Panels.{is_same_panel}
 
 -- the panels whose entries stand in groups
@@ -20,6 +20,15 @@ has_requests Requests = true
 has_requests RequestsStatic = true
 has_requests NotFound = true
 has_requests _ = false
+
+-- the form of a key
+pub record HasForm (key : Key) : Type 0 where
+  pub date : HasEightDigits key.date
+  -- the parent is empty exactly where the panel has no groups
+  pub parent : (key.parent ≡ []) ↔ (has_groups key.panel ≡ false)
+  -- a key of VISITORS is the day's
+  pub label : key.panel ≡ Visitors → key.label ≡ eight_digits key.date
+  pub request : has_requests key.panel ≡ false → (key.method ≡ []) × (key.protocol ≡ [])
 
 -- the key of VISITORS for a day
 abbrev pub day_key : ℕ → Key

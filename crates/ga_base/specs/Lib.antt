@@ -5,3 +5,4 @@ pub mod Panels
 pub mod Orders
 pub mod Layers
 pub mod FormatFaults
+pub mod Records

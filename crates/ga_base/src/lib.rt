@@ -17,6 +17,7 @@ mod noted;
 mod panel;
 mod panel_set;
 mod record;
+mod record_ref;
 mod steps;
 mod text;
 
@@ -32,6 +33,7 @@ pub use noted::Noted;
 pub use panel::Panel;
 pub use panel_set::PanelSet;
 pub use record::{Line, MAX_LINE, Record, Statuses};
+pub use record_ref::RecordRef;
 pub use steps::Steps;
 pub use text::Text;
 

@@ -1,5 +1,5 @@
-ghost use Rattle.std.specs.Prelude.{◌≡◌, true, false, if◌then◌else◌};
-ghost use Rattle.ga_base.specs.Panels.{has_panel, is_same_panel};
+ghost use Rattle.std.specs.Prelude.{◌≡◌, true, false, replicate, slice_set};
+ghost use Rattle.ga_base.specs.Panels.{has_panel, is_same_panel, panel_number};
 ghost use Rattle.ga_base.specs.declared.panel.Panel.{Panel as ThePanel};
 
 use crate::Panel;
@@ -27,20 +27,23 @@ impl Model for PanelSet {
 impl PanelSet {
     /// All panels.
     pub fn all() -> PanelSet
-        ensures { (panel : ThePanel) → has_panel result panel ≡ true }
+        ensures flags { result ≡ replicate 17 true }
+        ensures panels { (panel : ThePanel) → has_panel result panel ≡ true }
     {
         PanelSet { flags: [true; 17] }
     }
 
     /// No panel.
     pub fn none() -> PanelSet
-        ensures { (panel : ThePanel) → has_panel result panel ≡ false }
+        ensures flags { result ≡ replicate 17 false }
+        ensures panels { (panel : ThePanel) → has_panel result panel ≡ false }
     {
         PanelSet { flags: [false; 17] }
     }
 
     /// Puts a panel in, where `on`, or takes it out. The others stay as they are.
     pub fn set(&mut self, panel: Panel, on: bool)
+        ensures flags { self.new ≡ slice_set self.old (panel_number panel) on }
         ensures panel { has_panel self.new panel ≡ on }
         ensures others { (other : ThePanel) → is_same_panel other panel ≡ false → has_panel self.new other ≡ has_panel self.old other }
     {

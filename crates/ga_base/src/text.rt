@@ -1,4 +1,5 @@
 ghost use Rattle.std.specs.Prelude.{◌≡◌, ◌==◌, [], IfOk, IfSome, string_bytes};
+ghost use Rattle.std.specs.Cow.{cow_str_bytes};
 ghost use Rattle.std.specs.Str.{IsUtf8};
 ghost use Rattle.std.specs.Str.Lossy.{utf8_lossy};
 ghost use Rattle.std.specs.Ordering.{nat_cmp, as_partial_cmp};
@@ -12,6 +13,7 @@ ghost use Rattle.ga_base.specs.Texts.{kept_bytes, FitsIn};
 
 use crate::NoMemory;
 use std::alloc::{AllocError, Global};
+use std::borrow::CowStr;
 use std::cmp::Ordering;
 use std::hash::{Hash, Hasher};
 use std::marker::Model;
@@ -84,6 +86,16 @@ impl Text {
         match Text::in_place(string.as_str()) {
             Some(text) => Ok(text),
             None => Text::shared(alloc, string),
+        }
+    }
+
+    /// The text that may be borrowed. A string that it owns is kept where it is long.
+    pub fn from_cow(alloc: Global, text: CowStr<'_, Global>) -> Result<Text, NoMemory>
+        ensures { IfOk result (λ t. t ≡ cow_str_bytes text.entry) }
+    {
+        match text {
+            CowStr::Borrowed(text) => Text::of(alloc, text),
+            CowStr::Owned(string) => Text::from_string(alloc, string),
         }
     }
 
