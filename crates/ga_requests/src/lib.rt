@@ -19,4 +19,4 @@ mod urls;
 pub use referrers::{Referral, keyphrase, referral_of, referring_site, site_of};
 pub use splitting::{Parts, split_request};
 pub use tables::{is_method, is_protocol};
-pub use urls::{decode_url, is_static, without_query};
+pub use urls::{decode_url, decoded_url, is_static, is_static_url, without_query};

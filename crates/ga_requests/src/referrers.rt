@@ -33,7 +33,7 @@ pub struct Referral<'a> {
 
 /// The site and the key phrase of a referrer by one look at it. The site is borrowed, and memory is asked for only
 /// where the site is one of Google's and the query has a pair.
-pub fn referral_of(alloc: Global, referrer: &Text) -> Result<Referral<'_>, NoMemory>
+pub fn referral_of(alloc: Global, referrer: &str) -> Result<Referral<'_>, NoMemory>
     ensures site { IfOk result
         (λ referral. SiteIs referrer.now (option_map (λ site. site.now) referral.site)) }
     ensures phrase { IfOk result (λ referral. KeyphraseIs referrer.now referral.phrase) }
@@ -52,7 +52,7 @@ pub fn referral_of(alloc: Global, referrer: &Text) -> Result<Referral<'_>, NoMem
             phrase: None,
         });
     }
-    let phrase = first_phrase(alloc, query_in(referrer.bytes()))?;
+    let phrase = first_phrase(alloc, query_in(referrer.as_bytes()))?;
     Ok(Referral {
         site: Some(site),
         phrase,
@@ -61,11 +61,11 @@ pub fn referral_of(alloc: Global, referrer: &Text) -> Result<Referral<'_>, NoMem
 
 /// The site that a referrer names, with its port, borrowed from it: what stands behind the first `://`, up to the
 /// first `/`, `?`, `#` or the end (own profile). `None` exactly where there is no `://` or nothing stands there.
-pub fn site_of(referrer: &Text) -> Option<&str>
+pub fn site_of(referrer: &str) -> Option<&str>
     ensures some { IfSome result (λ site. SiteIs referrer.now (Some site.now)) }
     ensures none { IfNone result (SiteIs referrer.now None) }
 {
-    let (_, rest) = referrer.as_str().split_once(AUTHORITY_MARK)?;
+    let (_, rest) = referrer.split_once(AUTHORITY_MARK)?;
     let site = site_in_front(rest);
     if site.is_empty() { None } else { Some(site) }
 }
@@ -74,7 +74,7 @@ pub fn site_of(referrer: &Text) -> Option<&str>
 pub fn referring_site(alloc: Global, referrer: &Text) -> Result<Option<Text>, NoMemory>
     ensures { IfOk result (SiteIs referrer.now) }
 {
-    match site_of(referrer) {
+    match site_of(referrer.as_str()) {
         Some(site) => Ok(Some(Text::of(alloc, site)?)),
         None => Ok(None),
     }
@@ -89,7 +89,7 @@ pub fn keyphrase(alloc: Global, referrer: &Text) -> Result<Option<Text>, NoMemor
     ensures no_memory_site { OnErr result (IsGoogle referrer.now) }
     ensures no_memory_pair { OnErr result (pairs_of (query_of referrer.now) ≢ []) }
 {
-    let Referral { phrase, .. } = referral_of(alloc, referrer)?;
+    let Referral { phrase, .. } = referral_of(alloc, referrer.as_str())?;
     Ok(phrase)
 }
 

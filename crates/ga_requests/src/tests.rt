@@ -191,7 +191,7 @@ fn referrers_name_sites_and_phrases(rt: HostRuntime) -> Result<(), Fail> {
     for row in REFERRERS.lines() {
         let (text, expected) = cells(row);
         let referrer = Text::of(alloc, text)?;
-        let Referral { site, phrase } = referral_of(alloc, &referrer)?;
+        let Referral { site, phrase } = referral_of(alloc, referrer.as_str())?;
         let said = shown(alloc, site, phrase.as_ref())?;
         assert_eq!(rt; said.as_str(), expected, "{text}");
         let site = referring_site(alloc, &referrer)?;

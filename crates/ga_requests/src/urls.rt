@@ -1,4 +1,5 @@
 ghost use Rattle.std.specs.Prelude.{◌≡◌, ◌↔◌, ◌<◌, ◌≤◌, IfOk, IsTrue, nat_eq};
+ghost use Rattle.std.specs.Cow.{cow_str_bytes};
 ghost use Rattle.std.specs.List.{list_any, ends_with};
 ghost use Rattle.ga_requests.specs.Tables.{extensions};
 ghost use Rattle.ga_requests.specs.Urls as spec;
@@ -9,6 +10,7 @@ use ga_base::{NoMemory, Text, Texts};
 use memchr::memrchr;
 use percent_encoding::percent_decode;
 use std::alloc::Global;
+use std::borrow::{CowSlice, CowStr};
 
 /// The byte that begins an extension.
 const DOT: u8 = b'.';
@@ -27,19 +29,29 @@ pub fn decode_url(alloc: Global, text: &[u8], times: u32) -> Result<Text, NoMemo
     requires few { times ≤ 2 }
     ensures { IfOk result (λ url. url ≡ spec.url_text times text.now) }
 {
-    if times == 1 {
-        return decode_last(alloc, text);
-    }
-    let once = percent_decode(text).into_cow(alloc)?;
-    decode_last(alloc, &once)
+    Text::from_cow(alloc, decoded_url(alloc, text, times)?)
 }
 
-/// The bytes percent-decoded once more, and made UTF-8. Bytes with no `%` are copied once, into the answer.
-fn decode_last(alloc: Global, bytes: &[u8]) -> Result<Text, NoMemory>
-    ensures { IfOk result (λ url. url ≡ spec.url_text 1 bytes.now) }
+/// The text of a URL, as `decode_url` gives it, borrowed where no byte is changed.
+pub fn decoded_url(alloc: Global, text: &[u8], times: u32) -> Result<CowStr<'_, Global>, NoMemory>
+    requires some { 0 < times }
+    requires few { times ≤ 2 }
+    ensures { IfOk result (λ url. cow_str_bytes url ≡ spec.url_text times text.now) }
 {
-    let text = percent_decode(bytes).decode_utf8_lossy(alloc)?;
-    Text::from_string(alloc, text.into_owned(alloc)?)
+    if times == 1 {
+        return decoded_last(alloc, text);
+    }
+    match percent_decode(text).into_cow(alloc)? {
+        CowSlice::Borrowed(once) => decoded_last(alloc, once),
+        CowSlice::Owned(once) => Ok(CowStr::Owned(decoded_last(alloc, &once)?.into_owned(alloc)?)),
+    }
+}
+
+/// The bytes percent-decoded once more, and made UTF-8.
+fn decoded_last(alloc: Global, bytes: &[u8]) -> Result<CowStr<'_, Global>, NoMemory>
+    ensures { IfOk result (λ url. cow_str_bytes url ≡ spec.url_text 1 bytes.now) }
+{
+    Ok(percent_decode(bytes).decode_utf8_lossy(alloc)?)
 }
 
 /// Whether a URL is of a static file: what stands before its first `?` ends in a known extension or in one of
@@ -47,7 +59,14 @@ fn decode_last(alloc: Global, bytes: &[u8]) -> Result<Text, NoMemory>
 pub fn is_static(url: &Text, statics: &Texts, all: bool) -> bool
     ensures { IsTrue result ↔ spec.IsStatic url.now statics.now all }
 {
-    let url = url.bytes();
+    is_static_url(url.as_str(), statics.items(), all)
+}
+
+/// The same of a URL and of endings that are borrowed.
+pub fn is_static_url(url: &str, statics: &[Text], all: bool) -> bool
+    ensures { IsTrue result ↔ spec.IsStatic url.now statics.now all }
+{
+    let url = url.as_bytes();
     let path = without_query(url);
     if path.len() < url.len() && !all {
         return false;
@@ -67,11 +86,8 @@ fn has_extension(path: &[u8]) -> bool
 }
 
 /// Whether the path ends in one of the texts.
-fn ends_in_one_of(path: &[u8], statics: &Texts) -> bool
+fn ends_in_one_of(path: &[u8], statics: &[Text]) -> bool
     ensures { result ≡ list_any (λ suffix. ends_with nat_eq path.now suffix) statics.now }
 {
-    statics
-        .items()
-        .iter()
-        .any(|suffix| path.ends_with(suffix.bytes()))
+    statics.iter().any(|suffix| path.ends_with(suffix.bytes()))
 }

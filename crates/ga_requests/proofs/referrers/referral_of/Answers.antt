@@ -19,4 +19,4 @@ returns-in_err-phrase-clause-no_memory_site c =
 pub returns-clause-phrase : goal.returns-clause-phrase
 returns-clause-phrase c =
     let is = google-some c.args.referrer.now c.in-Some.site.now c.contains.result c.in-Some.ensures.some c.contains.ensures.cases in
-    keyphrase-is c.args.referrer.now c.query_in.result.now (is.0 c.if-not-contains.false) (rw c.bytes.ensures.value at c.query_in.ensures) c.in_ok-phrase.phrase c.in_ok-phrase.ensures.phrase
+    keyphrase-is c.args.referrer.now c.query_in.result.now (is.0 c.if-not-contains.false) (rw c.as_bytes.ensures.value at c.query_in.ensures) c.in_ok-phrase.phrase c.in_ok-phrase.ensures.phrase
