@@ -111,3 +111,9 @@ crawler_agrees file agent result tells answer is =
     same_truth result answer.crawler
     (λ yes. let crawler = tells.0 yes in is.crawler.1 (one_browser (file ++ builtin_rules) agent answer.browser answer.category crawler.0 crawlers is.browser crawler.1).1)
     (λ yes. tells.1 (answer.browser, subst (λ x. HasBrowser (file ++ builtin_rules) agent answer.browser x) (is.crawler.0 yes) is.browser))
+
+pub told_crawler : (file : List Rule) (agent : List ℕ) (answer : Agent) → IsAgent file agent answer → IsTrue answer.crawler ↔ IsCrawler file agent
+told_crawler file agent answer is = (
+  λ yes. (answer.browser, subst (λ x. HasBrowser (file ++ builtin_rules) agent answer.browser x) (is.crawler.0 yes) is.browser),
+  λ crawler. is.crawler.1 (one_browser (file ++ builtin_rules) agent answer.browser answer.category crawler.0 crawlers is.browser crawler.1).1,
+)

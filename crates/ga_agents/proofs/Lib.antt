@@ -3,5 +3,6 @@ pub mod ClassLemmas
 pub mod CutLemmas
 pub mod FileLemmas
 pub mod LineLemmas
+pub mod NameLemmas
 pub mod OccurLemmas
 pub mod SomeAnswer

@@ -1,7 +1,7 @@
 -- What an agent is: its browser and the browser's category by the rules, its system and group by the systems, and whether it
 -- is a crawler. By first occurrence; the ends of a browser's text are our own rule.
-use Rattle.std.specs.Prelude.{◌≡◌, ℕ, ◌↔◌, ◌⊎◌, Bool, ◌||◌, ◌==◌, List, ◌++◌, codes, IsTrue}
-use Rattle.std.specs.List.{before_first}
+use Rattle.std.specs.Prelude.{◌≡◌, ◌≢◌, ℕ, ◌↔◌, ◌⊎◌, Bool, ◌||◌, ◌==◌, List, [], ◌++◌, codes, IsTrue}
+use Rattle.std.specs.List.{AllByRecursion, before_first}
 use Rattle.ga_agents.specs.declared.agent.Agent.{Agent}
 use Rattle.ga_agents.specs.declared.agent.Class.{Class}
 use Rattle.ga_agents.specs.declared.row.Rule.{Rule}
@@ -45,6 +45,17 @@ pub record IsAgent (file : List Rule) (agent : List ℕ) (answer : Agent) : Type
   pub system : HasSystem agent answer.system answer.system_group
   pub crawler : IsTrue answer.crawler ↔ (answer.category ≡ crawlers)
 
+-- each rule of a browsers file has a token and a category
+abbrev pub AreNamed : List Rule → Type 0
+AreNamed rules = AllByRecursion (λ (rule : Rule). (rule.token ≢ []) × (rule.category ≢ [])) rules
+
+-- so nothing that an answer tells is empty
+pub record HasNames (answer : Agent) : Type 0 where
+  pub browser : answer.browser ≢ []
+  pub category : answer.category ≢ []
+  pub system : answer.system ≢ []
+  pub system_group : answer.system_group ≢ []
+
 -- what the borrowed form of an answer tells: each of its texts, and whether it is a crawler
 abbrev pub agent_of : Class → Agent
 agent_of class = record {
@@ -66,3 +77,7 @@ IsSomething file agent = (answer : Agent) × IsAgent file agent answer
 -- and it is no two things
 abbrev pub IsOneThing : List Rule → List ℕ → Type 0
 IsOneThing file agent = (one two : Agent) → IsAgent file agent one → IsAgent file agent two → one ≡ two
+
+-- what tells whether an agent is a crawler
+abbrev pub TellsCrawlers : List Rule → List ℕ → Type 0
+TellsCrawlers file agent = (answer : Agent) → IsAgent file agent answer → IsTrue answer.crawler ↔ IsCrawler file agent

@@ -1,7 +1,7 @@
 ghost use Rattle.std.specs.Prelude.{◌≡◌, ◌↔◌, ◌++◌, ℕ, [], List, IfOk, IfErr, OnOk, Ok, Err, IsTrue};
 ghost use Rattle.ga_agents.specs.declared.agent.Agent.{Agent as AgentSpec};
 ghost use Rattle.ga_agents.specs.declared.row.Rule.{Rule as RuleSpec};
-ghost use Rattle.ga_agents.specs.Classes.{IsAgent, IsCrawler, agent_of};
+ghost use Rattle.ga_agents.specs.Classes.{HasNames, IsAgent, IsCrawler, agent_of};
 ghost use Rattle.ga_agents.specs.RulesFile.{FileGives, IsBadLine, IsFileFault, LineGives, UnlessNoMemory};
 ghost use Rattle.ga_agents.specs.Steps.{IsLineFault};
 
@@ -30,7 +30,11 @@ impl Model for Rules {
 
     ghost Value = { List TheRule };
 
+    ghost use Rattle.ga_agents.specs.Classes.{AreNamed};
+
     ghost view = { λ rules. rules.file };
+
+    ghost invariant = { λ rules. AreNamed rules.file };
 }
 
 impl Rules {
@@ -68,12 +72,13 @@ impl Rules {
     /// What an agent tells, borrowed from the agent and from these rules. This takes no memory. The first rule counts
     /// whose token is a substring of the agent, byte for byte. The browser is the text from the token's first place up
     /// to the first space, `;`, `,`, `(` or `)` at or after the token's end, or to the end. The first system counts in
-    /// the same way. What no entry gives is `Unknown`.
-    pub fn class_of<'a>(&'a self, agent: &'a Text) -> Class<'a>
-        ensures { IsAgent self.now agent.now (agent_of result) }
+    /// the same way. What no entry gives is `Unknown`, so none of these texts is empty.
+    pub fn class_of<'a>(&'a self, agent: &'a str) -> Class<'a>
+        ensures agent { IsAgent self.now agent.now (agent_of result) }
+        ensures named { HasNames (agent_of result) }
     {
-        let browser = browser_in(self.file.items(), agent.as_str());
-        let system = system_in(agent.as_str());
+        let browser = browser_in(self.file.items(), agent);
+        let system = system_in(agent);
         Class {
             browser: browser.name,
             category: browser.category,
@@ -85,9 +90,10 @@ impl Rules {
 
     /// What an agent tells, as `class_of` does, in texts of its own.
     pub fn classify(&self, agent: &Text) -> Result<Agent, NoMemory>
-        ensures { IfOk result (IsAgent self.now agent.now) }
+        ensures agent { IfOk result (IsAgent self.now agent.now) }
+        ensures named { IfOk result HasNames }
     {
-        self.class_of(agent).to_agent(self.alloc)
+        self.class_of(agent.as_str()).to_agent(self.alloc)
     }
 
     /// Whether the category of an agent is `Crawlers`. This takes no memory.

@@ -71,7 +71,7 @@ fn agents_are_told_apart(rt: HostRuntime) -> Result<(), Fail> {
     for row in AGENTS.lines() {
         let (text, expected) = cells(row);
         let agent = Text::of(alloc, text)?;
-        let said = told(alloc, rules.class_of(&agent))?;
+        let said = told(alloc, rules.class_of(agent.as_str()))?;
         assert_eq!(rt; said.as_str(), expected, "{text}");
         assert_eq!(rt;
             rules.is_crawler(&agent),

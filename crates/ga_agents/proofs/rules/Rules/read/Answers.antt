@@ -1,7 +1,11 @@
 use Rattle.std.proofs.Common.{Ok}
 use Rattle.std.proofs.lemmas.Result.{err_from_is_err_and}
 use Rattle.ga_agents.proofs.FileLemmas.{only_list, only_fault, only_list_err, only_fault_err}
+use Rattle.ga_agents.proofs.NameLemmas.{file_named}
 use Rattle.ga_agents.proofs.rules.Rules.read.Goals as goal
+
+pub invariant_of-result : goal.invariant_of-result
+invariant_of-result c = file_named c.args.text.now _ c.in_ok-read_rules.ensures.rules
 
 pub returns-in_err-read_rules-clause-only_rules : goal.returns-in_err-read_rules-clause-only_rules
 returns-in_err-read_rules-clause-only_rules c =
