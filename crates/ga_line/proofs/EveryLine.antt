@@ -2,7 +2,7 @@
 use Rattle.std.proofs.Common.{◌≡◌, ◌≢◌, ℕ, ◌≤◌, Bool, true, false, List, [], ◌∷◌, ◌++◌, Option, Some, None, length, refl, sym, ap, ◌∙◌, subst, arith, inl, inr, ⊎_elim}
 use Rattle.std.proofs.lemmas.Bool.{cases_lt}
 use Rattle.std.proofs.lemmas.List.Sums.{AllPass-from_list_all, list_all-from_AllPass}
-use Rattle.std.specs.Prelude.{IfSome}
+use Rattle.std.specs.Prelude.{IfSome, unwrap_or}
 use Rattle.std.specs.Str.{all_ascii_digits}
 use Rattle.std.specs.Str.Parse.{digits_value}
 use Rattle.ga_base.specs.declared.counts.TheConstants.{BIG}
@@ -13,13 +13,21 @@ use Rattle.ga_base.specs.declared.record.Record.{Record}
 use Rattle.ga_dates.specs.declared.item.Item.{Item}
 use Rattle.ga_line.specs.declared.numbers.Numbers.{Numbers}
 use Rattle.ga_line.specs.declared.setup.LineSetup.{LineSetup}
-use Rattle.ga_line.specs.Fits.{Part, Fits, IsFree, nothing, byte, pair, EndsAt, SkipsSpace, is_space, double_quote, backslash, field}
-use Rattle.ga_line.specs.Letters.{host_letter, date_letter, time_letter, both_letter, method_letter, protocol_letter, status_letter, size_letter, referrer_letter, agent_letter, vhost_letter, user_letter, cache_letter, mime_letter, tls_letter, micros_letter, millis_letter, seconds_letter}
-use Rattle.ga_line.specs.Records.{IsMissing, day_text, request_text, taken_part, HasMinute, HasMoment, SaysMoment, IsStatus, HasStatus, size_value, AreDigits, decimal_value, IsDecimal, whole, parted, IsMicros, in_micros, in_millis, in_seconds, HasMicros, IsPassedOver, IsRefused, no_host, no_date, no_request, bad_moment, bad_status, too_large, too_slow, Fails, too_long, misfit, refused, longest_line, utf8_text, said_text, url_text, SaysSomething}
+use Rattle.ga_line.specs.Fits.{Part, Fits, IsFree, nothing, byte, pair, EndsAt, SkipsSpace, is_space, double_quote, backslash, field, IsForwarded, host_part}
+use Rattle.ga_line.specs.Letters.{host_letter, date_letter, time_letter, both_letter, request_letter, method_letter, path_letter, protocol_letter, status_letter, size_letter, referrer_letter, agent_letter, vhost_letter, user_letter, cache_letter, mime_letter, tls_letter, micros_letter, millis_letter, seconds_letter}
+use Rattle.ga_line.specs.Records.{IsMissing, IsNoAddress, IfKnown, HasRequest, AsksFor, url_of, day_text, request_text, taken_part, HasMinute, HasMoment, SaysMoment, IsStatus, HasStatus, size_value, AreDigits, decimal_value, IsDecimal, whole, parted, IsMicros, in_micros, in_millis, in_seconds, HasMicros, IsPassedOver, IsRefused, no_host, no_date, no_request, no_address, bad_moment, bad_status, too_large, too_slow, Fails, too_long, misfit, refused, longest_line, utf8_text, said_text, SaysSomething}
 use Rattle.ga_line.specs.Steps.Valid.{HasNumbers}
 use Rattle.ga_line.proofs.AcceptLemmas.{accepted-line, has-numbers}
 use Rattle.ga_line.proofs.FreeLemmas.{EndsAt-unique}
-use Rattle.ga_line.proofs.UniqueFits.{SkipsSpace-unique}
+use Rattle.bstr.specs.Bytes.{is_in}
+use Rattle.ga_requests.specs.Tables.{IsMethod, IsProtocol}
+use Rattle.ga_line.specs.Forwarded.{FirstAddress, entries}
+use Rattle.ga_line.specs.Steps.Forwarding.{HasChain}
+use Rattle.ga_line.proofs.AddressKnown.{known-address}
+use Rattle.ga_line.proofs.ChainLemmas.{known-chain}
+use Rattle.ga_line.proofs.ForwardLemmas.{chains-nowhere, chains-elsewhere}
+use Rattle.ga_line.proofs.RequestKnown.{known-method, known-protocol, some-split}
+use Rattle.ga_line.proofs.UniqueFits.{SkipsSpace-unique, forwarded-unique}
 use Rattle.ga_line.proofs.Known.{IsKnown, known-both, known-less, known-most, known-same, known-true, known-text, IsParted, known-parted, known-date, known-time, known-moment}
 use Rattle.ga_line.proofs.ReadLemmas.{says-record}
 
@@ -105,6 +113,39 @@ skip-space (b ∷ rest) = one (is_space b) refl (skip-space rest)
 abbrev IsFitting : List FormatItem → List ℕ → Type 0
 IsFitting items rest = (parts : List Part) × Fits items rest parts
 
+None≢Some : {x : List ℕ} → None ≡ Some x → ⊥
+None≢Some e = cc
+
+same-Some : {x y : List ℕ} → Some x ≡ Some y → x ≡ y
+same-Some e = cc
+
+-- the first address of some texts
+some-first : (texts : List (List ℕ)) → (host : Option (List ℕ)) × FirstAddress texts host
+some-first [] = (None, refl)
+some-first (text ∷ texts) =
+    ⊎_elim (λ address. (Some text, inl (address, refl))) (λ none. let later = some-first texts in (later.0, inr (none, later.1))) (known-address text)
+
+-- whether a chain ends the line, or a literal follows it
+known-forwarded : (chained : Bool) (separators : List ℕ) (stop : ℕ) (rest : List ℕ) → IsKnown ((host left : Option (List ℕ)) × IsForwarded chained separators stop rest host left)
+known-forwarded false separators stop rest =
+    ⊎_elim
+    (λ (text, after, ends). let host = some-first (entries separators text) in inl (host.0, Some after, (text, ends, host.1)))
+    (λ none. let host = some-first (entries separators rest) in inl (host.0, None, (λ text after ends. none (text, after, ends), host.1)))
+    (known-end stop rest)
+known-forwarded true separators stop rest = ⊎_elim (λ (host, after, has). before host after has) (λ none. inr (λ (host, left, is). chains-nowhere separators stop rest (λ h a has. none (h, a, has)) host left is)) (known-chain separators rest)
+  where
+    Chained : Option (List ℕ) → Option (List ℕ) → Type 0
+    Chained host left = IsForwarded true separators stop rest host left
+
+    before : (host after : List ℕ) → HasChain separators rest host after → IsKnown ((host left : Option (List ℕ)) × Chained host left)
+    before host [] has = inl (Some host, None, has)
+    before host (b ∷ after) has =
+        ⊎_elim (λ same. inl (Some host, Some after, subst (λ (x : ℕ). HasChain separators rest host (x ∷ after)) same has)) (λ apart. inr (λ (other, left, is). chains-elsewhere separators stop rest host b after has apart other left is)) (known-same b stop)
+
+known-last : (separators rest : List ℕ) → IsKnown (IsFitting (Forwarded separators ∷ []) rest)
+known-last separators rest =
+    ⊎_elim (λ (host, after, (text, is)). inl (host_part (Some host), (host, text, after, is, refl))) (λ none. inr (λ (parts, (host, text, after, is, e)). none (host, after, (text, is)))) (known-chain separators rest)
+
 known-fit : (items : List FormatItem) (rest : List ℕ) → IsKnown (IsFitting items rest)
 known-fit [] rest = inl ([], refl)
 known-fit (Literal b ∷ items) [] = inr (λ (parts, fits). no-byte fits.0 fits.1)
@@ -140,12 +181,39 @@ known-fit (Field letter ∷ Literal stop ∷ items) rest = cut (known-end stop r
 known-fit (Field letter ∷ Skip ∷ items) rest = inl ((letter, rest) ∷ [], refl)
 known-fit (Field letter ∷ Field other ∷ items) rest = inl ((letter, rest) ∷ [], refl)
 known-fit (Field letter ∷ Forwarded separators ∷ items) rest = inl ((letter, rest) ∷ [], refl)
-known-fit (Forwarded separators ∷ items) rest = inr (λ (parts, fits). fits)
+known-fit (Forwarded separators ∷ []) rest = known-last separators rest
+known-fit (Forwarded separators ∷ Literal stop ∷ items) rest = cut (known-forwarded (is_in separators stop) separators stop rest) (λ after. known-fit items after)
+  where
+    Forward : Option (List ℕ) → Option (List ℕ) → Type 0
+    Forward host left = IsForwarded (is_in separators stop) separators stop rest host left
+
+    behind : (host : Option (List ℕ)) (after : List ℕ) → Forward host (Some after) → IsKnown (IsFitting items after) → IsKnown (IsFitting (Forwarded separators ∷ Literal stop ∷ items) rest)
+    behind host after has (inl (later, fits)) = inl (host_part host ++ later, inr (host, after, later, has, refl, fits))
+    behind host after has (inr none) = inr (λ (parts, fits). no-later parts fits)
+      where
+        no-later : (parts : List Part) → ¬ Fits (Forwarded separators ∷ Literal stop ∷ items) rest parts
+        no-later parts (inl ends) = None≢Some (forwarded-unique (is_in separators stop) separators stop rest ends.0 None host (Some after) ends.1 has).1
+        no-later parts (inr cut) =
+            none (cut.2, subst (λ (a : List ℕ). Fits items a cut.2) (same-Some (forwarded-unique (is_in separators stop) separators stop rest cut.0 (Some cut.1) host (Some after) cut.3 has).1) cut.5)
+
+    cut : IsKnown ((host left : Option (List ℕ)) × Forward host left) → ((after : List ℕ) → IsKnown (IsFitting items after)) → IsKnown (IsFitting (Forwarded separators ∷ Literal stop ∷ items) rest)
+    cut (inl (host, None, has)) known = inl (host_part host, inl (host, has, refl))
+    cut (inl (host, Some after, has)) known = behind host after has (known after)
+    cut (inr none) known = inr (λ (parts, fits). ⊎_elim (λ ends. none (ends.0, None, ends.1)) (λ cut. none (cut.0, Some cut.1, cut.3)) fits)
+known-fit (Forwarded separators ∷ Skip ∷ items) rest = known-last separators rest
+known-fit (Forwarded separators ∷ Field letter ∷ items) rest = known-last separators rest
+known-fit (Forwarded separators ∷ Forwarded others ∷ items) rest = known-last separators rest
 
 -- whether a field is missing
 known-missing : (text : Option (List ℕ)) → IsKnown (IsMissing text)
 known-missing None = inl tt
 known-missing (Some text) = known-text text []
+
+-- whether the host is no address where it has to be one
+known-no-address : (any : Bool) (host : Option (List ℕ)) → IsKnown (IsNoAddress any host)
+known-no-address true host = inr (λ h. h)
+known-no-address false None = inr (λ h. h)
+known-no-address false (Some host) = ⊎_elim (λ address. inr (λ none. none address)) (λ none. inl none) (known-address host)
 
 -- whether the fields say a moment, a status and a time taken
 known-minute : (times : List Item) (time : Option (List ℕ)) → IsKnown ((minute : Option ℕ) × HasMinute times time minute)
@@ -234,17 +302,35 @@ some-micros : (part : Option Part) → (micros : Option ℕ) × HasMicros part m
 some-micros None = (None, refl)
 some-micros (Some part) = ⊎_elim (λ (n, is). (Some n, is)) (λ none. (None, λ n is. none (n, is))) (known-micros part)
 
+-- what the fields say of the request
+if-known : (IsOne : List ℕ → Type 0) → ((text : List ℕ) → IsKnown (IsOne text)) → (text : Option (List ℕ)) → (known : List ℕ) × IfKnown IsOne text known
+if-known IsOne tells None = ([], refl)
+if-known IsOne tells (Some text) = ⊎_elim (λ is. (text, inl (is, refl))) (λ none. ([], inr (none, refl))) (tells text)
+
+of-fields : (line method path protocol : Option (List ℕ)) → (m t p : List ℕ) × HasRequest line method path protocol m t p
+of-fields (Some line) method path protocol = some-split line
+of-fields None method path protocol =
+    let m = if-known IsMethod known-method method in
+    let p = if-known IsProtocol known-protocol protocol in
+    (m.0, unwrap_or path [], p.0, (m.1, refl, p.1))
+
+some-request : (setup : LineSetup) (parts : List Part) → (m u p : List ℕ) × AsksFor setup parts m u p
+some-request setup parts =
+    let says = of-fields (field request_letter parts) (field method_letter parts) (field path_letter parts) (field protocol_letter parts) in
+    (says.0, url_of setup says.1 parts, says.2, record { target = says.1; request = says.3; url = refl })
+
 -- a line that fits is refused, or says a record
 module _ (setup : LineSetup) (line : List ℕ) (read : ¬ IsPassedOver line) (parts : List Part) (fits : Fits setup.format line parts) where
   says-numbers : ¬ Fails setup line → (numbers : Numbers) → HasNumbers setup parts numbers → SaysSomething setup line
   says-numbers accepted numbers has =
+      let asks = some-request setup parts in
       let good : Record = record {
         host = utf8_text (field host_letter parts);
         date = numbers.date;
         minute = numbers.minute;
-        method = utf8_text (field method_letter parts);
-        protocol = utf8_text (field protocol_letter parts);
-        url = url_text parts;
+        method = asks.0;
+        protocol = asks.2;
+        url = asks.1;
         status = numbers.status;
         bytes = numbers.bytes;
         micros = numbers.micros;
@@ -259,9 +345,7 @@ module _ (setup : LineSetup) (line : List ℕ) (read : ¬ IsPassedOver line) (pa
         Good good,
         says-record setup line parts numbers good read accepted fits has (record { date = refl; minute = refl; status = refl; bytes = refl; micros = refl }) (record {
           host = refl;
-          method = refl;
-          protocol = refl;
-          url = refl;
+          request = asks.3;
           referrer = refl;
           agent = refl;
           vhost = refl;
@@ -275,12 +359,12 @@ module _ (setup : LineSetup) (line : List ℕ) (read : ¬ IsPassedOver line) (pa
   fails-for : IsRefused setup parts → SaysSomething setup line
   fails-for cause = (Failed, (read, refused parts fits cause))
 
-  module _ (short : length line ≤ longest_line) (host : ¬ IsMissing (field host_letter parts)) (day : ¬ IsMissing (day_text parts)) (request : ¬ IsMissing (request_text parts))
+  module _ (short : length line ≤ longest_line) (host : ¬ IsMissing (field host_letter parts)) (day : ¬ IsMissing (day_text parts)) (request : ¬ IsMissing (request_text parts)) (address : ¬ IsNoAddress setup.no_ip_validation (field host_letter parts))
       (date : ℕ) (minute : Option ℕ) (moment : SaysMoment setup parts date minute) (status : ℕ) (is_status : HasStatus setup.strict_status (field status_letter parts) status) where
     with-amounts : size_value (field size_letter parts) ≤ BIG → (micros : Option ℕ) → HasMicros (taken_part parts) micros → IfSome micros (λ m. m ≤ BIG) → SaysSomething setup line
     with-amounts within micros has few =
         let numbers : Numbers = record { date = date; minute = minute; status = status; bytes = size_value (field size_letter parts); micros = micros } in
-        let all = has-numbers setup parts numbers host day request moment is_status refl within has few in
+        let all = has-numbers setup parts numbers host day request address moment is_status refl within has few in
         says-numbers (accepted-line setup line parts short fits all.accepted) numbers all
 
     by-time : size_value (field size_letter parts) ≤ BIG → (micros : Option ℕ) → HasMicros (taken_part parts) micros → SaysSomething setup line
@@ -294,17 +378,18 @@ module _ (setup : LineSetup) (line : List ℕ) (read : ¬ IsPassedOver line) (pa
 
   by-parts : length line ≤ longest_line → SaysSomething setup line
   by-parts short = host (known-missing (field host_letter parts)) (known-missing (day_text parts)) (known-missing (request_text parts))
-      (known-said-moment setup (field both_letter parts) (field date_letter parts) (field time_letter parts)) (known-status setup.strict_status (field status_letter parts))
+      (known-no-address setup.no_ip_validation (field host_letter parts)) (known-said-moment setup (field both_letter parts) (field date_letter parts) (field time_letter parts)) (known-status setup.strict_status (field status_letter parts))
     where
       host : IsKnown (IsMissing (field host_letter parts)) → IsKnown (IsMissing (day_text parts)) → IsKnown (IsMissing (request_text parts))
-          → IsKnown (IsMoment setup (field both_letter parts) (field date_letter parts) (field time_letter parts)) → IsKnown ((status : ℕ) × HasStatus setup.strict_status (field status_letter parts) status)
+          → IsKnown (IsNoAddress setup.no_ip_validation (field host_letter parts)) → IsKnown (IsMoment setup (field both_letter parts) (field date_letter parts) (field time_letter parts)) → IsKnown ((status : ℕ) × HasStatus setup.strict_status (field status_letter parts) status)
           → SaysSomething setup line
-      host (inl none) day request moment status = fails-for (no_host none)
-      host (inr h) (inl none) request moment status = fails-for (no_date none)
-      host (inr h) (inr d) (inl none) moment status = fails-for (no_request none)
-      host (inr h) (inr d) (inr r) (inr none) status = fails-for (bad_moment (λ date minute says. none (date, minute, says)))
-      host (inr h) (inr d) (inr r) (inl m) (inr none) = fails-for (bad_status (λ status is. none (status, is)))
-      host (inr h) (inr d) (inr r) (inl m) (inl s) = by-amounts short h d r m.0 m.1 m.2 s.0 s.1
+      host (inl none) day request address moment status = fails-for (no_host none)
+      host (inr h) (inl none) request address moment status = fails-for (no_date none)
+      host (inr h) (inr d) (inl none) address moment status = fails-for (no_request none)
+      host (inr h) (inr d) (inr r) (inl bad) moment status = fails-for (no_address bad)
+      host (inr h) (inr d) (inr r) (inr a) (inr none) status = fails-for (bad_moment (λ date minute says. none (date, minute, says)))
+      host (inr h) (inr d) (inr r) (inr a) (inl m) (inr none) = fails-for (bad_status (λ status is. none (status, is)))
+      host (inr h) (inr d) (inr r) (inr a) (inl m) (inl s) = by-amounts short h d r a m.0 m.1 m.2 s.0 s.1
 
 -- a line that isn't passed over
 unpassed : (setup : LineSetup) (line : List ℕ) → ¬ IsPassedOver line → SaysSomething setup line

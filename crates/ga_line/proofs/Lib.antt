@@ -1,15 +1,23 @@
 mod AcceptLemmas
+mod AddressKnown
 pub mod BoundLemmas
+mod ChainLemmas
 mod DecimalLemmas
 mod EveryLine
 mod FieldLemmas
 mod FitLemmas
+mod ForwardLemmas
 mod FreeLemmas
+mod KnownTexts
 mod LineLemmas
 mod Known
 mod NumbersLemmas
 mod PlaceLemmas
+mod PlainUrls
 mod ReadLemmas
+mod RequestKnown
+mod RunLemmas
+mod SeparatorLemmas
 mod SizeLemmas
 mod SpaceLemmas
 mod UniqueFits

@@ -7,9 +7,11 @@ use Rattle.ga_dates.specs.Items.{IsComplete}
 use Rattle.ga_line.specs.declared.setup.LineSetup.{LineSetup}
 use Rattle.ga_line.specs.declared.numbers.Numbers.{Numbers}
 use Rattle.ga_line.specs.Fits.{Part, Fits, field}
-use Rattle.ga_line.specs.Letters.{status_letter}
+use Rattle.ga_line.specs.Letters.{request_letter, method_letter, path_letter, protocol_letter, status_letter}
 use Rattle.ga_dates.specs.declared.item.Item.{Item}
-use Rattle.ga_line.specs.Records.{HasMinute, HasMoment, HasStatus, HasMicros, SaysMoment, HasTexts, IsRecordOf, IsPassedOver, IsLineOf, Fails, SaysOneThing, taken_part}
+use Rattle.ga_requests.specs.Requests.{HasParts}
+use Rattle.ga_requests.specs.Tables.{IsMethod, IsProtocol}
+use Rattle.ga_line.specs.Records.{HasMinute, HasMoment, HasStatus, HasMicros, SaysMoment, HasTexts, IfKnown, HasRequest, AsksFor, url_of, IsRecordOf, IsPassedOver, IsLineOf, Fails, SaysOneThing, taken_part}
 use Rattle.ga_line.specs.Steps.Valid.{HasNumbers, AreOf}
 use Rattle.ga_dates.specs.Spelling.{SpellsDate, SpellsTime, SpellsBoth}
 use Rattle.ga_line.proofs.DecimalLemmas.{micros-unique}
@@ -17,7 +19,7 @@ use Rattle.ga_line.proofs.UniqueFits.{Fits-unique}
 
 -- the record of the fields and their numbers is what the line says
 pub says-record : (setup : LineSetup) (line : List ℕ) (parts : List Part) (numbers : Numbers) (rec : Record) → ¬ IsPassedOver line → ¬ Fails setup line → Fits setup.format line parts
-    → HasNumbers setup parts numbers → AreOf numbers rec → HasTexts parts rec → IsLineOf setup line (Good rec)
+    → HasNumbers setup parts numbers → AreOf numbers rec → HasTexts setup parts rec → IsLineOf setup line (Good rec)
 says-record setup line parts numbers rec read accepted fits has are texts = (
   read,
   accepted,
@@ -60,7 +62,30 @@ abbrev pub OneDateAndTime : Type 0
 OneDateAndTime = (dates times : List Item) → IsComplete Date dates → IsComplete Time times → (text : List ℕ) (date minute other_date other_minute : ℕ)
     → SpellsBoth dates times text date minute → SpellsBoth dates times text other_date other_minute → (date ≡ other_date) × (minute ≡ other_minute)
 
-module _ (one_date : OneDate) (one_time : OneTime) (one_both : OneDateAndTime) where
+-- a text is split in one way
+abbrev pub OneSplit : Type 0
+OneSplit = (text method target protocol other_method other_target other_protocol : List ℕ) → HasParts text method target protocol → HasParts text other_method other_target other_protocol
+    → (method ≡ other_method) × (target ≡ other_target) × (protocol ≡ other_protocol)
+
+if-known-unique : (IsOne : List ℕ → Type 0) (text : Option (List ℕ)) (known known' : List ℕ) → IfKnown IsOne text known → IfKnown IsOne text known' → known ≡ known'
+if-known-unique IsOne None known known' one two = one ∙ sym two
+if-known-unique IsOne (Some text) known known' (inl one) (inl two) = one.1 ∙ sym two.1
+if-known-unique IsOne (Some text) known known' (inl one) (inr two) = absurd (two.0 one.0)
+if-known-unique IsOne (Some text) known known' (inr one) (inl two) = absurd (one.0 two.0)
+if-known-unique IsOne (Some text) known known' (inr one) (inr two) = one.1 ∙ sym two.1
+
+request-unique : OneSplit → (line method path protocol : Option (List ℕ)) (m t p m' t' p' : List ℕ) → HasRequest line method path protocol m t p → HasRequest line method path protocol m' t' p'
+    → (m ≡ m') × (t ≡ t') × (p ≡ p')
+request-unique one_split (Some line) method path protocol m t p m' t' p' one two = one_split line m t p m' t' p' one two
+request-unique one_split None method path protocol m t p m' t' p' one two =
+    (if-known-unique IsMethod method m m' one.0 two.0, one.1 ∙ sym two.1, if-known-unique IsProtocol protocol p p' one.2 two.2)
+
+asks-unique : OneSplit → (setup : LineSetup) (parts : List Part) (m u p m' u' p' : List ℕ) → AsksFor setup parts m u p → AsksFor setup parts m' u' p' → (m ≡ m') × (u ≡ u') × (p ≡ p')
+asks-unique one_split setup parts m u p m' u' p' one two =
+    let same = request-unique one_split (field request_letter parts) (field method_letter parts) (field path_letter parts) (field protocol_letter parts) m one.target p m' two.target p' one.request two.request in
+    (same.0, one.url ∙ ap (λ (t : List ℕ). url_of setup t parts) same.1 ∙ sym two.url, same.2)
+
+module _ (one_split : OneSplit) (one_date : OneDate) (one_time : OneTime) (one_both : OneDateAndTime) where
   minute-unique : (times : List Item) → IsComplete Time times → (time : Option (List ℕ)) (minute minute' : Option ℕ) → HasMinute times time minute → HasMinute times time minute' → minute ≡ minute'
   minute-unique times whole None minute minute' one two = one ∙ sym two
   minute-unique times whole (Some time) minute minute' one two = one.1 ∙ ap Some (one_time times whole time one.0 two.0 one.2 two.2) ∙ sym two.1
@@ -81,9 +106,7 @@ module _ (one_date : OneDate) (one_time : OneTime) (one_both : OneDateAndTime) w
       let b = two.texts in
       let moment = moment-unique setup dates times _ _ _ rec.date rec'.date rec.minute rec'.minute one.moment two.moment in
       let host : rec.host ≡ rec'.host = a.host ∙ sym b.host in
-      let method : rec.method ≡ rec'.method = a.method ∙ sym b.method in
-      let protocol : rec.protocol ≡ rec'.protocol = a.protocol ∙ sym b.protocol in
-      let url : rec.url ≡ rec'.url = a.url ∙ sym b.url in
+      let asks = asks-unique one_split setup parts rec.method rec.url rec.protocol rec'.method rec'.url rec'.protocol a.request b.request in
       let status : rec.status ≡ rec'.status = status-unique setup.strict_status _ rec.status rec'.status one.status two.status in
       let bytes : rec.bytes ≡ rec'.bytes = one.bytes ∙ sym two.bytes in
       let micros : rec.micros ≡ rec'.micros = taken-unique (taken_part parts) rec.micros rec'.micros one.micros two.micros in
@@ -98,9 +121,9 @@ module _ (one_date : OneDate) (one_time : OneTime) (one_both : OneDateAndTime) w
         host = host i;
         date = moment.0 i;
         minute = moment.1 i;
-        method = method i;
-        protocol = protocol i;
-        url = url i;
+        method = asks.0 i;
+        protocol = asks.2 i;
+        url = asks.1 i;
         status = status i;
         bytes = bytes i;
         micros = micros i;

@@ -10,6 +10,10 @@ use Rattle.ga_base.specs.declared.record.Line.TheVariants.{Skipped, Failed, Good
 use Rattle.ga_base.specs.declared.record.Record.{Record}
 use Rattle.ga_dates.specs.declared.item.Item.{Item}
 use Rattle.ga_dates.specs.Spelling.{SpellsDate, SpellsTime, SpellsBoth}
+use Rattle.ga_hosts.specs.Addresses.{IsAddress}
+use Rattle.ga_requests.specs.Requests.{HasParts}
+use Rattle.ga_requests.specs.Tables.{IsMethod, IsProtocol}
+use Rattle.ga_requests.specs.Urls as urls
 use Rattle.ga_line.specs.declared.setup.LineSetup.{LineSetup}
 use Rattle.ga_line.specs.Fits.{Part, Fits, field}
 use Rattle.ga_line.specs.Letters.{host_letter, date_letter, time_letter, both_letter, request_letter, method_letter, path_letter, query_letter, protocol_letter, status_letter, size_letter, referrer_letter, agent_letter, vhost_letter, user_letter, cache_letter, mime_letter, tls_letter, micros_letter, millis_letter, seconds_letter, is_taken_letter}
@@ -99,11 +103,18 @@ HasMicros (Some part) (Some number) = IsMicros part number
 abbrev pub IsPassedOver : List ℕ → Type 0
 IsPassedOver line = (line ≡ []) ⊎ ((comment : List ℕ) × (line ≡ 35 ∷ comment))
 
+-- the host is there and no address; with the option that lets any text be a host, that is no cause
+abbrev pub IsNoAddress : Bool → Option (List ℕ) → Type 0
+IsNoAddress true host = ⊥
+IsNoAddress false None = ⊥
+IsNoAddress false (Some host) = ¬ IsAddress host
+
 -- why a line that fits, with these fields, is refused
 pub data IsRefused (setup : LineSetup) (parts : List Part) : Type 0 where
   no_host : IsMissing (field host_letter parts) → IsRefused setup parts
   no_date : IsMissing (day_text parts) → IsRefused setup parts
   no_request : IsMissing (request_text parts) → IsRefused setup parts
+  no_address : IsNoAddress setup.no_ip_validation (field host_letter parts) → IsRefused setup parts
   bad_moment : ((date : ℕ) (minute : Option ℕ) → ¬ SaysMoment setup parts date minute) → IsRefused setup parts
   bad_status : ((status : ℕ) → ¬ HasStatus setup.strict_status (field status_letter parts) status) → IsRefused setup parts
   too_large : BIG < size_value (field size_letter parts) → IsRefused setup parts
@@ -136,16 +147,43 @@ abbrev pub with_query : List ℕ → List ℕ → List ℕ
 with_query path [] = path
 with_query path (byte ∷ query) = path ++ (if byte == 63 then byte ∷ query else 63 ∷ byte ∷ query)
 
--- the URL that was asked for, with its query
-abbrev pub url_text : List Part → List ℕ
-url_text parts = utf8_lossy (with_query (unwrap_or (request_text parts) []) (said (field query_letter parts)))
+-- a text that counts only where it is known, and is empty else
+abbrev pub IfKnown : (List ℕ → Type 0) → Option (List ℕ) → List ℕ → Type 0
+IfKnown IsOne None known = known ≡ []
+IfKnown IsOne (Some text) known = (IsOne text × (known ≡ text)) ⊎ ((¬ IsOne text) × (known ≡ []))
+
+-- the method, the target and the protocol that the texts of `%r`, `%m`, `%U` and `%H` have: those of the request line, or the
+-- path, and a method and a protocol where they are known ones
+abbrev pub HasRequest : Option (List ℕ) → Option (List ℕ) → Option (List ℕ) → Option (List ℕ) → List ℕ → List ℕ → List ℕ → Type 0
+HasRequest (Some request) method path protocol m target p = HasParts request m target p
+HasRequest None method path protocol m target p = IfKnown IsMethod method m × (target ≡ unwrap_or path []) × IfKnown IsProtocol protocol p
+
+abbrev pub SaysRequest : List Part → List ℕ → List ℕ → List ℕ → Type 0
+SaysRequest parts m target p =
+    HasRequest (field request_letter parts) (field method_letter parts) (field path_letter parts) (field protocol_letter parts) m target p
+
+-- how often a URL is decoded
+abbrev pub decodings : LineSetup → ℕ
+decodings setup = if setup.double_decode then 2 else 1
+
+-- a target without its query where queries aren't asked for
+abbrev pub kept_of : LineSetup → List ℕ → List ℕ
+kept_of setup target = if setup.no_query then urls.without_query target else target
+
+-- the URL of a target and of the query's own field: joined, then cut, then decoded and made UTF-8
+abbrev pub url_of : LineSetup → List ℕ → List Part → List ℕ
+url_of setup target parts = urls.url_text (decodings setup) (kept_of setup (with_query target (said (field query_letter parts))))
+
+-- the record has what these fields say of the request
+pub record AsksFor (setup : LineSetup) (parts : List Part) (method address protocol : List ℕ) : Type 0 where
+  pub target : List ℕ
+  pub request : SaysRequest parts method target protocol
+  pub url : address ≡ url_of setup target parts
 
 -- the record has the texts of these fields
-pub record HasTexts (parts : List Part) (rec : Record) : Type 0 where
+pub record HasTexts (setup : LineSetup) (parts : List Part) (rec : Record) : Type 0 where
   pub host : rec.host ≡ utf8_text (field host_letter parts)
-  pub method : rec.method ≡ utf8_text (field method_letter parts)
-  pub protocol : rec.protocol ≡ utf8_text (field protocol_letter parts)
-  pub url : rec.url ≡ url_text parts
+  pub request : AsksFor setup parts rec.method rec.url rec.protocol
   pub referrer : rec.referrer ≡ said_text (field referrer_letter parts)
   pub agent : rec.agent ≡ said_text (field agent_letter parts)
   pub vhost : rec.vhost ≡ said_text (field vhost_letter parts)
@@ -156,7 +194,7 @@ pub record HasTexts (parts : List Part) (rec : Record) : Type 0 where
 
 -- the record has the values of a line with these fields
 pub record IsRecordOf (setup : LineSetup) (parts : List Part) (rec : Record) : Type 0 where
-  pub texts : HasTexts parts rec
+  pub texts : HasTexts setup parts rec
   pub moment : SaysMoment setup parts rec.date rec.minute
   pub status : HasStatus setup.strict_status (field status_letter parts) rec.status
   pub bytes : rec.bytes ≡ size_value (field size_letter parts)

@@ -1,6 +1,6 @@
 ghost use Rattle.std.specs.Prelude.{◌≡◌, ◌∷◌, ◌++◌, [], ℕ, List, length};
 ghost use Rattle.std.specs.Option.{option_copied, option_map};
-ghost use Rattle.ga_line.specs.Fits.{Part, field};
+ghost use Rattle.ga_line.specs.Fits.{Part, field, host_part};
 ghost use Rattle.ga_line.specs.Steps.Fitting.{IsLetter, AreNoted, part_of, noted, noted_text, first_taken};
 ghost use Rattle.ga_line.specs.Letters.{is_taken_letter};
 ghost use Rattle.ga_line.specs.Records.{day_text, request_text, taken_part};
@@ -10,6 +10,9 @@ const FIRST_LETTER: u8 = b'@';
 
 /// How many letters fields may have, from the first one on.
 const LETTERS: usize = 64;
+
+/// The letter of the client's address.
+const HOST: u8 = b'h';
 
 /// The texts of a line's fields. None is noted for a field that the line ended before, or that the format hasn't.
 #[derive(Clone, Copy)]
@@ -37,6 +40,15 @@ impl<'a> Fields<'a> {
     {
         self.note_text(letter, text);
         self.note_taken(letter, text);
+    }
+
+    /// Notes the host, if there is one.
+    pub fn note_host(&mut self, host: Option<&'a [u8]>)
+        ensures { (before : List Part) → AreNoted before self.old → AreNoted (before ++ host_part (option_copied host.entry)) self.new }
+    {
+        if let Some(text) = host {
+            self.note(HOST, text);
+        }
     }
 
     /// Notes a text under its letter, if that is one that a field may have and has no text yet.

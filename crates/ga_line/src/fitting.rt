@@ -5,6 +5,7 @@ ghost use Rattle.ga_line.specs.Steps.Fitting.{AreNoted, EndsBefore, EndsLine};
 
 use crate::cutting::cut_at;
 use crate::fields::Fields;
+use crate::forwarded::forwarded_in;
 use ga_base::FormatItem;
 
 /// Fits a line to the items of a format, in their order. `None` where it doesn't fit.
@@ -28,7 +29,14 @@ pub(crate) fn fit<'a>(items: &[FormatItem], line: &'a [u8]) -> Option<Fields<'a>
                     return Some(fields);
                 }
             },
-            FormatItem::Forwarded(_) => return None,
+            FormatItem::Forwarded(separators) => {
+                let field = forwarded_in(rest, separators.bytes(), item_at(items, at + 1))?;
+                fields.note_host(field.host);
+                match field.after {
+                    Some(after) => rest = after,
+                    None => return Some(fields),
+                }
+            }
         }
     }
     Some(fields)

@@ -9,11 +9,13 @@ ghost use Rattle.ga_line.specs.Lines.{IsEnded, KeepsItsLines};
 ghost use Rattle.ga_line.specs.Records.{SaysOneThing, SaysSomething};
 
 use ga_dates::laws::{one_date, one_date_and_time, one_time};
+use ga_requests::laws::one_split;
 
 /// Where days and times are written by whole formats, a line says one thing: it is passed over, or fails, or is one record.
 pub fn one_meaning()
     ensures { (setup : TheSetup) (line : List ℕ) → IsComplete Date setup.date → IsComplete Time setup.time → SaysOneThing setup line }
 {
+    one_split();
     one_date();
     one_time();
     one_date_and_time();

@@ -1,14 +1,17 @@
 //! From the bytes of a log to its lines, and from a line to what it says.
 //!
-//! Start with `Lines`, the lines of a text, `LineSetup`, how they are read, and `read_line`, which reads one.
-//! `specs/Fits.antt` says when a line fits a format, `specs/Records.antt` what it then says, and
-//! `specs/Bounds.antt` which bounds its values keep to. What holds of all lines stands in `laws`.
+//! Start with `Lines`, the lines of a text, `LineSetup`, how they are read, and `read_line`, which reads one, or
+//! `read_view`, which reads it without owning it. `specs/Fits.antt` says when a line fits a format, with
+//! `specs/Forwarded.antt` for the field of forwarded hosts, `specs/Records.antt` what it then says, `specs/Bounds.antt`
+//! which bounds its values keep to, and `specs/Views.antt` which record a view is. What holds of all lines stands in `laws`.
 #![tactic(auto)]
 
+mod asking;
 mod cutting;
 mod digits;
 mod fields;
 mod fitting;
+mod forwarded;
 pub mod laws;
 mod numbers;
 mod pieces;
@@ -18,7 +21,9 @@ mod setup;
 mod status;
 #[cfg(test)]
 mod tests;
+mod view;
 
 pub use pieces::Lines;
-pub use reading::read_line;
+pub use reading::{read_line, read_view};
 pub use setup::LineSetup;
+pub use view::{LineView, RecordView};

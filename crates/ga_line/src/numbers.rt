@@ -2,7 +2,7 @@ ghost use Rattle.std.specs.Prelude.{◌≡◌, ◌↔◌, ◌<◌, ◌≤◌, �
 ghost use Rattle.std.specs.Option.{option_copied, option_map};
 ghost use Rattle.ga_line.specs.Fits.{Part};
 ghost use Rattle.ga_line.specs.Steps.Fitting.{AreNoted, part_of};
-ghost use Rattle.ga_line.specs.Records.{IsRefused, HasMinute, HasMoment, HasStatus, HasMicros, IsMicros, IsMissing, size_value};
+ghost use Rattle.ga_line.specs.Records.{IsRefused, HasMinute, HasMoment, HasStatus, HasMicros, IsMicros, IsMissing, IsNoAddress, size_value};
 ghost use Rattle.ga_line.specs.Steps.Valid.{HasNumbers, IsTooSlow};
 
 use crate::LineSetup;
@@ -11,6 +11,7 @@ use crate::fields::Fields;
 use crate::status::status_in;
 use ga_base::BIG;
 use ga_dates::{TimeFormat, read_both, read_date, read_time};
+use ga_hosts::is_address;
 
 /// What a valid line says in numbers.
 #[derive(Clone, Copy)]
@@ -33,12 +34,15 @@ const OF_MILLISECOND: usize = 3;
 const OF_SECOND: usize = 6;
 
 /// The numbers that the fields of a line say. `None` where they are refused: a part that every line has to give is absent
-/// or empty, the day or the time isn't spelt, the status is no status code, or the size or the time taken is above `BIG`.
+/// or empty, the host is no address where it has to be one, the day or the time isn't spelt, the status is no status code, or the size or the time taken is above `BIG`.
 pub(crate) fn numbers_of(setup: &LineSetup, fields: &Fields<'_>) -> Option<Numbers>
     ensures found { (parts : List Part) → AreNoted parts fields.now → IfSome result (HasNumbers setup.now parts) }
     ensures refused { (parts : List Part) → AreNoted parts fields.now → IfNone result (IsRefused setup.now parts) }
 {
     if is_missing(fields.text(b'h')) || is_missing(fields.day()) || is_missing(fields.request()) {
+        return None;
+    }
+    if is_no_address(fields.text(b'h'), setup.no_ip_validation) {
         return None;
     }
     let (date, minute) = moment_in(
@@ -66,6 +70,16 @@ fn is_missing(text: Option<&[u8]>) -> bool
     match text {
         Some(bytes) => bytes.is_empty(),
         None => true,
+    }
+}
+
+/// Whether the host is there and no address, where only addresses are hosts.
+fn is_no_address(host: Option<&[u8]>, any: bool) -> bool
+    ensures { IsTrue result ↔ IsNoAddress any (option_copied host.entry) }
+{
+    match host {
+        Some(text) => !any && !is_address(text),
+        None => false,
     }
 }
 

@@ -10,6 +10,12 @@ pub struct LineSetup {
     pub date: DateFormat,
     /// The format of `%t`, and of the time in `%x`.
     pub time: TimeFormat,
+    /// Whether the text of `%h` may be any but the empty one. Else it has to be an address, as that of `~h{C}` always has.
+    pub no_ip_validation: bool,
     /// Whether a line fails whose status is there and is no status code.
     pub strict_status: bool,
+    /// Whether URLs are percent-decoded twice, and not once.
+    pub double_decode: bool,
+    /// Whether the first `?` of a URL and what follows it are left out.
+    pub no_query: bool,
 }

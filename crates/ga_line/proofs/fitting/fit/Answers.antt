@@ -1,12 +1,14 @@
-use Rattle.std.proofs.Common.{◌+◌, ◌∷◌, ◌++◌, [], List, Bor, ℕ, drop, sym, ap, ◌∙◌, subst}
+use Rattle.std.proofs.Common.{◌+◌, ◌∷◌, ◌++◌, [], List, Bor, Option, Some, None, ℕ, drop, sym, ap, ◌∙◌, subst}
 use Rattle.std.proofs.lemmas.List.{drop_all}
 use Rattle.ga_base.specs.declared.formats.FormatItem.{FormatItem}
-use Rattle.ga_base.specs.declared.formats.FormatItem.TheVariants.{Literal, Skip, Field}
-use Rattle.ga_line.specs.Fits.{SkipsSpace}
+use Rattle.ga_base.specs.declared.formats.FormatItem.TheVariants.{Literal, Skip, Field, Forwarded}
+use Rattle.std.specs.Option.{option_copied, IfNone}
+use Rattle.ga_line.specs.Fits.{Part, Fits, SkipsSpace, host_part}
+use Rattle.ga_line.specs.Steps.Forwarding.{Forwards}
 use Rattle.ga_line.specs.Steps.Fitting.{IsReadTo, AreNoted, EndsBefore, EndsLine}
-use Rattle.ga_line.proofs.FitLemmas.{read-none, read-literal, read-space, read-field, read-to-end, read-all, left-at, next-at}
+use Rattle.ga_line.proofs.FitLemmas.{read-none, read-literal, read-space, read-field, read-to-end, read-forwarded, read-forwarded-end, read-unforwarded, forwards-here, forwards-nowhere, read-all, left-at, next-at}
 use Rattle.ga_line.proofs.fitting.fit.Goals as goal
-use Rattle.ga_line.proofs.fitting.fit.Goals.{in-Literal+in_ok-rest-in-Literal, in-Skip, in-Field+in-Some}
+use Rattle.ga_line.proofs.fitting.fit.Goals.{in-Literal+in_ok-rest-in-Literal, in-Skip, in-Field+in-Some, in-Forwarded+in_ok-field-in-Forwarded+in-Some-after}
 
 pub loop-at-init : goal.loop-at-init
 loop-at-init c = ([], read-none c.args.items.now c.args.line.now, c.none-fields.ensures)
@@ -22,6 +24,33 @@ returns-in-None-clause-fits c =
       c.note-in-None.ensures c.loop-at.invariant.0 c.loop-at.invariant.2,
     )
 
+pub returns-in_err-field-in-Forwarded-clause-misfit : goal.returns-in_err-field-in-Forwarded-clause-misfit
+returns-in_err-field-in-Forwarded-clause-misfit c =
+    let items = c.args.items.now in
+    let line = c.args.line.now in
+    let rest = c.loop-at.rest.now in
+    let left = left-at items c.loop-at.at c.index-items-at.result (Forwarded c.in-Forwarded.separators) c.loop-at-test.true (sym c.index-items-at.is ∙ c.in-Forwarded.is) in
+    let to = subst (λ (x : List FormatItem). IsReadTo items line x rest c.loop-at.invariant.0) left c.loop-at.invariant.1 in
+    subst (λ r. IfNone r ((parts : List Part) → ¬ Fits items line parts)) (sym c.from_residual-in_err-field-in-Forwarded.ensures)
+    (read-unforwarded items line c.loop-at.invariant.0 (drop (c.loop-at.at + 1) items) rest c.in-Forwarded.separators to
+    (forwards-nowhere items c.loop-at.at c.in-Forwarded.separators rest (option_copied c.item_at-in-Forwarded.result) c.bytes.result.now c.item_at-in-Forwarded.ensures c.bytes.ensures c.in_err-field-in-Forwarded.ensures.none))
+
+pub returns-in-None-after-clause-fits : goal.returns-in-None-after-clause-fits
+returns-in-None-after-clause-fits c =
+    let items = c.args.items.now in
+    let line = c.args.line.now in
+    let rest = c.loop-at.rest.now in
+    let before = c.loop-at.invariant.0 in
+    let left = left-at items c.loop-at.at c.index-items-at.result (Forwarded c.in-Forwarded.separators) c.loop-at-test.true (sym c.index-items-at.is ∙ c.in-Forwarded.is) in
+    let to = subst (λ (x : List FormatItem). IsReadTo items line x rest before) left c.loop-at.invariant.1 in
+    let host = option_copied c.in_ok-field-in-Forwarded.field.host in
+    let found = subst (λ (a : Option (Bor (List ℕ))). Forwards (option_copied c.item_at-in-Forwarded.result) c.bytes.result.now rest host (option_copied a)) c.in-None-after.is c.in_ok-field-in-Forwarded.ensures.found in
+    let has = forwards-here items c.loop-at.at c.in-Forwarded.separators rest host None (option_copied c.item_at-in-Forwarded.result) c.bytes.result.now c.item_at-in-Forwarded.ensures c.bytes.ensures found in (
+      before ++ host_part host,
+      read-forwarded-end items line before (drop (c.loop-at.at + 1) items) rest c.in-Forwarded.separators to host has,
+      c.note_host.ensures before c.loop-at.invariant.2,
+    )
+
 pub loop-at-preserved : goal.loop-at-preserved
 loop-at-preserved c =
     let items = c.args.items.now in
@@ -35,6 +64,18 @@ loop-at-preserved c =
           let to = subst (λ (x : List FormatItem). IsReadTo items line x rest before) left c.loop-at.invariant.1 in
           let begins = w.in_ok-rest-in-Literal.ensures.found ∙ ap (λ (r : Bor (List ℕ)). w.in-Literal.byte ∷ r.now) (sym w.rest-is) in
           (before, read-literal items line before more rest w.in-Literal.byte c.match-item.rest.now begins to, subst (AreNoted before) (sym w.fields-is) c.loop-at.invariant.2)
+      | in-Forwarded+in_ok-field-in-Forwarded+in-Some-after w ↦
+          let left = left-at items c.loop-at.at c.index-items-at.result (Forwarded w.in-Forwarded.separators) c.loop-at-test.true (sym c.index-items-at.is ∙ w.in-Forwarded.is) in
+          let to = subst (λ (x : List FormatItem). IsReadTo items line x rest before) left c.loop-at.invariant.1 in
+          let host = option_copied w.in_ok-field-in-Forwarded.field.host in
+          let after = w.in-Some-after.after.now in
+          let found = subst (λ (a : Option (Bor (List ℕ))). Forwards (option_copied w.item_at-in-Forwarded.result) w.bytes.result.now rest host (option_copied a)) w.in-Some-after.is w.in_ok-field-in-Forwarded.ensures.found in
+          let has = forwards-here items c.loop-at.at w.in-Forwarded.separators rest host (Some after) (option_copied w.item_at-in-Forwarded.result) w.bytes.result.now w.item_at-in-Forwarded.ensures w.bytes.ensures found in
+          let read = read-forwarded items line before more rest w.in-Forwarded.separators to host after has in (
+            before ++ host_part host,
+            subst (λ (r : Bor (List ℕ)). IsReadTo items line more r.now (before ++ host_part host)) (sym w.rest-is) read,
+            subst (AreNoted (before ++ host_part host)) (sym w.fields-is) (w.note_host.ensures before c.loop-at.invariant.2),
+          )
       | in-Skip w ↦
           let left = left-at items c.loop-at.at c.index-items-at.result Skip c.loop-at-test.true (sym c.index-items-at.is ∙ w.in-Skip.is) in
           let to = subst (λ (x : List FormatItem). IsReadTo items line x rest before) left c.loop-at.invariant.1 in

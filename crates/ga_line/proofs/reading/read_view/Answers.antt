@@ -2,9 +2,11 @@ use Rattle.std.proofs.Common.{sym, ◌∙◌, subst}
 use Rattle.std.proofs.lemmas.Bool.{false≢true}
 use Rattle.ga_line.specs.Fits.{Fits}
 use Rattle.ga_line.specs.Records.{misfit, refused}
+use Rattle.ga_line.specs.Views.{StandsInLine, record_of}
+use Rattle.ga_line.proofs.UniqueFits.{Fits-unique}
 use Rattle.ga_line.proofs.AcceptLemmas.{accepted-line}
 use Rattle.ga_line.proofs.ReadLemmas.{says-record}
-use Rattle.ga_line.proofs.reading.read_line.Goals as goal
+use Rattle.ga_line.proofs.reading.read_view.Goals as goal
 
 pub returns-in_default-clause-says : goal.returns-in_default-clause-says
 returns-in_default-clause-says c = (
@@ -19,8 +21,8 @@ returns-in-None-clause-says c =
       refused fits.0 (subst (λ items. Fits items c.args.line.now fits.0) c.items.ensures.value fits.1) (c.in-None.ensures.refused fits.0 fits.2),
     )
 
-pub returns-in_ok-record_of-in-Some-numbers_of-clause-says : goal.returns-in_ok-record_of-in-Some-numbers_of-clause-says
-returns-in_ok-record_of-in-Some-numbers_of-clause-says c =
+pub returns-in_ok-view_of-in-Some-numbers_of-clause-says : goal.returns-in_ok-view_of-in-Some-numbers_of-clause-says
+returns-in_ok-view_of-in-Some-numbers_of-clause-says c =
     let fits = c.in-Some.ensures.fits in
     let setup = c.args.setup.now in
     let line = c.args.line.now in
@@ -28,8 +30,17 @@ returns-in_ok-record_of-in-Some-numbers_of-clause-says c =
     let has = c.in-Some-numbers_of.ensures.found fits.0 fits.2 in
     says-record setup line fits.0 c.in-Some-numbers_of.numbers _
     (λ passed. false≢true (sym c.if-is_passed_over.false ∙ c.is_passed_over.ensures.1 passed)) (accepted-line setup line fits.0 c.if-line-gt-MAX_LINE.false all has.accepted) all has
-    c.in_ok-record_of-in-Some-numbers_of.ensures.numbers (c.in_ok-record_of-in-Some-numbers_of.ensures.texts fits.0 fits.2)
+    c.in_ok-view_of-in-Some-numbers_of.ensures.numbers (c.in_ok-view_of-in-Some-numbers_of.ensures.texts fits.0 fits.2)
 
-pub returns-in_ok-record_of-in-Some-numbers_of-clause-bounds : goal.returns-in_ok-record_of-in-Some-numbers_of-clause-bounds
-returns-in_ok-record_of-in-Some-numbers_of-clause-bounds c =
-    c.records_keep_bounds.ensures c.args.line.now c.in_ok-record_of-in-Some-numbers_of.field-0 (returns-in_ok-record_of-in-Some-numbers_of-clause-says c)
+pub returns-in_ok-view_of-in-Some-numbers_of-clause-bounds : goal.returns-in_ok-view_of-in-Some-numbers_of-clause-bounds
+returns-in_ok-view_of-in-Some-numbers_of-clause-bounds c =
+    c.records_keep_bounds.ensures c.args.line.now (record_of c.in_ok-view_of-in-Some-numbers_of.field-0) (returns-in_ok-view_of-in-Some-numbers_of-clause-says c)
+
+pub returns-in_err-view_of-in-Some-numbers_of-clause-lends : goal.returns-in_err-view_of-in-Some-numbers_of-clause-lends
+returns-in_err-view_of-in-Some-numbers_of-clause-lends c = λ parts given stands.
+    let fits = c.in-Some.ensures.fits in
+    let setup = c.args.setup.now in
+    let line = c.args.line.now in
+    let all = subst (λ items. Fits items line fits.0) c.items.ensures.value fits.1 in
+    let same = Fits-unique setup.format line parts fits.0 given all in
+    absurd (false≢true (c.in_err-view_of-in-Some-numbers_of.ensures.lends fits.0 fits.2 (subst (StandsInLine setup) same stands)))
