@@ -1,60 +1,41 @@
 -- The keys of a record are keys of its day.
-use Rattle.std.proofs.Common.{◌≡◌, ◌+◌, ◌≤◌, Bool, true, false, cond, ◌&&◌, refl, zero, suc, arith}
-use Rattle.std.specs.Prelude.{count_by, All, Contains}
-use Rattle.std.specs.List.Sorted.{IsStrictlySortedBy}
-use Rattle.ga_base.specs.declared.record.Record.{Record}
-use Rattle.ga_base.specs.declared.panel.Panel.{Panel}
-use Rattle.ga_base.specs.declared.panel.Panel.TheVariants.{Visitors, Requests, RequestsStatic, NotFound, Hosts, Os, Browsers, VisitTimes, VirtualHosts, Referrers, ReferringSites, Keyphrases, StatusCodes, RemoteUser, CacheStatus, MimeType, TlsType}
-use Rattle.ga_base.specs.Days.{eight_digits}
-use Rattle.ga_base.specs.Layers.{Layer, day_key, in_layer, is_flag, is_empty}
-use Rattle.ga_base.specs.Orders.{key_cmp}
+use Rattle.std.proofs.Common.{◌≡◌, true, List, ◌∷◌, refl, arith}
+use Rattle.std.specs.Prelude.{Contains}
+use Rattle.std.proofs.lemmas.List.Elements.{All-from_recursion}
+use Rattle.ga_agents.specs.Classes.{HasNames}
+use Rattle.ga_base.specs.Days.{HasEightDigits}
+use Rattle.ga_base.specs.Layers.{HasForm, day_key}
 use Rattle.ga_base.specs.Panels.{is_same_panel}
+use Rattle.ga_base.specs.declared.key.Key.{Key}
+use Rattle.ga_base.specs.declared.record.Record.{Record}
+use Rattle.ga_panels.specs.Facts.{Facts}
 use Rattle.ga_panels.specs.Form.{AreKeysOfDay}
-use Rattle.ga_panels.specs.Table.{table_keys}
+use Rattle.ga_panels.specs.Table.{PanelRow, counted_key, table, table_keys, with_group}
+use Rattle.ga_panels.specs.declared.setup.PanelSetup.{PanelSetup}
+use Rattle.ga_panels.proofs.RowForms.{rows_formed, rows_stand}
+use Rattle.ga_panels.proofs.RowKeys.{AreOfPanel, IsFormed, all-weaker, row_gives, rows_layers, rows_own, rows_rise}
 
-keys_rise : (rec : Record) → IsStrictlySortedBy key_cmp (table_keys rec)
-unfolding key_cmp IsStrictlySortedBy
-keys_rise rec = ((refl, tt), (tt, tt))
+pub first_is : (key : Key) (keys : List Key) → Contains (key ∷ keys) key
+first_is key keys = (0, omega arith, refl)
 
-keys_dated : (rec : Record) → All (λ key. key.date ≡ rec.date) (table_keys rec)
-keys_dated rec zero d within = refl
-keys_dated rec (suc zero) d within = refl
-keys_dated rec (suc (suc k)) d within = absurd (omega arith)
+module _ (setup : PanelSetup) (rec : Record) (facts : Facts) where
+  abbrev keys_of_row : PanelRow → List Key
+  keys_of_row row = with_group (counted_key setup.panels rec row)
 
-keys_day : (rec : Record) → Contains (table_keys rec) (day_key rec.date)
-keys_day rec = (0, omega arith, refl)
+  day_is : Contains (table_keys setup rec facts) (day_key rec.date)
+  unfolding is_same_panel
+  day_is = first_is (day_key rec.date) _
 
-apart : (panel : Panel) → (is_same_panel Visitors panel && is_same_panel Hosts panel) ≡ false
-unfolding is_same_panel
-apart Visitors = refl
-apart Requests = refl
-apart RequestsStatic = refl
-apart NotFound = refl
-apart Hosts = refl
-apart Os = refl
-apart Browsers = refl
-apart VisitTimes = refl
-apart VirtualHosts = refl
-apart Referrers = refl
-apart ReferringSites = refl
-apart Keyphrases = refl
-apart StatusCodes = refl
-apart RemoteUser = refl
-apart CacheStatus = refl
-apart MimeType = refl
-apart TlsType = refl
-
-at_most_one : (a b x y : Bool) → (a && b) ≡ false → 0 + cond (a && x) 1 0 + cond (b && y) 1 0 ≤ 1
-at_most_one true true x y e = absurd cc
-at_most_one true false true y e = omega arith
-at_most_one true false false y e = omega arith
-at_most_one false true x true e = omega arith
-at_most_one false true x false e = omega arith
-at_most_one false false x y e = omega arith
-
-keys_layers : (rec : Record) (layer : Layer) → count_by (in_layer layer) (table_keys rec) ≤ 1
-keys_layers rec layer =
-    at_most_one (is_same_panel Visitors layer.panel) (is_same_panel Hosts layer.panel) (is_flag layer.groups (is_empty (eight_digits rec.date))) (is_flag layer.groups (is_empty rec.host)) (apart layer.panel)
-
-pub keys_of_day : (rec : Record) → AreKeysOfDay rec.date (table_keys rec)
-keys_of_day rec = record { rising = keys_rise rec; dated = keys_dated rec; day = keys_day rec; layers = keys_layers rec }
+  pub keys_of_day : HasEightDigits rec.date → HasNames facts.agent → AreKeysOfDay rec.date (table_keys setup rec facts)
+  keys_of_day dated named =
+      let rows = table setup rec facts in
+      let give = all-weaker (λ row. row.has_key ≡ true → IsFormed rec.date row) (λ row. AreOfPanel rec.date row.panel (keys_of_row row)) (λ row formed. row_gives setup.panels rec row dated formed) rows (rows_formed setup rec facts named) in
+      let own = rows_own rec.date keys_of_row rows give in
+      let keys = table_keys setup rec facts in
+      record {
+        rising = rows_rise rec.date keys_of_row 0 rows (rows_stand setup rec facts) give;
+        dated = All-from_recursion (λ (key : Key). key.date ≡ rec.date) keys (all-weaker (λ (key : Key). (key.date ≡ rec.date) × HasForm key) (λ (key : Key). key.date ≡ rec.date) (λ key o. o.0) keys own);
+        formed = All-from_recursion HasForm keys (all-weaker (λ (key : Key). (key.date ≡ rec.date) × HasForm key) HasForm (λ key o. o.1) keys own);
+        day = day_is;
+        layers = rows_layers rec.date keys_of_row 0 rows (rows_stand setup rec facts) give;
+      }

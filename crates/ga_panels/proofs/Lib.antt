@@ -1,2 +1,6 @@
 mod DayKeys
-mod Digits
+mod Excluded
+mod OneList
+mod PanelSteps
+mod RowForms
+mod RowKeys

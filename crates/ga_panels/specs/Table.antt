@@ -1,38 +1,100 @@
--- The panels' table, which says under which keys a record is counted. What counts is the set of those keys. They
--- are listed in rising order, since the rows stand in the panels' order and a group comes before its entries.
-use Rattle.std.specs.Prelude.{ℕ, Bool, true, if◌then◌else◌, List, [], ◌∷◌, ◌++◌, flat_map}
+-- The panels' table, which says under which keys a record is counted. What counts is the set of those keys. They are
+-- listed in rising order, since the rows stand in the panels' order and a group comes before its entries.
+use Rattle.std.specs.Prelude.{◌≡◌, ℕ, Bool, true, false, not, ◌&&◌, ◌||◌, ◌==◌, if◌then◌else◌, Option, Some, None, is_some, List, [], ◌∷◌, ◌++◌, flat_map, slice_get}
+use Rattle.std.specs.Option.{option_and_then}
 use Rattle.ga_base.specs.Days.{eight_digits}
+use Rattle.ga_base.specs.Panels.{has_panel, is_same_panel, panel_number}
 use Rattle.ga_base.specs.declared.key.Key.{Key}
 use Rattle.ga_base.specs.declared.record.Record.{Record}
 use Rattle.ga_base.specs.declared.panel.Panel.{Panel}
-use Rattle.ga_base.specs.declared.panel.Panel.TheVariants.{Visitors, Hosts}
+use Rattle.ga_base.specs.declared.panel.Panel.TheVariants.{Visitors, Requests, RequestsStatic, NotFound, Hosts, Os, Browsers, VisitTimes, VirtualHosts, Referrers, ReferringSites, Keyphrases, StatusCodes, RemoteUser, CacheStatus, MimeType, TlsType}
+use Rattle.ga_panels.specs.Facts.{Facts, HasFacts}
+use Rattle.ga_panels.specs.Labels.{hour_of, is_present, mime_group, status_group, text_in, three_digits}
+use Rattle.ga_panels.specs.declared.setup.PanelSetup.{PanelSetup}
 
 -- what the table says of a record in a panel: whether it has a key there, that key's group, which is empty in a panel
--- without groups, and its data
+-- without groups, its data, and whether it has the request's method and protocol
 pub record PanelRow : Type 0 where
   pub panel : Panel
   pub has_key : Bool
   pub parent : List ℕ
   pub label : List ℕ
+  pub request : Bool
 
-abbrev pub table : Record → List PanelRow
-table rec =
-    record { panel = Visitors; has_key = true; parent = []; label = eight_digits rec.date } ∷
-    record { panel = Hosts; has_key = true; parent = []; label = rec.host } ∷
+abbrev pub row : Panel → Bool → List ℕ → List ℕ → Bool → PanelRow
+row panel has_key parent label request = record { panel = panel; has_key = has_key; parent = parent; label = label; request = request }
+
+-- the status says that nothing was found: 404, or 444 where that counts as 404
+abbrev pub is_missing : Bool → ℕ → Bool
+is_missing as_404 status = status == 404 || (as_404 && status == 444)
+
+abbrev pub table : PanelSetup → Record → Facts → List PanelRow
+table setup rec facts =
+    let missing = is_missing setup.as_404 rec.status in
+    let agent = facts.agent in
+    row Visitors true [] (eight_digits rec.date) false ∷
+    row Requests (not missing && not facts.is_static) [] rec.url true ∷
+    row RequestsStatic (not missing && facts.is_static) [] rec.url true ∷
+    row NotFound missing [] rec.url true ∷
+    row Hosts true [] rec.host false ∷
+    row Os (is_present rec.agent) agent.system_group agent.system false ∷
+    row Browsers (is_present rec.agent) agent.category agent.browser false ∷
+    row VisitTimes (is_some rec.minute) [] (hour_of rec.minute) false ∷
+    row VirtualHosts (is_present rec.vhost) [] rec.vhost false ∷
+    row Referrers (is_present rec.referrer) [] rec.referrer false ∷
+    row ReferringSites (is_some facts.site) [] (text_in facts.site) false ∷
+    row Keyphrases (is_some facts.phrase) [] (text_in facts.phrase) false ∷
+    row StatusCodes (not (rec.status == 0)) (status_group rec.status) (three_digits rec.status) false ∷
+    row RemoteUser (is_present rec.user) [] rec.user false ∷
+    row CacheStatus (is_present rec.cache) [] rec.cache false ∷
+    row MimeType (is_present rec.mime) (mime_group rec.mime) rec.mime false ∷
+    row TlsType (is_present rec.tls) [] rec.tls false ∷
     []
 
--- the key of an entry with this data, or of the group, whose data is empty
-abbrev pub row_key : ℕ → PanelRow → List ℕ → Key
-row_key date row label = record { panel = row.panel; date = date; parent = row.parent; label = label; method = []; protocol = [] }
+-- the key of the entry that a row gives, where it gives one
+abbrev pub row_key : Record → PanelRow → Option Key
+row_key rec row = if row.has_key then Some (record {
+  panel = row.panel;
+  date = rec.date;
+  parent = row.parent;
+  label = row.label;
+  method = if row.request then rec.method else [];
+  protocol = if row.request then rec.protocol else [];
+}) else None
 
--- a record that has a key in a panel with groups has the group's key too
-abbrev pub group_keys : ℕ → PanelRow → List ℕ → List Key
-group_keys date row [] = []
-group_keys date row (byte ∷ bytes) = row_key date row [] ∷ []
+-- the key of an entry's group, which has no data, where the entry has a group
+abbrev pub group_keys : Key → List ℕ → List Key
+group_keys key [] = []
+group_keys key (byte ∷ bytes) = record { panel = key.panel; date = key.date; parent = key.parent; label = []; method = []; protocol = [] } ∷ []
 
-abbrev pub row_keys : ℕ → PanelRow → List Key
-row_keys date row = if row.has_key then group_keys date row row.parent ++ row_key date row row.label ∷ [] else []
+-- a record that has an entry in a panel with groups has the group's key too
+abbrev pub with_group : Option Key → List Key
+with_group None = []
+with_group (Some key) = group_keys key key.parent ++ key ∷ []
 
--- the keys of a record, each with the record's day
-abbrev pub table_keys : Record → List Key
-table_keys rec = flat_map (row_keys rec.date) (table rec)
+-- a panel gives keys where it is enabled; VISITORS always does, and then is only not shown
+abbrev pub is_counted : List Bool → Panel → Bool
+is_counted panels panel = is_same_panel panel Visitors || has_panel panels panel
+
+abbrev pub counted_key : List Bool → Record → PanelRow → Option Key
+counted_key panels rec row = if is_counted panels row.panel then row_key rec row else None
+
+-- the keys that the table gives a record with these facts
+abbrev pub table_keys : PanelSetup → Record → Facts → List Key
+table_keys setup rec facts = flat_map (λ row. with_group (counted_key setup.panels rec row)) (table setup rec facts)
+
+-- the keys of a record
+abbrev pub AreKeysOf : PanelSetup → Record → List Key → Type 0
+AreKeysOf setup rec keys = (facts : Facts) × HasFacts setup rec facts × (keys ≡ table_keys setup rec facts)
+
+-- the key of the entry that a panel's row gives, which stands at the panel's number
+abbrev pub entry_of : PanelSetup → Record → Facts → Panel → Option Key
+entry_of setup rec facts panel = option_and_then (row_key rec) (slice_get (table setup rec facts) (panel_number panel))
+
+-- the key of a record's entry in a panel
+abbrev pub entry_in : PanelSetup → Record → Facts → Panel → Option Key
+entry_in setup rec facts panel = if is_counted setup.panels panel then entry_of setup rec facts panel else None
+
+-- a record's keys in a panel: its entry's, and its group's
+abbrev pub keys_in : PanelSetup → Record → Facts → Panel → List Key
+keys_in setup rec facts panel = with_group (entry_in setup rec facts panel)
