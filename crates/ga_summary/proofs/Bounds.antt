@@ -13,7 +13,7 @@ use Rattle.ga_base.specs.declared.panel.Panel.TheVariants.{Visitors}
 use Rattle.ga_summary.specs.declared.entry.Entry.{Entry}
 use Rattle.ga_base.specs.Orders.{name_cmp, is_same_key}
 use Rattle.ga_summary.specs.Rows.{Row, SummaryValue, IsInOrder, row_at, sums_at, no_sums}
-use Rattle.ga_summary.specs.Steps.Entries.{rows_of, row_of}
+use Rattle.ga_summary.specs.Steps.Entries.{AllClosed, IsClosed, entry_names, rows_of, row_of}
 use Rattle.ga_summary.specs.Steps.Room.{entry_at, HasRoom, HasPlace, AllHaveRoom, AllHavePlace}
 use Rattle.ga_summary.specs.Sound.{IsSound}
 use Rattle.ga_base.specs.Layers.{day_key, Layer, in_layer, is_flag, is_empty}
@@ -76,7 +76,7 @@ module _ (s : SummaryValue) (sound : IsSound s) where
       let hits = found_of_sum (λ (row : Row). row.sums.hits) test s.rows (day_key date) pass in
       let bytes = found_of_sum (λ (row : Row). row.sums.bytes) test s.rows (day_key date) pass in
       let micros = found_of_sum (λ (row : Row). row.sums.micros) test s.rows (day_key date) pass in
-      small (row_at s.rows (day_key date)) (omega (arith, hits, sound.days.hits, sound.lines, sound.fit.lines)) (omega (arith, bytes, sound.days.bytes, sound.fit.bytes)) (omega (arith, micros, sound.days.micros, sound.fit.micros))
+      small (row_at s.rows (day_key date)) (omega (arith, hits, sound.totals.days.hits, sound.totals.lines, sound.totals.fit.lines)) (omega (arith, bytes, sound.totals.days.bytes, sound.totals.fit.bytes)) (omega (arith, micros, sound.totals.days.micros, sound.totals.fit.micros))
     where
       small : (o : Option Row) → option_map_or (λ (row : Row). row.sums.hits) o 0 ≤ LIMIT → option_map_or (λ (row : Row). row.sums.bytes) o 0 ≤ LIMIT → option_map_or (λ (row : Row). row.sums.micros) o 0 ≤ LIMIT → AreSmall (option_map_or (λ (row : Row). row.sums) o no_sums)
       small None h b m = record { hits = h; bytes = b; micros = m }
@@ -88,7 +88,7 @@ module _ (s : SummaryValue) (sound : IsSound s) where
       let test = λ (r : Row). (r.key.date == row.key.date) && in_layer layer r.key in
       let pass : test row ≡ true = rw (eq-eqb row.key.date row.key.date refl, is_same_panel-itself row.key.panel) (is_flag-itself (is_empty row.key.label)) in
       let day = day_small row.key.date in
-      let within = sound.layers layer row.key.date in
+      let within = sound.rows.layers layer row.key.date in
       record {
         hits = omega (arith, part_of_sum (λ (r : Row). r.sums.hits) test s.rows row at pass, within.hits, day.hits);
         bytes = omega (arith, part_of_sum (λ (r : Row). r.sums.bytes) test s.rows row at pass, within.bytes, day.bytes);
@@ -102,13 +102,14 @@ module _ {A : Type 0} (entries : List (Box Entry A)) (ordered : IsInOrder (rows_
   row_at-entry : (key : Key) (boxed : Box Entry A) → entry_at entries key ≡ Some boxed → row_at (rows_of entries) key ≡ Some (row_of boxed.value)
   row_at-entry key boxed found = find-map (λ (row : Row). is_same_key key row.key) (λ (b : Box Entry A). row_of b.value) entries ∙ ap (option_map (λ (b : Box Entry A). row_of b.value)) found
 
-  place_from_room : (more : Entry) → AreSmall more.sums → IsStrictlySortedBy name_cmp more.names.items → HasRoom entries more → HasPlace entries more
-  place_from_room more more_small more_rises room boxed found =
+  place_from_room : (more : Entry) → AreSmall more.sums → IsStrictlySortedBy name_cmp (entry_names more) → IsClosed more → HasRoom entries more → HasPlace entries more
+  place_from_room more more_small more_rises closed room boxed found =
       let row = row_at-entry more.key boxed found in
       let here = all-row_at (λ (r : Row). AreSmall r.sums) (rows_of entries) more.key (row_of boxed.value) small row in
       record {
         rising = all-row_at (λ (r : Row). IsStrictlySortedBy name_cmp r.names) (rows_of entries) more.key (row_of boxed.value) ordered.names row;
-        rising_more = more_rises;
+        rising_more = rw closed at more_rises;
+        closed_more = closed;
         room = room boxed found;
         sums = record {
           hits = omega (arith, here.hits, more_small.hits);
@@ -118,9 +119,9 @@ module _ {A : Type 0} (entries : List (Box Entry A)) (ordered : IsInOrder (rows_
       }
 
   -- where there is room for all names, all entries have their places
-  pub places_from_room : (more : List (Box Entry A)) → All (λ (row : Row). AreSmall row.sums) (rows_of more) → All (λ (row : Row). IsStrictlySortedBy name_cmp row.names) (rows_of more) → AllHaveRoom entries more → AllHavePlace entries more
-  places_from_room more more_small more_rise room = go more (recursion_from_All _ (rows_of more) more_small) (recursion_from_All _ (rows_of more) more_rise) (recursion_from_All (λ (b : Box Entry A). HasRoom entries b.value) more room)
+  pub places_from_room : (more : List (Box Entry A)) → All (λ (row : Row). AreSmall row.sums) (rows_of more) → All (λ (row : Row). IsStrictlySortedBy name_cmp row.names) (rows_of more) → AllClosed more → AllHaveRoom entries more → AllHavePlace entries more
+  places_from_room more more_small more_rise closed room = go more (recursion_from_All _ (rows_of more) more_small) (recursion_from_All _ (rows_of more) more_rise) (recursion_from_All (λ (b : Box Entry A). IsClosed b.value) more closed) (recursion_from_All (λ (b : Box Entry A). HasRoom entries b.value) more room)
     where
-      go : (more : List (Box Entry A)) → AllByRecursion (λ (row : Row). AreSmall row.sums) (rows_of more) → AllByRecursion (λ (row : Row). IsStrictlySortedBy name_cmp row.names) (rows_of more) → AllByRecursion (λ (b : Box Entry A). HasRoom entries b.value) more → AllHavePlace entries more
-      go [] p r q = tt
-      go (boxed ∷ more) p r q = (place_from_room boxed.value p.0 r.0 q.0, go more p.1 r.1 q.1)
+      go : (more : List (Box Entry A)) → AllByRecursion (λ (row : Row). AreSmall row.sums) (rows_of more) → AllByRecursion (λ (row : Row). IsStrictlySortedBy name_cmp row.names) (rows_of more) → AllByRecursion (λ (b : Box Entry A). IsClosed b.value) more → AllByRecursion (λ (b : Box Entry A). HasRoom entries b.value) more → AllHavePlace entries more
+      go [] p r c q = tt
+      go (boxed ∷ more) p r c q = (place_from_room boxed.value p.0 r.0 c.0 q.0, go more p.1 r.1 c.1 q.1)

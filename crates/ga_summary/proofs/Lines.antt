@@ -32,16 +32,20 @@ pub IsSummary-lines : (failed excluded : ℕ) → failed + excluded ≤ LIMIT �
 IsSummary-lines failed excluded fit = record {
   ordered = IsInOrder-none;
   sound = record {
-    form = λ key has. absurd (false≢true has);
-    day = λ key has. absurd (false≢true has);
-    layers = λ layer date. record { hits = omega arith; bytes = omega arith; micros = omega arith };
-    hit = λ key has. absurd (false≢true has);
-    visitors = λ key visitor has. absurd (and_false _ has);
-    visits = λ key. omega arith;
-    days = record { hits = omega arith; bytes = omega arith; micros = omega arith };
-    lines = omega arith;
-    fit = record { lines = omega arith; bytes = omega arith; micros = omega arith };
-    times = λ key. (omega arith, omega arith);
+    rows = record {
+      form = λ key has. absurd (false≢true has);
+      day = λ key has. absurd (false≢true has);
+      layers = λ layer date. record { hits = omega arith; bytes = omega arith; micros = omega arith };
+      hit = λ key has. absurd (false≢true has);
+      visitors = λ key visitor has. absurd (and_false _ has);
+      visits = λ key. omega arith;
+    };
+    totals = record {
+      days = record { hits = omega arith; bytes = omega arith; micros = omega arith };
+      lines = omega arith;
+      fit = record { lines = omega arith; bytes = omega arith; micros = omega arith };
+      times = λ key. (omega arith, omega arith);
+    };
   };
 }
 

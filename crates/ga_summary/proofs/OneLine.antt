@@ -21,7 +21,8 @@ use Rattle.ga_summary.specs.Outcomes.{Hit, Counted, has_key, is_by, greatest_tim
 use Rattle.ga_summary.specs.Rows.{Row, IsInOrder, row_at, sums_at, names_at, has_name, has_pair, no_sums}
 use Rattle.ga_summary.specs.OneLine.{names_of, line_sums, line_row, line_value}
 use Rattle.ga_summary.specs.Sums.{IsSumOf}
-use Rattle.ga_summary.specs.Sound.{IsSummary, IsCountable, HasRow, HasForm, layer_rows, day_rows, SumsWithin}
+use Rattle.ga_base.specs.Layers.{HasForm}
+use Rattle.ga_summary.specs.Sound.{IsSummary, IsCountable, HasRow, layer_rows, day_rows, SumsWithin}
 use Rattle.ga_base.specs.Layers.{day_key, Layer, in_layer}
 use Rattle.ga_base.specs.Panels.{is_same_panel, panel_number}
 use Rattle.ga_summary.proofs.Put.{equal_from_is_eq}
@@ -262,15 +263,19 @@ module _ (hit : Hit) where
     IsSummary-line = record {
       ordered = ordered-line;
       sound = record {
-        form = λ key has. at_key HasForm can.formed key (has_key_of key has);
-        day = day-line;
-        layers = layers-line;
-        hit = λ key has. rw (sums_at-line key, has_key_of key has) (omega arith);
-        visitors = visitors-line;
-        visits = visits-line;
-        days = days-line;
-        lines = omega arith;
-        fit = record { lines = omega arith; bytes = omega (arith, can.bytes); micros = omega (arith, can.micros) };
-        times = times-line;
+        rows = record {
+          form = λ key has. at_key HasForm can.formed key (has_key_of key has);
+          day = day-line;
+          layers = layers-line;
+          hit = λ key has. rw (sums_at-line key, has_key_of key has) (omega arith);
+          visitors = visitors-line;
+          visits = visits-line;
+        };
+        totals = record {
+          days = days-line;
+          lines = omega arith;
+          fit = record { lines = omega arith; bytes = omega (arith, can.bytes); micros = omega (arith, can.micros) };
+          times = times-line;
+        };
       };
     }

@@ -1,5 +1,5 @@
 -- An entry put among a summary's entries, by their rows.
-use Rattle.std.proofs.Common.{◌≡◌, ℕ, zero, suc, ◌+◌, ◌≤◌, Less, Greater, true, vec_len, List, [], ◌∷◌, Some, None, false, Equal, get_or, set, map, Box, refl, sym, ap, ◌∙◌, arith}
+use Rattle.std.proofs.Common.{◌≡◌, ℕ, zero, suc, ◌≤◌, Less, Greater, true, vec_capacity, List, [], ◌∷◌, Some, None, false, Equal, get_or, set, map, Box, refl, sym, ap, ◌∙◌, arith}
 use Rattle.std.proofs.lemmas.List.{map-set}
 use Rattle.std.proofs.lemmas.Cmp.{alike_right, tied_itself}
 use Rattle.std.specs.List.{insert}
@@ -9,13 +9,15 @@ use Rattle.ga_base.specs.declared.key.Key.{Key}
 use Rattle.ga_summary.specs.declared.entry.Entry.{Entry}
 use Rattle.ga_base.specs.Orders.{key_cmp, is_same_key}
 use Rattle.ga_summary.specs.Rows.{Row, row_at}
-use Rattle.ga_summary.specs.Steps.Entries.{rows_of, row_of}
+use Rattle.ga_summary.specs.Steps.Entries.{IsClosed, entry_names, rows_of, row_of}
 use Rattle.ga_summary.specs.Steps.Joined.{joined, put_row}
 use Rattle.std.specs.Ordering.{ordering_reverse}
-use Rattle.ga_summary.specs.Steps.Room.{room_of, entry_at, HasRoom, HasPlace, AllHavePlace, CanTake}
+use Rattle.ga_summary.specs.Steps.Room.{entry_at, HasNameRoom, HasRoom, HasPlace, AllHavePlace, CanTake, IsClosedAt}
 use Rattle.ga_summary.specs.Steps.Places.{StandsAt, GoesTo}
-use Rattle.ga_summary.proofs.Put.{Above, find_stands, put_stands, put_goes, read_map, stands_unmap, find-set_other, find-set_here, none_unmapped, Some≢None, find_same, find-insert_other}
+use Rattle.ga_summary.proofs.Put.{Above, find_stands, put_stands, put_goes, read_map, stands_unmap, find-set_other, find-set_here, none_unmapped, Some≢None, find_same, find-insert_other, equal_from_is_eq}
 use Rattle.ga_summary.proofs.NameLists.{set-same}
+use Rattle.ga_summary.proofs.RowLookups.{row_missing}
+use Rattle.ga_summary.proofs.Closing.{EntriesRise, found_inserted}
 use Rattle.ga_base.proofs.OrderLemmas.{key_cmp_total}
 
 some_inj : {X : Type 0} {x y : X} → Some x ≡ Some y → x ≡ y
@@ -43,7 +45,7 @@ module _ {A : Type 0} (entries : List (Box Entry A)) (more : Entry) (i : ℕ) wh
         ∙ ap (λ (r : Row). set (rows_of entries) i r) (e ∙ ap (λ (r : Row). joined r (row_of more)) (sym (read_map key_cmp (λ (row : Row). row.key) f entries i boxed unmapped.within read)))
         ∙ sym (put_stands key_cmp key_cmp_total (λ (row : Row). row.key) joined (row_of more) (rows_of entries) i (row_of boxed.value) h)
 
-    others_set : (entry : Entry) → entry.key ≡ boxed.value.key → (key : Key) → is_same_key key more.key ≡ false → entry_at (set entries i (with_value boxed entry)) key ≡ entry_at entries key
+    pub others_set : (entry : Entry) → entry.key ≡ boxed.value.key → (key : Key) → is_same_key key more.key ≡ false → entry_at (set entries i (with_value boxed entry)) key ≡ entry_at entries key
     others_set entry e key apart =
         let same : key_cmp more.key boxed.value.key ≡ Equal = rw read (unmapped.here boxed) in
         let old : is_same_key key boxed.value.key ≡ false = ap is_eq (sym (alike_right key_cmp_total more.key boxed.value.key key same)) ∙ apart in
@@ -56,8 +58,23 @@ module _ {A : Type 0} (entries : List (Box Entry A)) (more : Entry) (i : ℕ) wh
     entry_there : (key : Key) → key_cmp key more.key ≡ Equal → entry_at entries key ≡ Some boxed
     entry_there key same = find_same key_cmp key_cmp_total (λ (b : Box Entry A). b.value.key) key more.key entries same ∙ find_stands key_cmp key_cmp_total (λ (b : Box Entry A). b.value.key) more.key entries i boxed unmapped ∙ ap Some (sym read)
 
-    -- another entry at its place, with the same row and at least as much room
-    module _ (entry : Entry) (row : row_of entry ≡ row_of boxed.value) (len : vec_len entry.names ≡ vec_len boxed.value.names) (capacity : room_of boxed.value ≤ room_of entry) where
+    -- another entry of its key at its place
+    entry_here : (entry : Entry) → entry.key ≡ boxed.value.key → (key : Key) → key_cmp key more.key ≡ Equal → entry_at (set entries i (with_value boxed entry)) key ≡ Some (with_value boxed entry)
+    entry_here entry is key same =
+        let here : key_cmp more.key boxed.value.key ≡ Equal = rw read (unmapped.here boxed) in
+        let new : is_same_key key entry.key ≡ true = ap (λ (k : Key). is_same_key key k) is ∙ ap is_eq (key_cmp_total.congr key more.key boxed.value.key same ∙ here) in
+        find-set_here (λ (b : Box Entry A). is_same_key key b.value.key) entries i (with_value boxed entry) unmapped.within (λ j d lt. ap is_eq (key_cmp_total.congr key more.key _ same ∙ unmapped.before j d lt)) new
+
+    pub closed_taken : (entry : Entry) → row_of entry ≡ joined (row_of boxed.value) (row_of more) → IsClosed entry → (key : Key) → is_same_key key more.key ≡ true → IsClosedAt (set entries i (with_value boxed entry)) key
+    closed_taken entry e closed key same x found =
+        let is : with_value boxed entry ≡ x = some_inj (sym (entry_here entry (ap (λ (r : Row). r.key) e) key (equal_from_is_eq _ same)) ∙ found) in
+        rw (← is) closed
+
+    -- another entry with the same row at its place
+    module _ (entry : Entry) (row : row_of entry ≡ row_of boxed.value) where
+      same_key : entry.key ≡ boxed.value.key
+      same_key = ap (λ (r : Row). r.key) row
+
       pub rows_same : rows_of (set entries i (with_value boxed entry)) ≡ rows_of entries
       rows_same =
           let f = λ (b : Box Entry A). row_of b.value in
@@ -65,26 +82,21 @@ module _ {A : Type 0} (entries : List (Box Entry A)) (more : Entry) (i : ℕ) wh
           ∙ ap (λ (r : Row). set (rows_of entries) i r) (row ∙ sym (read_map key_cmp (λ (r : Row). r.key) f entries i boxed unmapped.within read))
           ∙ set-same (rows_of entries) i (row_of boxed.value) h.within
 
-      entry_here : (key : Key) → key_cmp key more.key ≡ Equal → entry_at (set entries i (with_value boxed entry)) key ≡ Some (with_value boxed entry)
-      entry_here key same =
-          let here : key_cmp more.key boxed.value.key ≡ Equal = rw read (unmapped.here boxed) in
-          let new : is_same_key key entry.key ≡ true = ap (λ (r : Row). is_same_key key r.key) row ∙ ap is_eq (key_cmp_total.congr key more.key boxed.value.key same ∙ here) in
-          find-set_here (λ (b : Box Entry A). is_same_key key b.value.key) entries i (with_value boxed entry) unmapped.within (λ j d lt. ap is_eq (key_cmp_total.congr key more.key _ same ∙ unmapped.before j d lt)) new
-
-      pub room_here : vec_len entry.names + vec_len more.names ≤ room_of entry → HasRoom (set entries i (with_value boxed entry)) more
+      pub room_here : HasNameRoom entry more → HasRoom (set entries i (with_value boxed entry)) more
       room_here enough x found =
-          let is : with_value boxed entry ≡ x = some_inj (sym (entry_here more.key (tied_itself key_cmp_total more.key)) ∙ found) in
+          let is : with_value boxed entry ≡ x = some_inj (sym (entry_here entry same_key more.key (tied_itself key_cmp_total more.key)) ∙ found) in
           rw (← is) enough
 
-      pub room_kept : (other : Entry) → HasRoom entries other → HasRoom (set entries i (with_value boxed entry)) other
-      room_kept other had x found =
-          let apart : is_same_key other.key more.key ≡ false → vec_len x.value.names + vec_len other.names ≤ room_of x.value = λ e. had x (sym (others_set entry (ap (λ (r : Row). r.key) row) other.key e) ∙ found) in
-          elim (key_cmp other.key more.key) as (λ v. key_cmp other.key more.key ≡ v → vec_len x.value.names + vec_len other.names ≤ room_of x.value) [
+      pub room_kept : vec_capacity boxed.value.work ≤ vec_capacity entry.work → (other : Entry) → HasRoom entries other → HasRoom (set entries i (with_value boxed entry)) other
+      room_kept capacity other had x found =
+          let apart : is_same_key other.key more.key ≡ false → HasNameRoom x.value other = λ e. had x (sym (others_set entry same_key other.key e) ∙ found) in
+          elim (key_cmp other.key more.key) as (λ v. key_cmp other.key more.key ≡ v → HasNameRoom x.value other) [
             | Less ↦ λ e. apart (ap is_eq e)
             | Equal ↦ λ e.
-                let is : with_value boxed entry ≡ x = some_inj (sym (entry_here other.key e) ∙ found) in
+                let is : with_value boxed entry ≡ x = some_inj (sym (entry_here entry same_key other.key e) ∙ found) in
                 let enough = had boxed (entry_there other.key e) in
-                rw (← is) (omega arith)
+                let names : entry_names entry ≡ entry_names boxed.value = ap (λ (r : Row). r.names) row in
+                rw (← is, names) (omega (arith, enough, capacity))
             | Greater ↦ λ e. apart (ap is_eq e)
           ] refl
 
@@ -100,6 +112,12 @@ module _ {A : Type 0} (entries : List (Box Entry A)) (boxed : Box Entry A) (i : 
 
   pub others_inserted : (key : Key) → is_same_key key boxed.value.key ≡ false → entry_at (insert entries i boxed) key ≡ entry_at entries key
   others_inserted key apart = find-insert_other (λ (b : Box Entry A). is_same_key key b.value.key) entries i boxed apart
+
+  pub closed_inserted : EntriesRise entries → GoesTo key_cmp (λ (row : Row). row.key) boxed.value.key (rows_of entries) i → IsClosed boxed.value → (key : Key) → is_same_key key boxed.value.key ≡ true → IsClosedAt (insert entries i boxed) key
+  closed_inserted rising h closed key same x found =
+      let none : entry_at entries boxed.value.key ≡ None = none_unmapped (λ (row : Row). is_same_key boxed.value.key row.key) (λ (b : Box Entry A). row_of b.value) entries (row_missing entries boxed.value.key i rising h) in
+      let none_too : entry_at entries key ≡ None = find_same key_cmp key_cmp_total (λ (b : Box Entry A). b.value.key) key boxed.value.key entries (equal_from_is_eq _ same) ∙ none in
+      found_inserted (λ (b : Box Entry A). IsClosed b.value) (λ (b : Box Entry A). is_same_key key b.value.key) entries i boxed x closed none_too found
 
 -- where an entry was put, the entries with greater keys still have their places
 module _ {A : Type 0} (old new : List (Box Entry A)) (key : Key) (others : (other : Key) → is_same_key other key ≡ false → entry_at new other ≡ entry_at old other) where

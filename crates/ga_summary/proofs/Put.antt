@@ -16,7 +16,7 @@ use Rattle.std.proofs.lemmas.Cmp.{alike_right, tied_back}
 pub Some≢None : {X : Type 0} {x : X} → Some x ≡ None → ⊥
 Some≢None e = cc
 
-Less≢Equal : Less ≡ Equal → ⊥
+pub Less≢Equal : Less ≡ Equal → ⊥
 Less≢Equal e = cc
 
 Greater≢Equal : Greater ≡ Equal → ⊥
@@ -175,7 +175,7 @@ module _ {X K : Type 0} (R : K → K → Ordering) (o : IsTotalOrder R) (key : X
         omega arith
 
   -- an item before another is below it
-  rises_less : (xs : List X) (i j : ℕ) (d : X) → Rises R key xs → i < j → j < length xs → R (key (get_or xs i d)) (key (get_or xs j d)) ≡ Less
+  pub rises_less : (xs : List X) (i j : ℕ) (d : X) → Rises R key xs → i < j → j < length xs → R (key (get_or xs i d)) (key (get_or xs j d)) ≡ Less
   rises_less [] i j d s lt within = absurd (omega arith)
   rises_less (x ∷ xs) i zero d s lt within = absurd (omega arith)
   rises_less (x ∷ xs) zero (suc j) d s lt within = above_get (key x) xs j d (omega arith) (rises_head R key x xs s)
@@ -201,7 +201,7 @@ module _ {X K : Type 0} (R : K → K → Ordering) (o : IsTotalOrder R) (key : X
         after = λ d lt. o.antisymm _ _ ∙ ap ordering_reverse (parts.1 i d (omega arith) lt);
       }
 
-  stands_tail : (k : K) (x : X) (xs : List X) (i : ℕ) → StandsAt R key k (x ∷ xs) (suc i) → StandsAt R key k xs i
+  pub stands_tail : (k : K) (x : X) (xs : List X) (i : ℕ) → StandsAt R key k (x ∷ xs) (suc i) → StandsAt R key k xs i
   stands_tail k x xs i h = record { within = omega (arith, h.within); before = λ j d lt. h.before (suc j) d (omega arith); here = h.here }
 
   goes_tail : (k : K) (x : X) (xs : List X) (i : ℕ) → GoesTo R key k (x ∷ xs) (suc i) → GoesTo R key k xs i
@@ -231,7 +231,7 @@ module _ {X K : Type 0} (R : K → K → Ordering) (o : IsTotalOrder R) (key : X
 
 -- the same places in a list of which another is a map
 module _ {X Y K : Type 0} (R : K → K → Ordering) (key : Y → K) (f : X → Y) where
-  get_or-map_at : (xs : List X) (i : ℕ) (d : X) (e : Y) → i < length xs → get_or (map f xs) i e ≡ f (get_or xs i d)
+  pub get_or-map_at : (xs : List X) (i : ℕ) (d : X) (e : Y) → i < length xs → get_or (map f xs) i e ≡ f (get_or xs i d)
   get_or-map_at [] i d e lt = absurd (omega arith)
   get_or-map_at (x ∷ xs) zero d e lt = refl
   get_or-map_at (x ∷ xs) (suc i) d e lt = get_or-map_at xs i d e (omega arith)

@@ -9,7 +9,8 @@ use Rattle.ga_base.specs.declared.panel.Panel.TheVariants.{Visitors}
 use Rattle.ga_summary.specs.Rows.{Row, SummaryValue, IsInOrder, sums_at, names_at, has_pair, totals_plus}
 use Rattle.ga_summary.specs.Steps.Joined.{put_rows, merged_value}
 use Rattle.ga_summary.specs.Sums.{IsMerged}
-use Rattle.ga_summary.specs.Sound.{IsSound, TotalsFit, HasRow, HasForm, layer_rows, day_rows, SumsWithin}
+use Rattle.ga_base.specs.Layers.{HasForm}
+use Rattle.ga_summary.specs.Sound.{IsSound, TotalsFit, HasRow, layer_rows, day_rows, SumsWithin}
 use Rattle.ga_base.specs.Layers.{day_key, Layer, in_layer}
 use Rattle.ga_base.specs.Panels.{is_same_panel}
 use Rattle.ga_summary.proofs.Merging.{IsInOrder-put_rows, present-put_rows, sums_at-put_rows, has_pair-put_rows, length-names_at-put_rows, sum_by-filter-put_rows}
@@ -38,15 +39,15 @@ module _ (a b : SummaryValue) (s : IsInOrder a.rows) (t : IsInOrder b.rows) wher
     has_right key has = present-put_rows a.rows b.rows s t key ∙ or_right _ _ has
 
     form : (key : Key) → HasRow (put_rows b.rows a.rows) key → HasForm key
-    form key has = elim (in_either key has) [ inl h ↦ x.form key h | inr h ↦ y.form key h ]
+    form key has = elim (in_either key has) [ inl h ↦ x.rows.form key h | inr h ↦ y.rows.form key h ]
 
     day : (key : Key) → HasRow (put_rows b.rows a.rows) key → HasRow (put_rows b.rows a.rows) (day_key key.date)
-    day key has = elim (in_either key has) [ inl h ↦ has_left _ (x.day key h) | inr h ↦ has_right _ (y.day key h) ]
+    day key has = elim (in_either key has) [ inl h ↦ has_left _ (x.rows.day key h) | inr h ↦ has_right _ (y.rows.day key h) ]
 
     hit : (key : Key) → HasRow (put_rows b.rows a.rows) key → 1 ≤ (sums_at (put_rows b.rows a.rows) key).hits
     hit key has =
         let both = ap (λ (v : Sums). v.hits) (sums_at-put_rows a.rows b.rows s t key) in
-        elim (in_either key has) [ inl h ↦ omega (arith, both, x.hit key h) | inr h ↦ omega (arith, both, y.hit key h) ]
+        elim (in_either key has) [ inl h ↦ omega (arith, both, x.rows.hit key h) | inr h ↦ omega (arith, both, y.rows.hit key h) ]
 
     within : (test : Key → Bool) (h m n h' m' n' : ℕ) → SumsWithin (filter (λ (row : Row). test row.key) a.rows) h m n → SumsWithin (filter (λ (row : Row). test row.key) b.rows) h' m' n' → SumsWithin (filter (λ (row : Row). test row.key) (put_rows b.rows a.rows)) (h + h') (m + m') (n + n')
     within test h m n h' m' n' p q = record {
@@ -58,40 +59,44 @@ module _ (a b : SummaryValue) (s : IsInOrder a.rows) (t : IsInOrder b.rows) wher
     layers : (layer : Layer) (date : ℕ) → let d = sums_at (put_rows b.rows a.rows) (day_key date) in SumsWithin (layer_rows layer date (put_rows b.rows a.rows)) d.hits d.bytes d.micros
     layers layer date =
         rw (sums_at-put_rows a.rows b.rows s t (day_key date))
-        (within (λ (key : Key). (key.date == date) && in_layer layer key) _ _ _ _ _ _ (x.layers layer date) (y.layers layer date))
+        (within (λ (key : Key). (key.date == date) && in_layer layer key) _ _ _ _ _ _ (x.rows.layers layer date) (y.rows.layers layer date))
 
     visitors : (key : Key) (visitor : Visitor) → has_pair (put_rows b.rows a.rows) key visitor ≡ true → has_pair (put_rows b.rows a.rows) (day_key key.date) visitor ≡ true
     visitors key visitor has =
         elim (or_cases _ _ (sym (has_pair-put_rows a.rows b.rows s t key visitor) ∙ has)) [
-          | inl h ↦ has_pair-put_rows a.rows b.rows s t (day_key key.date) visitor ∙ or_left _ _ (x.visitors key visitor h)
-          | inr h ↦ has_pair-put_rows a.rows b.rows s t (day_key key.date) visitor ∙ or_right _ _ (y.visitors key visitor h)
+          | inl h ↦ has_pair-put_rows a.rows b.rows s t (day_key key.date) visitor ∙ or_left _ _ (x.rows.visitors key visitor h)
+          | inr h ↦ has_pair-put_rows a.rows b.rows s t (day_key key.date) visitor ∙ or_right _ _ (y.rows.visitors key visitor h)
         ]
 
     visits : (key : Key) → length (names_at (put_rows b.rows a.rows) key) ≤ (sums_at (put_rows b.rows a.rows) key).hits
     visits key =
         let both = ap (λ (v : Sums). v.hits) (sums_at-put_rows a.rows b.rows s t key) in
         let names = length-names_at-put_rows a.rows b.rows s t key in
-        omega (arith, both, names, x.visits key, y.visits key)
+        omega (arith, both, names, x.rows.visits key, y.rows.visits key)
 
     days : SumsWithin (day_rows (put_rows b.rows a.rows)) (a.totals.hits + b.totals.hits) (a.totals.bytes + b.totals.bytes) (a.totals.micros + b.totals.micros)
-    days = within (λ (key : Key). is_same_panel key.panel Visitors) _ _ _ _ _ _ x.days y.days
+    days = within (λ (key : Key). is_same_panel key.panel Visitors) _ _ _ _ _ _ x.totals.days y.totals.days
 
     times : (key : Key) → ((sums_at (put_rows b.rows a.rows) key).max_micros ≤ BIG) × ((sums_at (put_rows b.rows a.rows) key).max_micros ≤ (sums_at (put_rows b.rows a.rows) key).micros)
     times key =
-        let p = x.times key in
-        let q = y.times key in
+        let p = x.totals.times key in
+        let q = y.totals.times key in
         rw (sums_at-put_rows a.rows b.rows s t key) (omega (arith, p, q), omega (arith, p, q))
 
     pub IsSound-merged_value : IsSound (merged_value a b)
     IsSound-merged_value = record {
-      form = form;
-      day = day;
-      layers = layers;
-      hit = hit;
-      visitors = visitors;
-      visits = visits;
-      days = days;
-      lines = omega (arith, x.lines, y.lines);
-      fit = fit;
-      times = times;
+      rows = record {
+        form = form;
+        day = day;
+        layers = layers;
+        hit = hit;
+        visitors = visitors;
+        visits = visits;
+      };
+      totals = record {
+        days = days;
+        lines = omega (arith, x.totals.lines, y.totals.lines);
+        fit = fit;
+        times = times;
+      };
     }

@@ -7,7 +7,8 @@ use Rattle.ga_base.specs.declared.key.Key.{Key}
 use Rattle.ga_base.specs.declared.key.Visitor.{Visitor}
 use Rattle.ga_base.specs.declared.panel.Panel.TheVariants.{Visitors, Hosts}
 use Rattle.ga_base.specs.Orders.{key_cmp}
-use Rattle.ga_summary.specs.Sound.{IsCountable, HasForm}
+use Rattle.ga_base.specs.Layers.{HasForm}
+use Rattle.ga_summary.specs.Sound.{IsCountable}
 use Rattle.ga_base.specs.Layers.{in_layer, day_key}
 use Rattle.ga_summary.specs.Steps.TestKeys.{TEST_DAY, host_key}
 use Rattle.ga_summary.proofs.OneLine.{same_panel, both_true}

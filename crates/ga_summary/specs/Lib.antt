@@ -3,6 +3,7 @@ pub mod Faults
 pub mod Outcomes
 pub mod Sums
 pub mod Sound
+pub mod Parts
 pub mod Limits
 pub mod OneLine
 pub mod Steps

@@ -1,5 +1,5 @@
 -- What holds of every summary: its numbers can be the sum of some lines of a log.
-use Rattle.std.specs.Prelude.{◌≡◌, ◌↔◌, ℕ, ◌+◌, ◌≤◌, ◌==◌, ◌&&◌, true, false, is_some, List, [], length, filter, sum_by, count_by, All, Contains}
+use Rattle.std.specs.Prelude.{◌≡◌, ℕ, ◌+◌, ◌≤◌, ◌==◌, ◌&&◌, true, is_some, List, length, filter, sum_by, count_by, All, Contains}
 use Rattle.std.specs.List.Sorted.{IsStrictlySortedBy}
 use Rattle.std.specs.Option.{ForSome}
 use Rattle.ga_base.specs.declared.counts.TheConstants.{LIMIT, BIG}
@@ -7,21 +7,11 @@ use Rattle.ga_base.specs.declared.key.Key.{Key}
 use Rattle.ga_base.specs.declared.key.Visitor.{Visitor}
 use Rattle.ga_base.specs.declared.counts.Totals.{Totals}
 use Rattle.ga_base.specs.declared.panel.Panel.TheVariants.{Visitors}
-use Rattle.ga_base.specs.Days.{HasEightDigits, eight_digits}
-use Rattle.ga_base.specs.Layers.{Layer, day_key, has_groups, has_requests, in_layer}
+use Rattle.ga_base.specs.Layers.{HasForm, Layer, day_key, in_layer}
 use Rattle.ga_base.specs.Orders.{key_cmp}
 use Rattle.ga_base.specs.Panels.{is_same_panel}
 use Rattle.ga_summary.specs.Outcomes.{Hit, Outcome, hits_of}
 use Rattle.ga_summary.specs.Rows.{Row, SummaryValue, IsInOrder, row_at, sums_at, names_at, has_pair}
-
--- the form of a key
-pub record HasForm (key : Key) : Type 0 where
-  pub date : HasEightDigits key.date
-  -- the parent is empty exactly where the panel has no groups
-  pub parent : (key.parent ≡ []) ↔ (has_groups key.panel ≡ false)
-  -- a key of VISITORS is the day's
-  pub label : key.panel ≡ Visitors → key.label ≡ eight_digits key.date
-  pub request : has_requests key.panel ≡ false → (key.method ≡ []) × (key.protocol ≡ [])
 
 -- the rows of a layer on a day
 abbrev pub layer_rows : Layer → ℕ → List Row → List Row
@@ -45,22 +35,30 @@ pub record TotalsFit (totals : Totals) : Type 0 where
   pub bytes : totals.bytes ≤ LIMIT
   pub micros : totals.micros ≤ LIMIT
 
-pub record IsSound (s : SummaryValue) : Type 0 where
+-- what holds of the rows alone
+pub record RowsAreSound (rows : List Row) : Type 0 where
   -- each key has its form, and its day has a row
-  pub form : (key : Key) → HasRow s.rows key → HasForm key
-  pub day : (key : Key) → HasRow s.rows key → HasRow s.rows (day_key key.date)
+  pub form : (key : Key) → HasRow rows key → HasForm key
+  pub day : (key : Key) → HasRow rows key → HasRow rows (day_key key.date)
   -- a layer sums to at most the day's row, and each key has a hit
-  pub layers : (layer : Layer) (date : ℕ) → let day = sums_at s.rows (day_key date) in SumsWithin (layer_rows layer date s.rows) day.hits day.bytes day.micros
-  pub hit : (key : Key) → HasRow s.rows key → 1 ≤ (sums_at s.rows key).hits
+  pub layers : (layer : Layer) (date : ℕ) → let day = sums_at rows (day_key date) in SumsWithin (layer_rows layer date rows) day.hits day.bytes day.micros
+  pub hit : (key : Key) → HasRow rows key → 1 ≤ (sums_at rows key).hits
   -- a key's visitor is one of the day's, and a key has at most as many visitors as hits
-  pub visitors : (key : Key) (visitor : Visitor) → has_pair s.rows key visitor ≡ true → has_pair s.rows (day_key key.date) visitor ≡ true
-  pub visits : (key : Key) → length (names_at s.rows key) ≤ (sums_at s.rows key).hits
+  pub visitors : (key : Key) (visitor : Visitor) → has_pair rows key visitor ≡ true → has_pair rows (day_key key.date) visitor ≡ true
+  pub visits : (key : Key) → length (names_at rows key) ≤ (sums_at rows key).hits
+
+-- what holds of the totals over the rows
+pub record TotalsAreSound (s : SummaryValue) : Type 0 where
   -- the days sum to at most the totals, which add up and fit
   pub days : SumsWithin (day_rows s.rows) s.totals.hits s.totals.bytes s.totals.micros
   pub lines : s.totals.hits + s.totals.failed + s.totals.excluded ≡ s.totals.lines
   pub fit : TotalsFit s.totals
   -- a maximum is a time, and at most its key's sum
   pub times : (key : Key) → ((sums_at s.rows key).max_micros ≤ BIG) × ((sums_at s.rows key).max_micros ≤ (sums_at s.rows key).micros)
+
+pub record IsSound (s : SummaryValue) : Type 0 where
+  pub rows : RowsAreSound s.rows
+  pub totals : TotalsAreSound s
 
 -- what may be counted on a day: keys of that day, in order, each in its form, among them the day's own and at most
 -- one of each layer; a visitor of that day; a size and a time of one line

@@ -4,3 +4,5 @@ pub mod Entries
 pub mod Joined
 pub mod Room
 pub mod TestKeys
+pub mod Loads
+pub mod Passing

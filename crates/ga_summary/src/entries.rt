@@ -1,17 +1,19 @@
-ghost use Rattle.std.specs.Prelude.{◌≡◌, ◌+◌, ◌<◌, ◌≤◌, false, None, Some, IfOk, MatchResult, MatchOption, [], max, vec_len, vec_capacity};
+ghost use Rattle.std.specs.Prelude.{◌≡◌, ◌+◌, ◌<◌, ◌≤◌, false, true, None, Some, IfOk, MatchResult, MatchOption, [], max, vec_len, vec_capacity};
 ghost use Rattle.ga_base.specs.declared.key.Key.{Key as TheKey};
 ghost use Rattle.ga_base.specs.Orders.{key_cmp, is_same_key};
+ghost use Rattle.ga_summary.specs.Parts.{rows_in};
 ghost use Rattle.ga_summary.specs.Rows.{row_at};
-ghost use Rattle.ga_summary.specs.Steps.Entries.{rows_of, row_of};
+ghost use Rattle.ga_summary.specs.Steps.Entries.{AllClosed, IsClosed, rows_of, row_of};
 ghost use Rattle.ga_summary.specs.Steps.Joined.{put_row, put_rows};
-ghost use Rattle.ga_summary.specs.Steps.Room.{HasPlace, AllHavePlace, entry_at};
+ghost use Rattle.ga_summary.specs.Steps.Room.{HasPlace, AllHavePlace, IsClosedAt, OpenAmong, entry_at};
 ghost use Rattle.ga_summary.specs.Steps.Places.{Rises, StandsAt, GoesTo};
 
+use crate::PartRow;
 use crate::entry::Entry;
 use crate::one_pass::merge_entries;
 use crate::order::compare_keys;
 use ga_base::{Key, NoMemory};
-use std::alloc::Global;
+use std::alloc::{AllocError, Global};
 use std::mem::replace;
 
 /// Where the key stands, or where it would go.
@@ -33,9 +35,11 @@ pub(crate) fn entry_of<'a>(entries: &'a [Box<Entry>], key: &Key) -> Option<&'a E
     }
 }
 
-/// Entries with the same rows.
-pub(crate) fn copy_all(alloc: Global, entries: &[Box<Entry>]) -> Result<Vec<Box<Entry>>, NoMemory>
-    ensures { IfOk result (λ v. rows_of v.items ≡ rows_of entries.now) }
+/// Closed entries with the same rows.
+pub(crate) fn copy_all(alloc: Global, entries: &[Box<Entry>]) -> Result<Vec<Box<Entry>>, AllocError>
+    requires { AllClosed entries.now }
+    ensures rows { IfOk result (λ v. rows_of v.items ≡ rows_of entries.now) }
+    ensures closed { IfOk result (λ v. AllClosed v.items) }
 {
     let mut copies = Vec::with_capacity(alloc, entries.len())?;
     for entry in entries {
@@ -44,13 +48,29 @@ pub(crate) fn copy_all(alloc: Global, entries: &[Box<Entry>]) -> Result<Vec<Box<
     Ok(copies)
 }
 
+/// Closed entries with these rows.
+pub(crate) fn entries_of(rows: Vec<PartRow>) -> Result<Vec<Box<Entry>>, NoMemory>
+    ensures rows { IfOk result (λ v. rows_of v.items ≡ rows_in rows.items) }
+    ensures closed { IfOk result (λ v. AllClosed v.items) }
+{
+    let alloc = *rows.allocator();
+    let mut entries = Vec::with_capacity(alloc, rows.len())?;
+    for row in rows {
+        let entry = Entry::of(alloc, row.key, row.sums, row.names);
+        entries.push(Box::new(alloc, entry)?)?;
+    }
+    Ok(entries)
+}
+
 /// Puts an entry in its place, or joins it to the entry of its key.
 fn place(entries: &mut Vec<Box<Entry>>, more: Box<Entry>)
     requires rising { Rises key_cmp (λ row. row.key) (rows_of entries.old.items) }
     requires room { vec_len entries.old < vec_capacity entries.old }
+    requires closed { IsClosed more.value }
     requires fits { HasPlace entries.old.items more.value }
     ensures rows { rows_of entries.new.items ≡ put_row (row_of more.value) (rows_of entries.old.items) }
     ensures others { (key : TheKey) → is_same_key key more.value.key ≡ false → entry_at entries.new.items key ≡ entry_at entries.old.items key }
+    ensures closed { (key : TheKey) → is_same_key key more.value.key ≡ true → IsClosedAt entries.new.items key }
     ensures len { vec_len entries.new ≤ vec_len entries.old + 1 }
     ensures capacity { vec_capacity entries.old ≤ vec_capacity entries.new }
 {
@@ -71,8 +91,11 @@ fn place_each(entries: &mut Vec<Box<Entry>>, more: Vec<Box<Entry>>)
     requires rising { Rises key_cmp (λ row. row.key) (rows_of entries.old.items) }
     requires rising_more { Rises key_cmp (λ row. row.key) (rows_of more.items) }
     requires room { vec_len entries.old + vec_len more ≤ vec_capacity entries.old }
+    requires closed_more { AllClosed more.items }
+    requires opened { OpenAmong entries.old.items more.items }
     requires fits { AllHavePlace entries.old.items more.items }
-    ensures { rows_of entries.new.items ≡ put_rows (rows_of more.items) (rows_of entries.old.items) }
+    ensures rows { rows_of entries.new.items ≡ put_rows (rows_of more.items) (rows_of entries.old.items) }
+    ensures closed { AllClosed entries.new.items }
 {
     for entry in more {
         place(entries, entry);
@@ -85,8 +108,11 @@ pub(crate) fn place_all(entries: &mut Vec<Box<Entry>>, more: Vec<Box<Entry>>, ro
     requires rising_more { Rises key_cmp (λ row. row.key) (rows_of more.items) }
     requires none { room.items ≡ [] }
     requires room { vec_len entries.old + vec_len more ≤ max (vec_capacity entries.old) (vec_capacity room) }
+    requires closed_more { AllClosed more.items }
+    requires opened { OpenAmong entries.old.items more.items }
     requires fits { AllHavePlace entries.old.items more.items }
-    ensures { rows_of entries.new.items ≡ put_rows (rows_of more.items) (rows_of entries.old.items) }
+    ensures rows { rows_of entries.new.items ≡ put_rows (rows_of more.items) (rows_of entries.old.items) }
+    ensures closed { AllClosed entries.new.items }
 {
     if room.capacity() < entries.len() + more.len() {
         place_each(entries, more);

@@ -1,9 +1,10 @@
 //! What holds of all sums of outcomes. Each function's contract is the law, and its body is empty.
 
-ghost use Rattle.std.specs.Prelude.{◌≡◌, List, ◌++◌};
+ghost use Rattle.std.specs.Prelude.{◌≡◌, ℕ, List, ◌++◌};
 ghost use Rattle.ga_summary.specs.Outcomes.{Outcome, totals_of};
+ghost use Rattle.ga_summary.specs.Parts.{IsFirstBad};
 ghost use Rattle.ga_summary.specs.Rows.{SummaryValue};
-ghost use Rattle.ga_summary.specs.Sound.{IsSound, AllCountable, TotalsFit};
+ghost use Rattle.ga_summary.specs.Sound.{IsSound, IsSummary, AllCountable, TotalsFit};
 ghost use Rattle.ga_summary.specs.Sums.{IsSumOf, IsMerged};
 
 /// The sums of two lists of outcomes, merged, are the sum of one list after the other.
@@ -14,6 +15,12 @@ pub fn merged_sums()
 /// A list of outcomes has one sum.
 pub fn one_sum()
     ensures { (xs : List Outcome) (a b : SummaryValue) → IsSumOf xs a → IsSumOf xs b → a ≡ b }
+{}
+
+/// A value is a summary, or it breaks first at one place.
+pub fn one_first_bad()
+    ensures one { (s : SummaryValue) (a b : ℕ) → IsFirstBad s a → IsFirstBad s b → a ≡ b }
+    ensures apart { (s : SummaryValue) (at : ℕ) → IsSummary s → ¬ IsFirstBad s at }
 {}
 
 /// Where each counted outcome may be counted and the totals fit, the sum is sound.

@@ -4,17 +4,26 @@
 mod entries;
 mod entry;
 mod fault;
+mod first_bad;
 pub mod laws;
+mod layer_sums;
 mod limits;
+mod load;
 mod names;
+mod not_sound;
 mod one_line;
 mod one_pass;
 mod order;
+mod parts;
 mod room;
+mod row_tests;
 mod row_view;
 mod summary;
+mod totals_tests;
 
 pub use fault::MergeFault;
+pub use not_sound::NotSound;
+pub use parts::{PartRow, PartRows, SummaryParts};
 pub use row_view::RowView;
 pub use summary::Summary;
 

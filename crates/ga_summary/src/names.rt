@@ -9,7 +9,7 @@ use crate::order::{compare_names, compare_to_visitor};
 use ga_base::{Name, Visitor};
 
 /// Where a name stands among names that rise, or where it would go.
-fn find_name(names: &[Name], name: &Name) -> Result<usize, usize>
+pub(crate) fn find_name(names: &[Name], name: &Name) -> Result<usize, usize>
     requires { IsStrictlySortedBy name_cmp names.now }
     ensures { MatchResult result (StandsAt name_cmp (λ n. n) name.now names.now) (GoesTo name_cmp (λ n. n) name.now names.now) }
 {

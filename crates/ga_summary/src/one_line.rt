@@ -1,10 +1,10 @@
 ghost use Rattle.std.specs.Prelude.{◌≡◌, IfOk, map};
 ghost use Rattle.std.specs.Option.{option_copied};
-ghost use Rattle.ga_summary.specs.Steps.Entries.{rows_of};
+ghost use Rattle.ga_summary.specs.Steps.Entries.{AllClosed, rows_of};
 ghost use Rattle.ga_summary.specs.OneLine.{names_of, line_row, record_totals, record_sums};
 
 use crate::entry::Entry;
-use ga_base::{Key, Name, NoMemory, Record, Sums, Totals, Visitor};
+use ga_base::{Key, Name, Names, NoMemory, Record, Sums, Totals, Visitor};
 use std::alloc::Global;
 
 /// The totals of a counted record.
@@ -35,10 +35,10 @@ pub(crate) fn sums_of_record(rec: &Record) -> Sums
 }
 
 /// The names of a visitor or none.
-fn visitor_names(alloc: Global, visitor: Option<&Visitor>) -> Result<Vec<Name>, NoMemory>
-    ensures { IfOk result (λ v. v.items ≡ names_of (option_copied visitor.entry)) }
+fn visitor_names(alloc: Global, visitor: Option<&Visitor>) -> Result<Names, NoMemory>
+    ensures { IfOk result (λ names. names ≡ names_of (option_copied visitor.entry)) }
 {
-    let mut names = Vec::new(alloc);
+    let mut names = Names::new(alloc);
     if let Some(visitor) = visitor {
         names.push(Name {
             host: visitor.host.clone()?,
@@ -55,16 +55,13 @@ pub(crate) fn line_entries(
     visitor: Option<&Visitor>,
     sums: Sums,
 ) -> Result<Vec<Box<Entry>>, NoMemory>
-    ensures { IfOk result (λ v. rows_of v.items ≡ map (line_row sums (option_copied visitor.entry)) keys.now) }
+    ensures rows { IfOk result (λ v. rows_of v.items ≡ map (line_row sums (option_copied visitor.entry)) keys.now) }
+    ensures closed { IfOk result (λ v. AllClosed v.items) }
 {
     let mut entries = Vec::with_capacity(alloc, keys.len())?;
     for key in keys {
-        let entry = Entry {
-            key: key.clone()?,
-            sums,
-            names: visitor_names(alloc, visitor)?,
-            spare: Vec::new(alloc),
-        };
+        let names = visitor_names(alloc, visitor)?;
+        let entry = Entry::of(alloc, key.clone()?, sums, names);
         entries.push(Box::new(alloc, entry)?)?;
     }
     Ok(entries)

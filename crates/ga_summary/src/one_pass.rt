@@ -1,10 +1,10 @@
 ghost use Rattle.std.specs.Prelude.{◌≡◌, ◌+◌, ◌<◌, ◌≤◌, ◌++◌, ◌∷◌, [], vec_len, vec_capacity};
 ghost use Rattle.std.specs.List.Sorted.{IsStrictlySortedBy};
-ghost use Rattle.ga_summary.specs.Steps.Entries.{row_of, rows_of};
+ghost use Rattle.ga_summary.specs.Steps.Entries.{AllClosed, IsClosed, row_of, rows_of};
 ghost use Rattle.ga_summary.specs.Steps.Joined.{joined, put_names, put_rows};
 ghost use Rattle.ga_base.specs.Orders.{key_cmp, name_cmp};
 ghost use Rattle.ga_summary.specs.Steps.Places.{Rises};
-ghost use Rattle.ga_summary.specs.Steps.Room.{AllHavePlace, CanTake};
+ghost use Rattle.ga_summary.specs.Steps.Room.{AllHavePlace, CanTake, OpenAmong};
 
 use crate::entry::Entry;
 use crate::order::{compare_keys, compare_names};
@@ -81,8 +81,11 @@ pub(crate) fn merge_entries(
     requires rising_right { Rises key_cmp (λ row. row.key) (rows_of right.items) }
     requires none { out.items ≡ [] }
     requires room { vec_len left + vec_len right ≤ vec_capacity out }
+    requires closed_right { AllClosed right.items }
+    requires opened { OpenAmong left.items right.items }
     requires fits { AllHavePlace left.items right.items }
-    ensures { rows_of result.items ≡ put_rows (rows_of right.items) (rows_of left.items) }
+    ensures closed { AllClosed result.items }
+    ensures rows { rows_of result.items ≡ put_rows (rows_of right.items) (rows_of left.items) }
 {
     let mut left = left.into_iter();
     let mut right = right.into_iter();
@@ -125,7 +128,8 @@ pub(crate) fn merge_entries(
 /// An entry with what another of its key has.
 fn joined_entry(mut boxed: Box<Entry>, more: Box<Entry>) -> Box<Entry>
     requires { CanTake boxed.value more.value }
-    ensures { row_of result.value ≡ joined (row_of boxed.value) (row_of more.value) }
+    ensures row { row_of result.value ≡ joined (row_of boxed.value) (row_of more.value) }
+    ensures closed { IsClosed result.value }
 {
     let entry: &mut Entry = &mut boxed;
     entry.take(Box::into_inner(more));

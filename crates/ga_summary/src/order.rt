@@ -1,8 +1,10 @@
 ghost use Rattle.std.specs.Prelude.{◌≡◌};
 ghost use Rattle.ga_base.specs.Orders.{key_cmp, name_cmp, name_of};
+ghost use Rattle.ga_base.specs.Panels.{is_same_panel};
+ghost use Rattle.ga_summary.specs.Steps.Passing.{day_cmp};
 
-use ga_base::laws::{key_order, name_order};
-use ga_base::{Key, Name, Visitor};
+use ga_base::laws::{key_order, name_order, panel_order};
+use ga_base::{Key, Name, Panel, Visitor};
 use std::cmp::Ordering;
 
 /// How two keys are ordered.
@@ -30,4 +32,20 @@ pub(crate) fn compare_to_visitor(name: &Name, visitor: &Visitor) -> Ordering
         Ordering::Equal => name.agent.cmp(&visitor.agent),
         order => order,
     }
+}
+
+/// Whether two panels are one.
+pub(crate) fn same_panel(a: Panel, b: Panel) -> bool
+    ensures { result ≡ is_same_panel a b }
+{
+    panel_order();
+    a == b
+}
+
+/// How a key is ordered beside the key of a day in VISITORS, where it has its form.
+pub(crate) fn compare_to_day(key: &Key, date: u32) -> Ordering
+    ensures { result ≡ day_cmp key.now date }
+{
+    let panel = key.panel.number().cmp(&Panel::Visitors.number());
+    panel.then(key.date.cmp(&date))
 }

@@ -1,8 +1,8 @@
-ghost use Rattle.std.specs.Prelude.{◌≡◌, ◌+◌, ◌≤◌, OnOk, IfOk, [], max, length, vec_len, vec_capacity};
+ghost use Rattle.std.specs.Prelude.{◌≡◌, ◌+◌, ◌≤◌, false, OnOk, OnErr, IfOk, [], max, length, vec_len, vec_capacity};
 ghost use Rattle.ga_base.specs.declared.key.Key.{Key as TheKey};
-ghost use Rattle.ga_base.specs.Orders.{key_cmp};
-ghost use Rattle.ga_summary.specs.Steps.Entries.{rows_of};
-ghost use Rattle.ga_summary.specs.Steps.Room.{HasRoom, AllHaveRoom};
+ghost use Rattle.ga_base.specs.Orders.{is_same_key, key_cmp};
+ghost use Rattle.ga_summary.specs.Steps.Entries.{AllClosed, rows_of};
+ghost use Rattle.ga_summary.specs.Steps.Room.{HasRoom, AllHaveRoom, OpenAmong, entry_at};
 ghost use Rattle.ga_summary.specs.Steps.Places.{Rises};
 
 use crate::entries::find;
@@ -17,7 +17,8 @@ fn reserve_names(entries: &mut Vec<Box<Entry>>, more: &Entry) -> Result<(), NoMe
     requires { Rises key_cmp (λ row. row.key) (rows_of entries.old.items) }
     ensures rows { rows_of entries.new.items ≡ rows_of entries.old.items }
     ensures ok { OnOk result (HasRoom entries.new.items more.now) }
-    ensures kept { (other : _) → HasRoom entries.old.items other → HasRoom entries.new.items other }
+    ensures kept { OnOk result ((other : _) → HasRoom entries.old.items other → HasRoom entries.new.items other) }
+    ensures others { (key : TheKey) → is_same_key key more.now.key ≡ false → entry_at entries.new.items key ≡ entry_at entries.old.items key }
     ensures len { vec_len entries.new ≡ vec_len entries.old }
     ensures capacity { vec_capacity entries.new ≡ vec_capacity entries.old }
 {
@@ -48,20 +49,55 @@ fn reserve_places(
     Ok(Vec::with_capacity(alloc, entries.len() + more.len())?)
 }
 
+/// Reserves room for the names of entries at the entries of their keys. Of these some may be open then.
+fn reserve_all_names(entries: &mut Vec<Box<Entry>>, more: &[Box<Entry>]) -> Result<(), NoMemory>
+    requires rising { Rises key_cmp (λ row. row.key) (rows_of entries.old.items) }
+    requires closed { AllClosed entries.old.items }
+    ensures rows { rows_of entries.new.items ≡ rows_of entries.old.items }
+    ensures names { OnOk result (AllHaveRoom entries.new.items more.now) }
+    ensures opened { OnOk result (OpenAmong entries.new.items more.now) }
+    ensures len { vec_len entries.new ≡ vec_len entries.old }
+    ensures capacity { vec_capacity entries.new ≡ vec_capacity entries.old }
+{
+    for entry in more {
+        reserve_names(entries, entry)?;
+    }
+    Ok(())
+}
+
+/// Closes all entries.
+fn close_all(entries: &mut [Box<Entry>])
+    ensures rows { rows_of entries.new ≡ rows_of entries.old }
+    ensures closed { AllClosed entries.new }
+{
+    for boxed in entries.iter_mut() {
+        let entry: &mut Entry = boxed;
+        entry.close();
+    }
+}
+
 /// Reserves all that entries need to be put among those that are there. The list that it gives is the room for one pass.
+///
+/// Entries that get more may be open then. After an `Err` all are closed.
 pub(crate) fn reserve(
     entries: &mut Vec<Box<Entry>>,
     more: &[Box<Entry>],
 ) -> Result<Vec<Box<Entry>>, NoMemory>
-    requires { Rises key_cmp (λ row. row.key) (rows_of entries.old.items) }
+    requires rising { Rises key_cmp (λ row. row.key) (rows_of entries.old.items) }
+    requires closed { AllClosed entries.old.items }
     ensures rows { rows_of entries.new.items ≡ rows_of entries.old.items }
+    ensures closed { OnErr result (AllClosed entries.new.items) }
+    ensures opened { OnOk result (OpenAmong entries.new.items more.now) }
     ensures none { IfOk result (λ room. room.items ≡ []) }
     ensures room { IfOk result (λ room. vec_len entries.new + length more.now ≤ max (vec_capacity entries.new) (vec_capacity room)) }
     ensures names { OnOk result (AllHaveRoom entries.new.items more.now) }
 {
     let room = reserve_places(entries, more)?;
-    for entry in more {
-        reserve_names(entries, entry)?;
+    match reserve_all_names(entries, more) {
+        Ok(()) => Ok(room),
+        Err(err) => {
+            close_all(entries);
+            Err(err)
+        }
     }
-    Ok(room)
 }

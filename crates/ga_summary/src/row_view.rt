@@ -1,4 +1,4 @@
-use ga_base::{Key, Name, Sums};
+use ga_base::{Key, Names, Sums};
 
 /// One key of a summary.
 #[derive(Clone, Copy, Debug)]
@@ -8,5 +8,5 @@ pub struct RowView<'a> {
     /// What is summed under it.
     pub sums: Sums,
     /// The names of its visitors, which rise.
-    pub names: &'a [Name],
+    pub names: &'a Names,
 }

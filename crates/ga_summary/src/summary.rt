@@ -5,24 +5,26 @@ ghost use Rattle.ga_summary.specs.Limits.{passes};
 ghost use Rattle.std.specs.Option.{option_copied};
 ghost use Rattle.ga_summary.specs.OneLine.{line_value, record_totals};
 ghost use Rattle.ga_summary.specs.Outcomes.{Outcome, Counted, hit_of, lines_of};
+ghost use Rattle.ga_summary.specs.Parts.{IsFirstBad, value_of};
 ghost use Rattle.ga_summary.specs.Rows.{SummaryValue, amounts_at, has_pair, totals_plus};
 ghost use Rattle.ga_summary.specs.Sound.{IsSummary, TotalsFit, IsCountable};
 ghost use Rattle.ga_summary.specs.Sums.{IsSumOf, IsMerged};
 
-use crate::entries::{copy_all, entry_of, place_all};
+use crate::entries::{copy_all, entries_of, entry_of, place_all};
 use crate::entry::Entry;
+use crate::first_bad::first_bad;
 use crate::limits::add_totals;
 use crate::names::holds_visitor;
 use crate::one_line::{line_entries, sums_of_record, totals_of_record};
 use crate::room::reserve;
-use crate::{MergeFault, RowView};
+use crate::{MergeFault, NotSound, RowView, SummaryParts};
 use ga_base::{Amounts, Key, Keys, LIMIT, NoMemory, Record, Totals, Visitor};
-use std::alloc::Global;
+use std::alloc::{AllocError, Global};
 use std::marker::Model;
 
 /// What was counted of the lines of a log: totals over all lines, and for each key its sums and visitors.
 ///
-/// The entries rise by their keys, and the names of each entry rise.
+/// The entries rise by their keys, and the names of each entry rise. All entries are closed.
 #[derive(Debug, Drop)]
 pub struct Summary {
     totals: Totals,
@@ -34,12 +36,23 @@ impl Model for Summary {
 
     ghost Value = { SummaryValue };
 
-    ghost use Rattle.ga_summary.specs.Steps.Entries.{rows_of};
+    ghost use Rattle.ga_summary.specs.Steps.Entries.{AllClosed, rows_of};
     ghost use Rattle.ga_summary.specs.Sound.{IsSummary};
 
     ghost view = { λ s. record { totals = s.totals; rows = rows_of s.entries.items } };
 
-    ghost invariant = { λ s. IsSummary (record { totals = s.totals; rows = rows_of s.entries.items }) };
+    ghost invariant = { λ s. IsSummary (record { totals = s.totals; rows = rows_of s.entries.items }) × AllClosed s.entries.items };
+}
+
+impl Clone for Summary {
+    ghost is_clone = { λ s t. t ≡ s };
+
+    fn clone(&self) -> Result<Summary, AllocError> {
+        Ok(Summary {
+            totals: self.totals,
+            entries: copy_all(*self.entries.allocator(), &self.entries)?,
+        })
+    }
 }
 
 impl Summary {
@@ -66,6 +79,26 @@ impl Summary {
             },
             entries: Vec::new(alloc),
         }
+    }
+
+    /// The summary that has these parts, which has to be sound, with rows and names that rise.
+    ///
+    /// It takes the time of one sorting pass over the rows. Want of memory comes of good parts alone.
+    pub fn from_parts(parts: SummaryParts) -> Result<Summary, NotSound>
+        ensures ok { IfOk result (λ s. s ≡ value_of parts) }
+
+        // The first place where the parts break is reported, and nothing else is.
+        ensures bad { (at : ℕ) → IsErrOf result (NotSound.NotSound at) ↔ IsFirstBad (value_of parts) at }
+        ensures memory { IsErrOf result NotSound.NoMemory → IsSummary (value_of parts) }
+    {
+        let SummaryParts { totals, rows } = parts;
+        if let Some(at) = first_bad(totals, rows.items()) {
+            return Err(NotSound::NotSound { at });
+        }
+        Ok(Summary {
+            totals,
+            entries: entries_of(rows.into_vec())?,
+        })
     }
 
     /// The totals over all lines.
@@ -98,7 +131,7 @@ impl Summary {
         ensures { result ≡ has_pair self.now.rows key.now visitor.now }
     {
         match entry_of(&self.entries, key) {
-            Some(entry) => visitor.date == key.date && holds_visitor(&entry.names, visitor),
+            Some(entry) => visitor.date == key.date && holds_visitor(entry.names(), visitor),
             None => false,
         }
     }
@@ -116,14 +149,11 @@ impl Summary {
         }
     }
 
-    /// A summary equal to this one.
+    /// A summary equal to this one, as `clone` gives it.
     pub fn copy(&self) -> Result<Summary, NoMemory>
         ensures { IfOk result (λ s. s ≡ self.now) }
     {
-        Ok(Summary {
-            totals: self.totals,
-            entries: copy_all(*self.entries.allocator(), &self.entries)?,
-        })
+        Ok(self.clone()?)
     }
 
     /// Adds what another summary has. After an `Err` this one is as it was.

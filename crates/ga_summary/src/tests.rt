@@ -3,8 +3,10 @@ ghost use Rattle.std.specs.Option.{ForSome, option_copied, unwrap_or};
 ghost use Rattle.ga_base.specs.Layers.{day_key};
 ghost use Rattle.ga_summary.specs.Steps.TestKeys.{TEST_DAY, host_key};
 
-use crate::Summary;
-use ga_base::{Key, Keys, LIMIT, Listing, NoMemory, Panel, Record, Text, Visitor};
+use crate::{PartRow, PartRows, Summary, SummaryParts};
+use ga_base::{
+    Key, Keys, LIMIT, Listing, Name, Names, NoMemory, Panel, Record, Sums, Text, Totals, Visitor,
+};
 use std::alloc::Global;
 use std::test::Fail;
 
@@ -100,7 +102,7 @@ fn shown(alloc: Global, sum: &Summary) -> Result<String, Fail> {
             s.max_micros
         )?
         .as_str())?;
-        for name in row.names {
+        for name in row.names.items() {
             text.push(' ')?;
             text.push_str(name.host.as_str())?;
         }
@@ -188,5 +190,173 @@ fn merges_many_hosts(rt: HostRuntime) -> Result<(), Fail> {
     sum.merge(&many_lines(alloc, 20, 60)?)?;
     let of_day = sum.amounts_of(&day(alloc)?).ok_or("no day")?;
     assert_eq!(rt; (sum.len(), of_day.hits, of_day.visitors), (61, 80, 60));
+    Ok(())
+}
+
+/// Parts, and what `from_parts` makes of them: what the summary has, or the fault.
+///
+/// Parts are the totals (lines, failed, excluded, hits, bytes, micros), and after `;` each row: panel, day, parent, label,
+/// method, hits, bytes, micros, greatest time and the hosts of its visitors. `-` stands for what is empty.
+const PARTS: &str = "\
+3 2 1 0 0 0 => 3 2 1 0 0 0
+0 0 0 0 0 0;hosts 20240115 - x - 1 0 0 0 - => not sound at row 0
+5 1 1 3 30 9;visitors 20240115 - 20240115 - 3 30 9 5 a,b;hosts 20240115 - x - 2 20 6 5 a;hosts 20240115 - y - 1 10 3 3 b => 5 1 1 3 30 9|20240115 3 30 9 5 a b|x 2 20 6 5 a|y 1 10 3 3 b
+3 0 0 3 30 9;visitors 20240115 - 20240115 - 3 30 9 5 a;os 20240115 Linux - - 3 30 9 5 a;os 20240115 Linux Debian - 3 30 9 5 a;os 20240115 Windows - - 0 0 0 0 - => not sound at row 3
+3 0 0 3 30 9;visitors 20240115 - 20240115 - 3 30 9 5 a;os 20240115 Linux - - 2 30 9 5 a;os 20240115 Linux Debian - 3 30 9 5 a;os 20240115 Windows - - 2 0 0 0 - => not sound at row 3
+2 0 0 2 9 9;visitors 20240115 - 20240115 - 1 4 4 4 -;visitors 20240116 - 20240116 - 1 5 5 5 -;hosts 20240115 - x - 1 4 4 4 -;hosts 20240116 - x - 1 5 5 5 - => 2 0 0 2 9 9|20240115 1 4 4 4|20240116 1 5 5 5|x 1 4 4 4|x 1 5 5 5
+5 1 1 3 30 9;visitors 20240115 - 20240115 - 3 30 9 5 a,b;hosts 20240115 - y - 1 10 3 3 b;hosts 20240115 - x - 2 20 6 5 a => not sound at row 2
+5 1 1 3 30 9;visitors 20240115 - 20240115 - 3 30 9 5 a,b;hosts 20240115 - x - 1 10 3 3 b;hosts 20240115 - x - 2 20 6 5 a => not sound at row 2
+5 1 1 3 30 9;visitors 20240115 - 20240115 - 3 30 9 5 b,a => not sound at row 0
+5 1 1 3 30 9;visitors 20240115 - 20240115 - 3 30 9 5 a,a => not sound at row 0
+5 1 1 3 30 9;visitors 20240115 - 20240115 - 3 30 9 5 a,b;hosts 20240116 - x - 1 1 1 1 - => not sound at row 1
+5 1 1 3 30 9;visitors 20240115 - 20240116 - 3 30 9 5 a,b => not sound at row 0
+5 1 1 3 30 9;visitors 9999999 - 9999999 - 3 30 9 5 a,b => not sound at row 0
+5 1 1 3 30 9;visitors 20240115 - 20240115 - 3 30 9 5 a,b;hosts 20240115 g x - 1 1 1 1 - => not sound at row 1
+5 1 1 3 30 9;visitors 20240115 - 20240115 - 3 30 9 5 a,b;os 20240115 - x - 1 1 1 1 - => not sound at row 1
+5 1 1 3 30 9;visitors 20240115 - 20240115 - 3 30 9 5 a,b;hosts 20240115 - x GET 1 1 1 1 - => not sound at row 1
+5 1 1 3 30 9;visitors 20240115 - 20240115 - 3 30 9 5 a,b;requests 20240115 - x GET 1 1 1 1 - => 5 1 1 3 30 9|20240115 3 30 9 5 a b|x 1 1 1 1
+5 1 1 3 30 9;visitors 20240115 - 20240115 - 3 30 9 5 a,b;hosts 20240115 - x - 3 1 1 1 -;hosts 20240115 - y - 1 1 1 1 - => not sound at row 2
+5 1 1 3 30 9;visitors 20240115 - 20240115 - 3 30 9 5 a,b;hosts 20240115 - x - 1 31 1 1 - => not sound at row 1
+5 1 1 3 30 9;visitors 20240115 - 20240115 - 3 30 9 5 a,b;hosts 20240115 - x - 1 1 10 1 - => not sound at row 1
+5 1 1 3 30 9;visitors 20240115 - 20240115 - 3 18446744073709551615 9 5 a;hosts 20240115 - x - 1 18446744073709551615 1 1 -;hosts 20240115 - y - 1 1 1 1 - => not sound at row 2
+5 1 1 3 30 9;visitors 20240115 - 20240115 - 3 30 9 5 a,b;hosts 20240115 - x - 0 0 0 0 - => not sound at row 1
+5 1 1 3 30 9;visitors 20240115 - 20240115 - 3 30 9 5 a,b;hosts 20240115 - x - 1 1 1 1 c => not sound at row 1
+5 1 1 3 30 9;visitors 20240115 - 20240115 - 3 30 9 5 a,b;hosts 20240115 - x - 1 1 1 1 a,b => not sound at row 1
+6 1 1 3 30 9;visitors 20240115 - 20240115 - 3 30 9 5 a,b => not sound at row 1
+5 1 1 3 29 9;visitors 20240115 - 20240115 - 3 30 9 5 a,b => not sound at row 1
+4611686018427387904 4611686018427387901 0 3 30 9;visitors 20240115 - 20240115 - 3 30 9 5 a,b => not sound at row 1
+3 0 0 3 4611686018427387904 9;visitors 20240115 - 20240115 - 3 30 9 5 a,b => not sound at row 1
+5 1 1 3 30 2000000000000000000;visitors 20240115 - 20240115 - 3 30 2000000000000000000 1000000000000000001 a => not sound at row 1
+5 1 1 3 30 9;visitors 20240115 - 20240115 - 3 30 9 10 a,b => not sound at row 1
+";
+
+/// The text of a cell of the table.
+fn cell(alloc: Global, text: Option<&str>) -> Result<Text, Fail> {
+    match text.ok_or("no cell")? {
+        "-" => Ok(Text::new()),
+        text => Ok(Text::of(alloc, text)?),
+    }
+}
+
+/// The number of a cell of the table.
+fn number(text: Option<&str>) -> Result<u64, Fail> {
+    Ok(text.ok_or("no cell")?.parse().ok().ok_or("no number")?)
+}
+
+fn panel(text: Option<&str>) -> Result<Panel, Fail> {
+    match text.ok_or("no cell")? {
+        "visitors" => Ok(Panel::Visitors),
+        "requests" => Ok(Panel::Requests),
+        "hosts" => Ok(Panel::Hosts),
+        "os" => Ok(Panel::Os),
+        _ => Err("no panel")?,
+    }
+}
+
+/// The names of visitors from these hosts.
+fn names(alloc: Global, hosts: Option<&str>) -> Result<Names, Fail> {
+    let mut names = Names::new(alloc);
+    for host in hosts.ok_or("no cell")?.split(',') {
+        if host != "-" {
+            names.push(Name {
+                host: Text::of(alloc, host)?,
+                agent: Text::of(alloc, "curl")?,
+            })?;
+        }
+    }
+    Ok(names)
+}
+
+/// The row that a cell of the table has.
+fn part_row(alloc: Global, text: &str) -> Result<PartRow, Fail> {
+    let mut cells = text.split(' ');
+    Ok(PartRow {
+        key: Key {
+            panel: panel(cells.next())?,
+            date: u32::try_from(number(cells.next())?).ok().ok_or("no day")?,
+            parent: cell(alloc, cells.next())?,
+            label: cell(alloc, cells.next())?,
+            method: cell(alloc, cells.next())?,
+            protocol: Text::new(),
+        },
+        sums: Sums {
+            hits: number(cells.next())?,
+            bytes: number(cells.next())?,
+            micros: number(cells.next())?,
+            max_micros: number(cells.next())?,
+        },
+        names: names(alloc, cells.next())?,
+    })
+}
+
+fn totals(text: &str) -> Result<Totals, Fail> {
+    let mut cells = text.split(' ');
+    Ok(Totals {
+        lines: number(cells.next())?,
+        failed: number(cells.next())?,
+        excluded: number(cells.next())?,
+        hits: number(cells.next())?,
+        bytes: number(cells.next())?,
+        micros: number(cells.next())?,
+    })
+}
+
+/// The parts that a row of the table has.
+fn parts(alloc: Global, text: &str) -> Result<SummaryParts, Fail> {
+    let mut cells = text.split(';');
+    let totals = totals(cells.next().ok_or("no totals")?)?;
+    let mut rows = PartRows::new(alloc);
+    for row in cells {
+        rows.push(part_row(alloc, row)?)?;
+    }
+    Ok(SummaryParts { totals, rows })
+}
+
+/// What is made of parts, as the table has it.
+fn made(alloc: Global, parts: SummaryParts) -> Result<String, Fail> {
+    match Summary::from_parts(parts) {
+        Ok(sum) => shown(alloc, &sum),
+        Err(fault) => Ok(format!(in alloc; "{fault}")?),
+    }
+}
+
+#[test]
+fn makes_summaries_of_sound_parts_alone(rt: HostRuntime) -> Result<(), Fail> {
+    let alloc = rt.alloc();
+    for row in PARTS.lines() {
+        let (text, expected) = row.split_once(" => ").ok_or("no answer")?;
+        assert_eq!(rt; made(alloc, parts(alloc, text)?)?.as_str(), expected);
+    }
+    Ok(())
+}
+
+/// A summary's parts, row by row.
+fn parts_of(alloc: Global, sum: &Summary) -> Result<SummaryParts, Fail> {
+    let mut rows = PartRows::new(alloc);
+    for at in 0..sum.len() {
+        let row = sum.row(at);
+        rows.push(PartRow {
+            key: row.key.clone()?,
+            sums: row.sums,
+            names: row.names.clone()?,
+        })?;
+    }
+    Ok(SummaryParts {
+        totals: sum.totals(),
+        rows,
+    })
+}
+
+#[test]
+fn is_made_again_of_its_parts(rt: HostRuntime) -> Result<(), Fail> {
+    let alloc = rt.alloc();
+    let sum = many_lines(alloc, 1, 5)?;
+    let again = Summary::from_parts(parts_of(alloc, &sum)?)
+        .ok()
+        .ok_or("not sound")?;
+    let copy = again.copy()?;
+    let shown_sum = shown(alloc, &sum)?;
+    assert_eq!(rt; shown(alloc, &again)?.as_str(), shown_sum.as_str());
+    assert_eq!(rt; shown(alloc, &copy)?.as_str(), shown_sum.as_str());
     Ok(())
 }

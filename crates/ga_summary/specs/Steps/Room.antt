@@ -1,5 +1,5 @@
 -- What has to be there before entries are joined, so that nothing can fail: room for the names, and sums that fit.
-use Rattle.std.specs.Prelude.{ℕ, ◌+◌, ◌<◌, ◌≤◌, ◌^◌, List, [], ◌∷◌, Option, length, slice_index_or, max, vec_len, vec_capacity}
+use Rattle.std.specs.Prelude.{◌≡◌, ℕ, ◌+◌, ◌<◌, ◌≤◌, ◌^◌, List, [], ◌∷◌, Option, None, length, slice_index_or, vec_capacity}
 use Rattle.std.specs.List.{find}
 use Rattle.std.specs.List.Sorted.{IsStrictlySortedBy}
 use Rattle.std.specs.Option.{ForSome}
@@ -8,6 +8,7 @@ use Rattle.ga_base.specs.declared.key.Key.{Key}
 use Rattle.ga_base.specs.declared.counts.Sums.{Sums}
 use Rattle.ga_summary.specs.declared.entry.Entry.{Entry}
 use Rattle.ga_base.specs.Orders.{is_same_key, name_cmp}
+use Rattle.ga_summary.specs.Steps.Entries.{IsClosed, entry_names}
 
 -- two sums fit 64 bits together
 pub record SumsFit (a b : Sums) : Type 0 where
@@ -15,15 +16,16 @@ pub record SumsFit (a b : Sums) : Type 0 where
   pub bytes : a.bytes + b.bytes < 2 ^ 64
   pub micros : a.micros + b.micros < 2 ^ 64
 
--- how many names an entry has room for, where they are or in a pass over all
-abbrev pub room_of : Entry → ℕ
-room_of entry = max (vec_capacity entry.names) (vec_capacity entry.spare)
+-- an entry has room for its names and another's
+abbrev pub HasNameRoom : Entry → Entry → Type 0
+HasNameRoom entry more = length (entry_names entry) + length more.names ≤ vec_capacity entry.work
 
 -- an entry can take what another has
 pub record CanTake (entry more : Entry) : Type 0 where
-  pub rising : IsStrictlySortedBy name_cmp entry.names.items
-  pub rising_more : IsStrictlySortedBy name_cmp more.names.items
-  pub room : vec_len entry.names + vec_len more.names ≤ room_of entry
+  pub rising : IsStrictlySortedBy name_cmp (entry_names entry)
+  pub rising_more : IsStrictlySortedBy name_cmp more.names
+  pub closed_more : IsClosed more
+  pub room : HasNameRoom entry more
   pub sums : SumsFit entry.sums more.sums
 
 -- the entry of a key
@@ -32,7 +34,7 @@ entry_at entries key = find (λ boxed. is_same_key key boxed.value.key) entries
 
 -- the entry of the key, if it is there, has room for the other's names
 abbrev pub HasRoom : {A : Type 0} → List (Box Entry A) → Entry → Type 0
-HasRoom entries more = ForSome (entry_at entries more.key) (λ boxed. vec_len boxed.value.names + vec_len more.names ≤ room_of boxed.value)
+HasRoom entries more = ForSome (entry_at entries more.key) (λ boxed. HasNameRoom boxed.value more)
 
 abbrev pub AllHaveRoom : {A : Type 0} → List (Box Entry A) → List (Box Entry A) → Type 0
 AllHaveRoom entries more = (i : ℕ) (d : Box Entry _) → i < length more → HasRoom entries (slice_index_or more i d).value
@@ -44,3 +46,11 @@ HasPlace entries more = ForSome (entry_at entries more.key) (λ boxed. CanTake b
 abbrev pub AllHavePlace : {A : Type 0} → List (Box Entry A) → List (Box Entry A) → Type 0
 AllHavePlace entries [] = Unit {0}
 AllHavePlace entries (boxed ∷ more) = HasPlace entries boxed.value × AllHavePlace entries more
+
+-- the entry of the key, if it is there, is closed
+abbrev pub IsClosedAt : {A : Type 0} → List (Box Entry A) → Key → Type 0
+IsClosedAt entries key = ForSome (entry_at entries key) (λ boxed. IsClosed boxed.value)
+
+-- an entry that isn't closed has its key among those of more
+abbrev pub OpenAmong : {A : Type 0} → List (Box Entry A) → List (Box Entry A) → Type 0
+OpenAmong entries more = (key : Key) → entry_at more key ≡ None → IsClosedAt entries key

@@ -1,12 +1,14 @@
 use Rattle.std.proofs.Common.{◌≡◌, ◌∷◌, List, Box, Global, subst, sym, ◌∙◌, Less, Equal, Greater, arith}
 use Rattle.std.specs.Vec.Iter.{into_iter_items}
+use Rattle.std.proofs.lemmas.List.Elements.{All-head, All-push, All-tail}
 use Rattle.ga_summary.specs.declared.entry.Entry.{Entry}
 use Rattle.ga_summary.specs.Steps.Room.{AllHavePlace}
-use Rattle.ga_summary.specs.Steps.Entries.{row_of}
+use Rattle.ga_summary.specs.Steps.Entries.{IsClosed, row_of}
 use Rattle.ga_base.specs.Orders.{key_cmp}
 use Rattle.ga_summary.specs.Rows.{Row}
 use Rattle.ga_summary.proofs.NamePass.{ended}
-use Rattle.ga_summary.proofs.Put.{rises_tail}
+use Rattle.ga_summary.proofs.Put.{Some≢None, rises_tail}
+use Rattle.ga_summary.proofs.Closing.{first_closed, less_closed, open_equal, open_greater, open_rest}
 use Rattle.ga_summary.proofs.RowPass.{row_less, fits_less, row_equal, fits_equal, row_greater, first_takes, row_left, row_right}
 use Rattle.ga_summary.proofs.one_pass.merge_entries.Goals as goal
 
@@ -24,6 +26,9 @@ entries-preserved-in-Less c =
       ended_left = ended next.result _ _ _ _ next.new.self.rest.ok.0 next.ensures.cases;
       ended_right = tt;
       room = rw (← next.ensures.items) (omega (arith, inv.room, pushed.len, pushed.capacity));
+      closed = rw pushed.items (All-push (λ (e : Box Entry Global). IsClosed e.value) c.entries.out.items a inv.closed (less_closed a b (into_iter_items c.entries.left) (into_iter_items c.entries.right) inv.opened inv.rising_right less));
+      closed_right = inv.closed_right;
+      opened = rw (← next.ensures.items) (open_rest a (into_iter_items c.entries.left) inv.rising_left (b ∷ into_iter_items c.entries.right) inv.opened);
       fits = subst (λ (ls : List (Box Entry Global)). AllHavePlace ls (b ∷ into_iter_items c.entries.right)) next.ensures.items (fits_less c.entries.out.items _ a b _ _ inv.rising_right inv.rest inv.fits less);
       rest = rw (← next.ensures.items, pushed.items) (row_less c.entries.out.items _ a b _ _ inv.rising_right inv.rest inv.fits less);
     }
@@ -51,8 +56,11 @@ entries-preserved-in-Equal c =
       ended_left = ended left.result _ _ _ _ left.new.self.rest.ok.0 left.ensures.cases;
       ended_right = ended right.result _ _ _ _ right.new.self.rest.ok.0 right.ensures.cases;
       room = rw (← left.ensures.items, ← right.ensures.items) (omega (arith, inv.room, pushed.len, pushed.capacity));
+      closed = rw pushed.items (All-push (λ (e : Box Entry Global). IsClosed e.value) c.entries.out.items c.joined_entry.result inv.closed c.joined_entry.ensures.closed);
+      closed_right = rw (← right.ensures.items) (All-tail (λ (e : Box Entry Global). IsClosed e.value) b _ inv.closed_right);
+      opened = rw (← left.ensures.items, ← right.ensures.items) (open_equal a b (into_iter_items c.entries.left) (into_iter_items c.entries.right) inv.opened inv.rising_left equal);
       fits = rw (← left.ensures.items, ← right.ensures.items) (fits_equal c.entries.out.items _ a b _ _ inv.rising_right inv.rest inv.fits equal);
-      rest = rw (← left.ensures.items, ← right.ensures.items, pushed.items) (row_equal c.entries.out.items _ a b _ _ inv.rising_right inv.rest inv.fits c.joined_entry.result c.joined_entry.ensures equal);
+      rest = rw (← left.ensures.items, ← right.ensures.items, pushed.items) (row_equal c.entries.out.items _ a b _ _ inv.rising_right inv.rest inv.fits c.joined_entry.result c.joined_entry.ensures.row equal);
     }
 
 pub entries-preserved-in-Greater : goal.entries-preserved-in-Greater
@@ -69,6 +77,9 @@ entries-preserved-in-Greater c =
       ended_left = tt;
       ended_right = ended next.result _ _ _ _ next.new.self.rest.ok.0 next.ensures.cases;
       room = rw (← next.ensures.items) (omega (arith, inv.room, pushed.len, pushed.capacity));
+      closed = rw pushed.items (All-push (λ (e : Box Entry Global). IsClosed e.value) c.entries.out.items b inv.closed (All-head (λ (e : Box Entry Global). IsClosed e.value) b _ inv.closed_right));
+      closed_right = rw (← next.ensures.items) (All-tail (λ (e : Box Entry Global). IsClosed e.value) b _ inv.closed_right);
+      opened = rw (← next.ensures.items) (open_greater a b (into_iter_items c.entries.left) (into_iter_items c.entries.right) inv.opened inv.rising_left greater);
       fits = rw (← next.ensures.items) inv.fits.1;
       rest = rw (← next.ensures.items, pushed.items) (row_greater c.entries.out.items _ a b _ _ inv.rising_right inv.rest inv.fits greater);
     }
@@ -85,6 +96,9 @@ entries-preserved-in-Some-None c =
       ended_left = ended next.result _ _ _ _ next.new.self.rest.ok.0 next.ensures.cases;
       ended_right = none;
       room = rw (← next.ensures.items) (omega (arith, inv.room, pushed.len, pushed.capacity));
+      closed = rw pushed.items (All-push (λ (e : Box Entry Global). IsClosed e.value) c.entries.out.items c.in-Some-None.a inv.closed (first_closed c.in-Some-None.a (into_iter_items c.entries.left) (rw none at inv.opened)));
+      closed_right = inv.closed_right;
+      opened = rw (← next.ensures.items) (open_rest c.in-Some-None.a (into_iter_items c.entries.left) inv.rising_left (into_iter_items c.entries.right) inv.opened);
       fits = rw none tt;
       rest = rw (← next.ensures.items, pushed.items, none) (row_left c.entries.out.items _ c.in-Some-None.a _ (rw none at inv.rest));
     }
@@ -101,6 +115,9 @@ entries-preserved c =
       ended_left = none;
       ended_right = ended next.result _ _ _ _ next.new.self.rest.ok.0 next.ensures.cases;
       room = rw (← next.ensures.items) (omega (arith, inv.room, pushed.len, pushed.capacity));
+      closed = rw pushed.items (All-push (λ (e : Box Entry Global). IsClosed e.value) c.entries.out.items c.in-None-Some.b inv.closed (All-head (λ (e : Box Entry Global). IsClosed e.value) c.in-None-Some.b _ inv.closed_right));
+      closed_right = rw (← next.ensures.items) (All-tail (λ (e : Box Entry Global). IsClosed e.value) c.in-None-Some.b _ inv.closed_right);
+      opened = rw none (λ key missing x found. absurd (Some≢None (sym found)));
       fits = rw (← next.ensures.items) inv.fits.1;
       rest = rw (← next.ensures.items, pushed.items, none) (row_right c.entries.out.items _ c.in-None-Some.b _ inv.rising_right (rw none at inv.rest));
     }

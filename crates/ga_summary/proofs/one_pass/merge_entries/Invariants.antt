@@ -1,11 +1,11 @@
 use Rattle.std.proofs.Common.{◌≡◌, ◌+◌, ◌≤◌, ◌++◌, [], IfNone, length, vec_len, vec_capacity}
 use Rattle.std.specs.Option.{option_to_list}
 use Rattle.std.specs.Vec.Iter.{into_iter_items}
-use Rattle.ga_summary.specs.Steps.Entries.{rows_of}
+use Rattle.ga_summary.specs.Steps.Entries.{AllClosed, rows_of}
 use Rattle.ga_summary.specs.Steps.Joined.{put_rows}
 use Rattle.ga_base.specs.Orders.{key_cmp}
 use Rattle.ga_summary.specs.Steps.Places.{Rises}
-use Rattle.ga_summary.specs.Steps.Room.{AllHavePlace}
+use Rattle.ga_summary.specs.Steps.Room.{AllHavePlace, OpenAmong}
 use Rattle.ga_summary.specs.Rows.{Row}
 use Rattle.ga_summary.proofs.one_pass.merge_entries.Given as goal
 
@@ -16,6 +16,9 @@ invariant-entries l = record {
   ended_left : IfNone l.next_left (into_iter_items l.left ≡ []);
   ended_right : IfNone l.next_right (into_iter_items l.right ≡ []);
   room : vec_len l.out + (length (option_to_list l.next_left ++ into_iter_items l.left) + length (option_to_list l.next_right ++ into_iter_items l.right)) ≤ vec_capacity l.out;
+  closed : AllClosed l.out.items;
+  closed_right : AllClosed (option_to_list l.next_right ++ into_iter_items l.right);
+  opened : OpenAmong (option_to_list l.next_left ++ into_iter_items l.left) (option_to_list l.next_right ++ into_iter_items l.right);
   fits : AllHavePlace (option_to_list l.next_left ++ into_iter_items l.left) (option_to_list l.next_right ++ into_iter_items l.right);
   rest : rows_of l.out.items ++ put_rows (rows_of (option_to_list l.next_right ++ into_iter_items l.right)) (rows_of (option_to_list l.next_left ++ into_iter_items l.left)) ≡ put_rows (rows_of l.fn.right.items) (rows_of l.fn.left.items);
 }

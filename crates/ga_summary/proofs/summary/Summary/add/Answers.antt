@@ -22,7 +22,7 @@ returns-in_err-totals-clause-full c =
 pub returns-clause-sum : goal.returns-clause-sum
 returns-clause-sum c = λ outcomes old.
     let hit : Hit = hit_of c.args.keys.now (option_copied c.args.visitor) c.args.rec.now in
-    let mine : IsSummary c.args.self.now = subst IsSummary c.self.view_is c.self.invariant in
+    let mine : IsSummary c.args.self.now = subst IsSummary c.self.view_is c.self.invariant.0 in
     let one = IsSumOf-line hit c.args.rec.now.date c.requires in
     rw (c.in_ok-absorb.ensures.merged, c.in_ok-one.ensures, c.items.ensures)
     (IsSumOf-append outcomes _ c.args.self.now (line_value hit) _ old one (IsMerged-merged_value c.args.self.now (line_value hit) mine.ordered one.ordered))
@@ -30,7 +30,7 @@ returns-clause-sum c = λ outcomes old.
 pub returns-clause-merged : goal.returns-clause-merged
 returns-clause-merged c = λ other is.
     let hit : Hit = hit_of c.args.keys.now (option_copied c.args.visitor) c.args.rec.now in
-    let mine : IsSummary c.args.self.now = subst IsSummary c.self.view_is c.self.invariant in
+    let mine : IsSummary c.args.self.now = subst IsSummary c.self.view_is c.self.invariant.0 in
     let one = IsSumOf-line hit c.args.rec.now.date c.requires in
     rw (c.in_ok-absorb.ensures.merged, c.in_ok-one.ensures, c.items.ensures)
     (IsMerged-same _ c.args.self.now (line_value hit) other _ one is (IsMerged-merged_value c.args.self.now (line_value hit) mine.ordered one.ordered))

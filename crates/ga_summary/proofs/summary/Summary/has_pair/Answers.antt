@@ -8,4 +8,4 @@ use Rattle.ga_summary.proofs.summary.Summary.has_pair.Goals as goal
 pub holds_visitor-requires : goal.holds_visitor-requires
 holds_visitor-requires c =
     let found = rw (c.deref.ensures.value) at c.in-Some.ensures in
-    rw (c.deref-then-visitor-key.ensures.value) (all-row_at (λ (row : Row). IsStrictlySortedBy name_cmp row.names) (rows_of c.self.inside.entries.items) c.args.key.now (row_of c.in-Some.entry.now) c.self.invariant.ordered.names found)
+    rw c.names.ensures (all-row_at (λ (row : Row). IsStrictlySortedBy name_cmp row.names) (rows_of c.self.inside.entries.items) c.args.key.now (row_of c.in-Some.entry.now) c.self.invariant.0.ordered.names found)

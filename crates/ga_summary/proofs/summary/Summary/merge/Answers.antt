@@ -17,8 +17,8 @@ returns-in_err-totals-clause-full c =
 
 pub returns-clause-merged : goal.returns-clause-merged
 returns-clause-merged c =
-    let mine : IsSummary c.args.self.now = subst IsSummary c.self.view_is c.self.invariant in
-    let theirs : IsSummary c.args.other.now = subst IsSummary c.other.view_is c.other.invariant in
+    let mine : IsSummary c.args.self.now = subst IsSummary c.self.view_is c.self.invariant.0 in
+    let theirs : IsSummary c.args.other.now = subst IsSummary c.other.view_is c.other.invariant.0 in
     rw (c.in_ok-absorb.ensures.merged, c.in_ok-more.ensures) (IsMerged-merged_value c.args.self.now c.args.other.now mine.ordered theirs.ordered)
 
 pub returns-clause-sum : goal.returns-clause-sum

@@ -1,0 +1,12 @@
+use Rattle.std.proofs.Common.{Box, Global, arith}
+use Rattle.std.proofs.lemmas.Grind.{common_steps}
+use Rattle.std.proofs.lemmas.List.Elements.{All-push}
+use Rattle.ga_summary.specs.declared.entry.Entry.{Entry}
+use Rattle.ga_summary.specs.Steps.Entries.{IsClosed}
+use Rattle.ga_summary.proofs.entries.copy_all.Goals as goal
+
+pub loop-entry-preserved : goal.loop-entry-preserved
+loop-entry-preserved c = record {
+  rows = grind (arith, common_steps);
+  closed = rw c.in_ok-push.ensures.items (All-push (λ (b : Box Entry Global). IsClosed b.value) _ c.in_ok-new.field-0 c.loop-entry.invariant.closed (rw c.in_ok-new.ensures.ok c.in_ok-copy.ensures.closed));
+}

@@ -1,0 +1,148 @@
+ghost use Rattle.std.specs.Prelude.{◌≡◌, ◌+◌, ◌/◌, ◌%◌, ◌<◌, ◌↔◌, IsTrue, MatchOption, false, [], take, length};
+ghost use Rattle.std.specs.List.Sorted.{IsStrictlySortedBy};
+ghost use Rattle.ga_base.specs.Days.{eight_digits};
+ghost use Rattle.ga_base.specs.Layers.{HasForm, has_groups, has_requests};
+ghost use Rattle.ga_base.specs.Orders.{key_cmp, name_cmp};
+ghost use Rattle.ga_base.specs.declared.panel.Panel.TheVariants.{Visitors};
+ghost use Rattle.ga_summary.specs.Parts.{row_of_part, rows_in};
+ghost use Rattle.ga_summary.specs.Rows.{has_name};
+ghost use Rattle.ga_summary.specs.Steps.Passing.{AllAmong, IsBehind, StandsAlone};
+ghost use Rattle.ga_summary.specs.Steps.Places.{Rises};
+
+use crate::PartRow;
+use crate::names::find_name;
+use crate::order::{compare_keys, compare_names};
+use ga_base::{Key, Name, Panel};
+
+/// The first number of eight digits.
+const FIRST_DAY: u32 = 10_000_000;
+
+/// The last number of eight digits.
+const LAST_DAY: u32 = 99_999_999;
+
+/// The ASCII digit of a number at a power of ten.
+fn digit(number: u32, power: u32) -> u8
+    requires { 0 < power }
+    ensures { result ≡ 48 + number / power % 10 }
+{
+    b'0' + (number / power % 10) as u8
+}
+
+/// Whether a text is the eight digits of a day.
+fn is_day(text: &[u8], date: u32) -> bool
+    ensures { IsTrue result ↔ (text.now ≡ eight_digits date) }
+{
+    let digits = [
+        digit(date, 10_000_000),
+        digit(date, 1_000_000),
+        digit(date, 100_000),
+        digit(date, 10_000),
+        digit(date, 1_000),
+        digit(date, 100),
+        digit(date, 10),
+        digit(date, 1),
+    ];
+    text == digits.as_slice()
+}
+
+/// Whether the entries of a panel stand in groups.
+fn has_groups(panel: Panel) -> bool
+    ensures { result ≡ has_groups panel }
+{
+    matches!(
+        panel,
+        Panel::Os | Panel::Browsers | Panel::StatusCodes | Panel::MimeType
+    )
+}
+
+/// Whether the keys of a panel have the method and the protocol.
+fn has_requests(panel: Panel) -> bool
+    ensures { result ≡ has_requests panel }
+{
+    matches!(
+        panel,
+        Panel::Requests | Panel::RequestsStatic | Panel::NotFound
+    )
+}
+
+/// Whether a key's label is that of its day, where it is a key of VISITORS.
+fn has_day_label(key: &Key) -> bool
+    ensures { IsTrue result ↔ (key.now.panel ≡ Visitors → key.now.label ≡ eight_digits key.now.date) }
+{
+    match key.panel {
+        Panel::Visitors => is_day(key.label.bytes(), key.date),
+        _ => true,
+    }
+}
+
+/// Whether a key's method and protocol are empty, where its panel has none.
+fn has_request_form(key: &Key) -> bool
+    ensures { IsTrue result ↔ (has_requests key.now.panel ≡ false → (key.now.method ≡ []) × (key.now.protocol ≡ [])) }
+{
+    has_requests(key.panel) || (key.method.bytes().is_empty() && key.protocol.bytes().is_empty())
+}
+
+/// Whether a key has its form.
+fn has_form(key: &Key) -> bool
+    ensures { IsTrue result ↔ HasForm key.now }
+{
+    FIRST_DAY <= key.date
+        && key.date <= LAST_DAY
+        && key.parent.bytes().is_empty() != has_groups(key.panel)
+        && has_day_label(key)
+        && has_request_form(key)
+}
+
+/// Whether names rise.
+fn names_rise(names: &[Name]) -> bool
+    ensures { IsTrue result ↔ IsStrictlySortedBy name_cmp names.now }
+{
+    names.is_sorted_by(|a, b| compare_names(a, b).is_lt())
+}
+
+/// Whether a row can stand as far as it is seen by itself.
+pub(crate) fn stands_alone(row: &PartRow) -> bool
+    ensures { IsTrue result ↔ StandsAlone (row_of_part row.now) }
+{
+    let names = row.names.items();
+    has_form(&row.key)
+        && names_rise(names)
+        && row.sums.hits >= 1
+        && names.len() as u64 <= row.sums.hits
+}
+
+/// Whether the key at a place is above those before it, which rise.
+pub(crate) fn key_rises(rows: &[PartRow], at: usize) -> bool
+    requires within { at < length rows.now }
+    requires rising { Rises key_cmp (λ row. row.key) (rows_in (take at rows.now)) }
+    ensures { IsTrue result ↔ Rises key_cmp (λ row. row.key) (rows_in (take (at + 1) rows.now)) }
+{
+    at == 0 || compare_keys(&rows[at - 1].key, &rows[at].key).is_lt()
+}
+
+/// The names behind a name among names that rise, or None where it isn't there.
+fn behind<'a>(names: &'a [Name], name: &Name) -> Option<&'a [Name]>
+    requires { IsStrictlySortedBy name_cmp names.now }
+    ensures { MatchOption result (has_name names.now name.now ≡ false) (λ rest. IsBehind names.now name.now rest.now) }
+{
+    match find_name(names, name) {
+        Ok(at) => Some(&names[at + 1..]),
+        Err(_) => None,
+    }
+}
+
+/// Whether each of the names is among the others, where both rise. Each is searched behind the one found last.
+pub(crate) fn all_among(names: &[Name], among: &[Name]) -> bool
+    requires rising { IsStrictlySortedBy name_cmp names.now }
+    requires rising_among { IsStrictlySortedBy name_cmp among.now }
+    ensures { IsTrue result ↔ AllAmong names.now among.now }
+{
+    let mut left = among;
+    for name in names {
+        match behind(left, name) {
+            Some(rest) => left = rest,
+            None => return false,
+        }
+    }
+    true
+}
