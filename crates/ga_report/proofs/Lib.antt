@@ -1,0 +1,10 @@
+pub mod Lists
+pub mod ItemSums
+pub mod Shares
+pub mod MergeSteps
+pub mod Arrangement
+pub mod OfSummaries
+pub mod Generals
+pub mod Pairs
+pub mod OneArrangement
+pub mod Printables

@@ -1,0 +1,17 @@
+use Rattle.std.proofs.Common.{subst, sym, ap, ◌∙◌, List, ◌≡◌}
+use Rattle.std.proofs.lemmas.Result.{IfOk-weaker}
+use Rattle.ga_report.specs.Told.{ToldRow}
+use Rattle.ga_report.specs.Steps.Summed.{ItemsFit, AreSummed, merged}
+use Rattle.ga_report.proofs.ItemSums.{are-summed}
+use Rattle.ga_report.proofs.Shares.{items-fit}
+use Rattle.ga_report.proofs.merging.summed.Goals as goal
+
+pub merge-requires : goal.merge-requires
+merge-requires c =
+    subst ItemsFit (sym c.deref.ensures.value) (items-fit c.args.rows.items _ c.requires c.sorted_by_item-rows.ensures.same)
+
+pub returns : goal.returns
+returns c =
+    IfOk-weaker c.merge.result (λ items. items.items ≡ merged c.deref.result.now) (λ items. AreSummed c.args.rows.items items.items)
+    (λ items is. subst (λ (xs : List ToldRow). AreSummed c.args.rows.items xs) (sym (is ∙ ap merged c.deref.ensures.value))
+    (are-summed c.args.rows.items c.sorted_by_item-rows.result.items c.sorted_by_item-rows.ensures.same c.sorted_by_item-rows.ensures.sorted)) c.merge.ensures

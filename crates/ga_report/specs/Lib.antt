@@ -1,0 +1,8 @@
+pub mod Told
+pub mod Sound
+pub mod Items
+pub mod Percents
+pub mod Reports
+pub mod OfSummary
+pub mod Printable
+pub mod Steps

@@ -1,0 +1,2 @@
+-- What only inner contracts and proofs say.
+pub mod Summed

@@ -1,0 +1,22 @@
+//! From what was counted to the report: its general numbers, and the ordered rows of each panel.
+//!
+//! Start with `rows`, which meets `IsReport` of `specs/Reports.antt`. It reads what was counted through `Tells`, a row
+//! at a time, so that a report needs the number of a key's visitors and not their names.
+#![tactic(auto)]
+
+mod arranging;
+pub mod laws;
+mod merging;
+mod of_summary;
+mod percents;
+mod report;
+mod reporting;
+mod told;
+
+pub use percents::hundredths;
+pub use report::{General, Item, Items, PanelList, PanelLists, Report, Row, RowList};
+pub use reporting::rows;
+pub use told::{Tells, Told};
+
+#[cfg(test)]
+mod tests;

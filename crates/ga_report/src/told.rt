@@ -1,0 +1,100 @@
+ghost use Rattle.std.specs.Prelude.{◌≡◌, ◌<◌, length, slice_get, Some};
+ghost use Rattle.ga_report.specs.Items.{is_of};
+ghost use Rattle.ga_report.specs.Sound.{AreSound};
+ghost use Rattle.ga_report.specs.Steps.Summed.{plus, FitTogether};
+ghost use Rattle.ga_report.specs.Told.{ToldValue};
+
+use ga_base::{Key, Sums, Totals};
+use std::marker::Model;
+
+/// What was counted, told a row at a time: totals over all lines, and a row for each key, where keys rise.
+pub trait Tells {
+    ghost view: { Self → ToldValue };
+
+    /// The totals over all lines.
+    fn totals(&self) -> Totals
+        ensures totals { result ≡ (view self.now).totals }
+        ensures sound { AreSound (view self.now).rows };
+
+    /// The number of rows.
+    fn len(&self) -> u64
+        ensures { result ≡ length (view self.now).rows };
+
+    /// The row at a place, from 0.
+    fn row(&self, at: u64) -> Told<'_>
+        requires { at < length (view self.now).rows }
+        ensures { slice_get (view self.now).rows at ≡ Some result };
+}
+
+/// What was counted under a key, or under all keys of an item: its sums and the number of its visitors.
+#[derive(Debug, Drop)]
+pub struct Told<'a> {
+    key: &'a Key,
+    sums: Sums,
+    visitors: u64,
+}
+
+impl<'a> Model for Told<'a> {
+    ghost use Rattle.ga_report.specs.Told.{ToldRow};
+
+    ghost Value = { ToldRow };
+
+    ghost view = { λ t. record { key = t.key.now; sums = t.sums; visitors = t.visitors } };
+}
+
+impl<'a> Told<'a> {
+    /// The row of a key.
+    pub fn of(key: &'a Key, sums: Sums, visitors: u64) -> Told<'a>
+        ensures { result ≡ record { key = key.now; sums = sums; visitors = visitors } }
+    {
+        Told {
+            key,
+            sums,
+            visitors,
+        }
+    }
+
+    /// The key, or that of one of an item's days.
+    pub(crate) fn key(&self) -> &'a Key
+        ensures { result.now ≡ self.now.key }
+    {
+        self.key
+    }
+
+    /// The sums.
+    pub(crate) fn sums(&self) -> Sums
+        ensures { result ≡ self.now.sums }
+    {
+        self.sums
+    }
+
+    /// The number of visitors.
+    pub(crate) fn visitors(&self) -> u64
+        ensures { result ≡ self.now.visitors }
+    {
+        self.visitors
+    }
+
+    /// The same row.
+    pub(crate) fn copy(&self) -> Told<'a>
+        ensures { result ≡ self.now }
+    {
+        Told {
+            key: self.key,
+            sums: self.sums,
+            visitors: self.visitors,
+        }
+    }
+
+    /// Adds a row of the same item.
+    pub(crate) fn add(&mut self, more: &Told<'_>)
+        requires { FitTogether self.old more.now }
+        ensures { self.new ≡ plus self.old more.now }
+    {
+        self.sums.hits += more.sums.hits;
+        self.sums.bytes += more.sums.bytes;
+        self.sums.micros += more.sums.micros;
+        self.sums.max_micros = self.sums.max_micros.max(more.sums.max_micros);
+        self.visitors += more.visitors;
+    }
+}
