@@ -1,0 +1,3 @@
+-- What only inner contracts and proofs say.
+pub mod Shares
+pub mod Writing

@@ -1,0 +1,17 @@
+//! A report as text: CSV and JSON.
+//!
+//! Start with `csv` and `json`. `specs/Csv.antt` and `specs/Json.antt` have the layouts, over what the libraries of
+//! those names say of the texts that they write.
+#![tactic(auto)]
+
+mod csv_text;
+mod json_text;
+mod members;
+mod panel_name;
+mod percent;
+
+pub use csv_text::csv;
+pub use json_text::json;
+
+#[cfg(test)]
+mod tests;
