@@ -1,0 +1,12 @@
+mod TableLemmas
+mod LogLemmas
+mod ValueLemmas
+mod CutLemmas
+mod NameLemmas
+mod UnitLemmas
+mod RowLemmas
+mod AnswerLemmas
+mod ClassLemmas
+mod EventLemmas
+mod OneEvent
+mod OneReading

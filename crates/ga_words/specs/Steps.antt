@@ -1,0 +1,3 @@
+-- What the functions of this crate promise to one another. No public contract names it.
+pub mod Settings
+pub mod Words

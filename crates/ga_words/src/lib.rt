@@ -1,0 +1,25 @@
+//! The words of the command line, read to the settings of a run.
+//!
+//! Start with `read_words`. It answers what the definition `WordsOf` says: the settings that the words mean, or the fault
+//! for which they mean none. `specs/Options.antt` has the table of the options, `specs/Values.antt` says what their values
+//! mean, `specs/Defaults.antt` what holds without them, and `specs/Units.antt` how words make a row of units. `laws` says
+//! that each list of words has one answer; `specs/Steps` has the words of inner steps alone.
+#![tactic(auto)]
+
+mod amiss;
+mod fault;
+pub mod laws;
+mod options;
+mod panels;
+mod reading;
+mod setting;
+mod settings;
+mod table;
+#[cfg(test)]
+mod tests;
+mod values;
+mod word;
+
+pub use fault::WordFault;
+pub use reading::read_words;
+pub use settings::{Kind, Output, Settings};

@@ -1,0 +1,106 @@
+ghost use Rattle.std.specs.Prelude.{◌≡◌, option_map};
+ghost use Rattle.ga_words.specs.Options.{takes_of};
+ghost use Rattle.ga_words.specs.Steps.Settings.{meaning};
+
+use crate::table::{Row, beside};
+
+/// What an option takes, with the setting that it makes.
+#[derive(Clone, Copy)]
+pub(crate) enum Takes {
+    /// No value.
+    Flag(Flag),
+    /// A text, which may be empty.
+    Format(Format),
+    /// A text of at least one byte.
+    Name(Name),
+    /// A number from the one to the other.
+    Number(Number, u32, u32),
+    /// A status code.
+    Status,
+    /// Where the report goes.
+    Target,
+    /// An address or a range of them.
+    Addresses,
+    /// The name of a panel, which is put in where this is true, and taken out else.
+    OfPanel(bool),
+}
+
+/// The settings that flags make.
+#[derive(Clone, Copy)]
+pub(crate) enum Flag {
+    AllStatic,
+    NoQuery,
+    IgnoreCrawlers,
+    NoIpValidation,
+    NoStrictStatus,
+    Count4xx,
+    As404,
+    DoubleDecode,
+    Persist,
+    Restore,
+}
+
+/// The settings that texts make which may be empty.
+#[derive(Clone, Copy)]
+pub(crate) enum Format {
+    Log,
+    Date,
+    Time,
+}
+
+/// The settings that names make.
+#[derive(Clone, Copy)]
+pub(crate) enum Name {
+    BrowsersFile,
+    StaticFile,
+    DbPath,
+}
+
+/// The settings that numbers make.
+#[derive(Clone, Copy)]
+pub(crate) enum Number {
+    MaxItems,
+    Jobs,
+    Chunk,
+    Generate,
+}
+
+/// The options (own profile: the greatest numbers, and `--double-decode-url` and `--generate`).
+const OPTIONS: [Row<Takes>; 26] = [
+    Row("--log-format", Takes::Format(Format::Log)),
+    Row("--date-format", Takes::Format(Format::Date)),
+    Row("--time-format", Takes::Format(Format::Time)),
+    Row("-o", Takes::Target),
+    Row("--output", Takes::Target),
+    Row("--browsers-file", Takes::Name(Name::BrowsersFile)),
+    Row("--static-file", Takes::Name(Name::StaticFile)),
+    Row("--all-static-files", Takes::Flag(Flag::AllStatic)),
+    Row("--exclude-ip", Takes::Addresses),
+    Row("--no-query-string", Takes::Flag(Flag::NoQuery)),
+    Row("--ignore-crawlers", Takes::Flag(Flag::IgnoreCrawlers)),
+    Row("--ignore-status", Takes::Status),
+    Row("--ignore-panel", Takes::OfPanel(false)),
+    Row("--enable-panel", Takes::OfPanel(true)),
+    Row("--no-ip-validation", Takes::Flag(Flag::NoIpValidation)),
+    Row("--no-strict-status", Takes::Flag(Flag::NoStrictStatus)),
+    Row("--4xx-to-unique-count", Takes::Flag(Flag::Count4xx)),
+    Row("--444-as-404", Takes::Flag(Flag::As404)),
+    Row("--double-decode-url", Takes::Flag(Flag::DoubleDecode)),
+    Row(
+        "--max-items",
+        Takes::Number(Number::MaxItems, 1, 4_294_967_295),
+    ),
+    Row("--jobs", Takes::Number(Number::Jobs, 1, 16)),
+    Row("--chunk-size", Takes::Number(Number::Chunk, 1, 32_768)),
+    Row("--persist", Takes::Flag(Flag::Persist)),
+    Row("--restore", Takes::Flag(Flag::Restore)),
+    Row("--db-path", Takes::Name(Name::DbPath)),
+    Row("--generate", Takes::Number(Number::Generate, 1, 1_000_000)),
+];
+
+/// What the option of this name takes, byte for byte.
+pub(crate) fn option_named(name: &str) -> Option<Takes>
+    ensures { option_map meaning result ≡ takes_of name.now }
+{
+    beside(&OPTIONS, name)
+}
