@@ -1,10 +1,9 @@
 -- What one more line does to the sum of a log's lines.
-use Rattle.std.proofs.Common.{◌≡◌, ◌↔◌, ◌≤◌, ℕ, Bool, true, false, List, [], ◌∷◌, ◌++◌, refl, ap, sym, ◌∙◌, subst, Option, Some, None, IfSome, Result, Ok, Err, OnOk, arith, append_assoc, append-nil, cond, zero, suc, length, sum_by, add_assoc, add-zero, zero-add}
+use Rattle.std.proofs.Common.{◌≡◌, ◌↔◌, ◌≤◌, ℕ, Bool, true, false, List, [], ◌∷◌, ◌++◌, refl, ap, sym, ◌∙◌, subst, Option, Some, None, IfSome, Result, Ok, Err, OnOk, arith, append_assoc, append-nil, cond, length, sum_by, add_assoc, add-zero, zero-add}
 use Rattle.std.specs.Result.{IsErrOf}
-use Rattle.std.specs.Prelude.{All, count_by, ◌+◌}
+use Rattle.std.specs.Prelude.{count_by, ◌+◌}
 use Rattle.std.specs.Option.{unwrap_or}
 use Rattle.ga_summary.specs.OneLine.{record_totals}
-use Rattle.std.proofs.lemmas.List.Elements.{filter_map-append}
 use Rattle.std.proofs.lemmas.List.Sums.{sum_by-cons}
 use Rattle.ga_base.specs.declared.counts.Counter.{Counter}
 use Rattle.ga_base.specs.declared.counts.TheConstants.{BIG}
@@ -12,25 +11,20 @@ use Rattle.ga_base.specs.declared.counts.Totals.{Totals}
 use Rattle.ga_base.specs.declared.key.Key.{Key}
 use Rattle.ga_base.specs.declared.key.Visitor.{Visitor}
 use Rattle.ga_base.specs.declared.record.Record.{Record}
-use Rattle.ga_base.specs.declared.record.Line.{Line}
-use Rattle.ga_base.specs.declared.record.Line.TheVariants.{Skipped, Failed, Good}
-use Rattle.ga_line.specs.Lines.{lines}
-use Rattle.ga_line.specs.Records.{IsLineOf}
-use Rattle.ga_line.specs.declared.setup.LineSetup.{LineSetup}
-use Rattle.ga_base.specs.declared.panel.Panel.TheVariants.{Visitors, Hosts}
+use Rattle.ga_run.specs.declared.setup.Setup.{Setup}
 use Rattle.ga_line.specs.Bounds.{RecordBounds}
-use Rattle.ga_base.specs.Days.{HasEightDigits, eight_digits}
+use Rattle.ga_panels.specs.Facts.{CanHaveKeys}
 use Rattle.ga_panels.specs.Form.{AreKeysOfDay}
-use Rattle.ga_panels.specs.Table.{table_keys}
-use Rattle.ga_panels.specs.Visitors.{visitor_in, is_client_error}
+use Rattle.ga_panels.specs.Visitors.{visitor_in, is_visit}
+use Rattle.ga_panels.specs.declared.setup.PanelSetup.{PanelSetup}
 use Rattle.ga_summary.specs.Limits.{over, passes, or_else}
 use Rattle.ga_summary.specs.Outcomes.{Hit, Outcome, Counted, hit_of, hits_of, is_failed, is_excluded, totals_of}
 use Rattle.ga_summary.specs.Outcomes as outcomes
 use Rattle.ga_summary.specs.Sums.{IsSumOf}
-use Rattle.ga_run.specs.Counting.{Say, outcome_in, outcomes_in, no_totals, CountsLog, FillsCounter}
+use Rattle.ga_run.specs.Counting.{ComesTo, Come, listed, no_totals, CountsLines, FillsAmong}
 use Rattle.ga_run.specs.Steps.Counting.{CountsLine, FillsAtLine}
 use Rattle.ga_summary.specs.Rows.{SummaryValue, totals_plus}
-use Rattle.ga_summary.specs.Sound.{IsCountable, HasForm}
+use Rattle.ga_summary.specs.Sound.{IsCountable}
 use Rattle.ga_summary.specs.declared.fault.MergeFault.{MergeFault}
 use Rattle.ga_summary.specs.declared.fault.MergeFault.TheVariants.{CounterFull}
 
@@ -41,53 +35,31 @@ fits_by None (Ok x) h = refl
 fits_by (Some p) (Ok x) h = let e : Ok x ≡ Err (CounterFull p.0 p.1) = (h p.0 p.1).1 refl in absurd (cc e)
 fits_by o (Err e) h = tt
 
-abbrev day_of : Record → Key
-day_of rec = record { panel = Visitors; date = rec.date; parent = []; label = eight_digits rec.date; method = []; protocol = [] }
-
-abbrev host_of : Record → Key
-host_of rec = record { panel = Hosts; date = rec.date; parent = []; label = rec.host; method = []; protocol = [] }
-
-not-day : Hosts ≡ Visitors → ⊥
-not-day e = cc e
-
-visit-date : (b : Bool) (v x : Visitor) → cond b None (Some v) ≡ Some x → x.date ≡ v.date
-visit-date true v x e = cc
-visit-date false v x e = let same : v ≡ x = cc in ap (λ (y : Visitor). y.date) (sym same)
-
-day-form : (rec : Record) → HasEightDigits rec.date → HasForm (day_of rec)
-day-form rec digits = record {
-  date = digits;
-  parent = (λ e. refl, λ e. refl);
-  label = λ e. refl;
-  request = λ e. (refl, refl);
-}
-
-host-form : (rec : Record) → HasEightDigits rec.date → HasForm (host_of rec)
-host-form rec digits = record {
-  date = digits;
-  parent = (λ e. refl, λ e. refl);
-  label = λ e. absurd (not-day e);
-  request = λ e. (refl, refl);
-}
-
-forms : (rec : Record) → HasEightDigits rec.date → All HasForm (table_keys rec)
-forms rec digits zero d h = day-form rec digits
-forms rec digits (suc zero) d h = host-form rec digits
-forms rec digits (suc (suc k)) d h = absurd (omega arith)
+visit-date : (b : Bool) (v x : Visitor) → cond b (Some v) None ≡ Some x → x.date ≡ v.date
+visit-date true v x e = let same : v ≡ x = cc in ap (λ (y : Visitor). y.date) (sym same)
+visit-date false v x e = cc
 
 micros-within : (o : Option ℕ) → IfSome o (λ micros. micros ≤ BIG) → unwrap_or o 0 ≤ BIG
 micros-within None h = omega arith
 micros-within (Some m) h = h
 
+-- the records that lines say have keys
+pub can-have : (rec : Record) → RecordBounds rec → CanHaveKeys rec
+can-have rec bounds = record {
+  date = bounds.date;
+  minute = bounds.minute;
+  status = bounds.status;
+}
+
 -- the keys of a record may be counted on its day
-pub countable : (rec : Record) → RecordBounds rec → AreKeysOfDay rec.date (table_keys rec) → IsCountable rec.date (hit_of (table_keys rec) (visitor_in rec) rec)
-countable rec bounds keys = record {
-  rising = keys.rising;
-  dated = keys.dated;
-  formed = forms rec bounds.date;
-  day = keys.day;
-  layers = keys.layers;
-  visitor = λ x e. visit-date (is_client_error rec.status) _ x e;
+pub countable : (panels : PanelSetup) (rec : Record) (keys : List Key) → RecordBounds rec → AreKeysOfDay rec.date keys → IsCountable rec.date (hit_of keys (visitor_in panels rec) rec)
+countable panels rec keys bounds form = record {
+  rising = form.rising;
+  dated = form.dated;
+  formed = form.formed;
+  day = form.day;
+  layers = form.layers;
+  visitor = λ x e. visit-date (is_visit panels rec.status) _ x e;
   bytes = bounds.bytes;
   micros = micros-within rec.micros bounds.micros;
 }
@@ -149,83 +121,85 @@ over-append t (x ∷ xs) ys e =
     plus-assoc t (totals_of (x ∷ [])) (totals_of xs) ∙ ap (λ (u : Totals). totals_plus t u) (totals-cons x xs) in
     ap (λ (o : Option (Counter × ℕ)). or_else o (over more (xs ++ ys))) parts.0 ∙ rest ∙ ap (λ (u : Totals). over u ys) sums
 
--- the lines up to those that are left are counted
-pub record CountedTo (setup : LineSetup) (all rest : List (List ℕ)) (sum : SummaryValue) : Type 0 where
-  pub seen : List (List ℕ)
-  pub said : List Line
-  pub split : all ≡ seen ++ rest
-  pub reads : Say setup seen said
-  pub is_sum : IsSumOf (outcomes_in said) sum
-  pub fits : over no_totals (outcomes_in said) ≡ None
+-- lines before and behind come to outcomes before and behind
+pub come-append : (setup : Setup) (xs ys : List (List ℕ)) (os ps : List Outcome) → Come setup xs os → Come setup ys ps → Come setup (xs ++ ys) (os ++ ps)
+come-append setup [] ys os ps h k = subst (λ (o : List Outcome). Come setup ys (o ++ ps)) (sym h) k
+come-append setup (x ∷ xs) ys os ps (first, rest, comes, h, is) k =
+    (first, rest ++ ps, comes, come-append setup xs ys rest ps h k, ap (λ (o : List Outcome). o ++ ps) is ∙ listed-append first rest ps)
+  where
+    listed-append : (first : Option Outcome) (rest ps : List Outcome) → listed first rest ++ ps ≡ listed first (rest ++ ps)
+    listed-append None rest ps = refl
+    listed-append (Some o) rest ps = refl
 
-pub counted-none : (setup : LineSetup) (all : List (List ℕ)) (sum : SummaryValue) → IsSumOf [] sum → CountedTo setup all all sum
-counted-none setup all sum is = record { seen = []; said = []; split = refl; reads = tt; is_sum = is; fits = refl }
-
--- one more line is read
-Say-push : (setup : LineSetup) (seen : List (List ℕ)) (said : List Line) (line : List ℕ) (s : Line) → Say setup seen said → IsLineOf setup line s
-    → Say setup (seen ++ line ∷ []) (said ++ s ∷ [])
-Say-push setup [] [] line s h one = (one, tt)
-Say-push setup [] (x ∷ said) line s h one = absurd h
-Say-push setup (l ∷ seen) [] line s h one = absurd h
-Say-push setup (l ∷ seen) (x ∷ said) line s h one = (h.0, Say-push setup seen said line s h.1 one)
+come-one : (setup : Setup) (line : List ℕ) (outcome : Option Outcome) → ComesTo setup line outcome → Come setup (line ∷ []) (listed outcome [])
+come-one setup line outcome comes = (outcome, [], comes, refl, refl)
 
 -- the totals before a line
-over-line : (said : List Line) (s : Line) (sum : SummaryValue) → IsSumOf (outcomes_in said) sum → over no_totals (outcomes_in said) ≡ None
-    → over no_totals (outcomes_in (said ++ s ∷ [])) ≡ over sum.totals (outcomes_in (s ∷ []))
-over-line said s sum is fits =
-    ap (λ (os : List Outcome). over no_totals os) (filter_map-append outcome_in said (s ∷ []))
-    ∙ over-append no_totals (outcomes_in said) (outcomes_in (s ∷ [])) fits
-    ∙ ap (λ (u : Totals). over u (outcomes_in (s ∷ []))) (none-plus (totals_of (outcomes_in said)) ∙ sym is.totals)
+over-more : (before : List Outcome) (more : List Outcome) (sum : SummaryValue) → IsSumOf before sum → over no_totals before ≡ None
+    → over no_totals (before ++ more) ≡ over sum.totals more
+over-more before more sum is fits =
+    over-append no_totals before more fits ∙ ap (λ (u : Totals). over u more) (none-plus (totals_of before) ∙ sym is.totals)
 
-over-one : (s : Line) (t : Totals) → IfSome (outcome_in s) (λ o. passes (totals_plus t (totals_of (o ∷ []))) ≡ None) → over t (outcomes_in (s ∷ [])) ≡ None
-over-one Skipped t h = refl
-over-one Failed t h = ap (λ (o : Option (Counter × ℕ)). or_else o None) h
-over-one (Good rec) t h = ap (λ (o : Option (Counter × ℕ)). or_else o None) h
-
-over-full : (s : Line) (t : Totals) (o : Outcome) (p : Counter × ℕ) → outcome_in s ≡ Some o → passes (totals_plus t (totals_of (o ∷ []))) ≡ Some p
-    → over t (outcomes_in (s ∷ [])) ≡ Some p
-over-full Skipped t o p e h = cc
-over-full Failed t o p e h =
-    let same : outcomes.Failed ≡ o = cc in
-    ap (λ (q : Option (Counter × ℕ)). or_else q None) (ap (λ (x : Outcome). passes (totals_plus t (totals_of (x ∷ [])))) same ∙ h)
-over-full (Good rec) t o p e h =
-    let same : Counted (hit_of (table_keys rec) (visitor_in rec) rec) ≡ o = cc in
-    ap (λ (q : Option (Counter × ℕ)). or_else q None) (ap (λ (x : Outcome). passes (totals_plus t (totals_of (x ∷ [])))) same ∙ h)
+over-one : (outcome : Option Outcome) (t : Totals) → IfSome outcome (λ o. passes (totals_plus t (totals_of (o ∷ []))) ≡ None) → over t (listed outcome []) ≡ None
+over-one None t h = refl
+over-one (Some o) t h = ap (λ (p : Option (Counter × ℕ)). or_else p None) h
 
 -- one line more
-pub counted-line : (setup : LineSetup) (all rest next : List (List ℕ)) (line : List ℕ) (old new : SummaryValue) → CountedTo setup all rest old → rest ≡ line ∷ next
-    → CountsLine setup line old new → CountedTo setup all next new
-counted-line setup all rest next line old new before e one = record {
-  seen = before.seen ++ line ∷ [];
-  said = before.said ++ one.said ∷ [];
-  split = before.split ∙ ap (λ (x : List (List ℕ)). before.seen ++ x) e ∙ sym (append_assoc before.seen (line ∷ []) next);
-  reads = Say-push setup before.seen before.said line one.said before.reads one.says;
-  is_sum = subst (λ (os : List Outcome). IsSumOf os new) (sym (filter_map-append outcome_in before.said (one.said ∷ []))) (one.sum (outcomes_in before.said) before.is_sum);
-  fits = over-line before.said one.said old before.is_sum before.fits ∙ over-one one.said old.totals one.fits;
+pub counted-line : (setup : Setup) (before : List (List ℕ)) (line : List ℕ) (old new : SummaryValue) → CountsLines setup no_totals before old → CountsLine setup line old new
+    → CountsLines setup no_totals (before ++ line ∷ []) new
+counted-line setup before line old new h (said, says, one) = record {
+  outcomes = h.outcomes ++ listed one.outcome [];
+  come = come-append setup before (line ∷ []) h.outcomes (listed one.outcome []) h.come (come-one setup line one.outcome (said, says, one.is));
+  is_sum = one.counts.sum h.outcomes h.is_sum;
+  fits = over-more h.outcomes (listed one.outcome []) old h.is_sum h.fits ∙ over-one one.outcome old.totals one.counts.fits;
 }
 
 -- a line that fills a counter
-pub fills-line : (setup : LineSetup) (log : List ℕ) (rest next : List (List ℕ)) (line : List ℕ) (old : SummaryValue) (which : Counter) (total : ℕ)
-    → CountedTo setup (lines log true) rest old → rest ≡ line ∷ next → FillsAtLine setup line old which total → FillsCounter setup log which total
-fills-line setup log rest next line old which total before e one = record {
-  front = before.seen ++ line ∷ [];
+fills-line : (setup : Setup) (before next : List (List ℕ)) (line : List ℕ) (old : SummaryValue) (which : Counter) (total : ℕ) → CountsLines setup no_totals before old
+    → FillsAtLine setup line old which total → FillsAmong setup no_totals (before ++ line ∷ next) which total
+fills-line setup before next line old which total h (said, says, one) = record {
+  front = before ++ line ∷ [];
   back = next;
-  split = before.split ∙ ap (λ (x : List (List ℕ)). before.seen ++ x) e ∙ sym (append_assoc before.seen (line ∷ []) next);
-  said = before.said ++ one.said ∷ [];
-  reads = Say-push setup before.seen before.said line one.said before.reads one.says;
-  full = over-line before.said one.said old before.is_sum before.fits ∙ over-full one.said old.totals one.outcome (which, total) one.is one.full;
+  split = sym (append_assoc before (line ∷ []) next);
+  outcomes = h.outcomes ++ one.outcome ∷ [];
+  come = come-append setup before (line ∷ []) h.outcomes (one.outcome ∷ []) h.come (come-one setup line (Some one.outcome) (said, says, one.is));
+  full = over-more h.outcomes (one.outcome ∷ []) old h.is_sum h.fits ∙ ap (λ (p : Option (Counter × ℕ)). or_else p None) one.full;
 }
 
+-- the lines up to those that are left are counted, behind those that were counted before
+abbrev pub CountedTo : Setup → List (List ℕ) → List (List ℕ) → SummaryValue → SummaryValue → Type 0
+CountedTo setup all rest start sum = (seen : List (List ℕ)) × (all ≡ seen ++ rest)
+    × ((before : List (List ℕ)) → CountsLines setup no_totals before start → CountsLines setup no_totals (before ++ seen) sum)
+
+pub counted-none : (setup : Setup) (all : List (List ℕ)) (sum : SummaryValue) → CountedTo setup all all sum sum
+counted-none setup all sum = ([], refl, λ before h. subst (λ (ls : List (List ℕ)). CountsLines setup no_totals ls sum) (sym (append-nil before)) h)
+
+pub counted-more : (setup : Setup) (all rest next : List (List ℕ)) (line : List ℕ) (start old new : SummaryValue) → CountedTo setup all rest start old → rest ≡ line ∷ next
+    → CountsLine setup line old new → CountedTo setup all next start new
+counted-more setup all rest next line start old new (seen, split, counts) e one = (
+  seen ++ line ∷ [],
+  split ∙ ap (λ (x : List (List ℕ)). seen ++ x) e ∙ sym (append_assoc seen (line ∷ []) next),
+  λ before h. subst (λ (ls : List (List ℕ)). CountsLines setup no_totals ls new) (append_assoc before seen (line ∷ []))
+      (counted-line setup (before ++ seen) line old new (counts before h) one),
+)
+
+pub fills-more : (setup : Setup) (all rest next : List (List ℕ)) (line : List ℕ) (start old : SummaryValue) (which : Counter) (total : ℕ) → CountedTo setup all rest start old
+    → rest ≡ line ∷ next → FillsAtLine setup line old which total → (before : List (List ℕ)) → CountsLines setup no_totals before start
+    → FillsAmong setup no_totals (before ++ all) which total
+fills-more setup all rest next line start old which total (seen, split, counts) e one before h =
+    let whole : (before ++ seen) ++ line ∷ next ≡ before ++ all =
+    append_assoc before seen (line ∷ next) ∙ ap (λ (x : List (List ℕ)). before ++ x) (sym (split ∙ ap (λ (x : List (List ℕ)). seen ++ x) e)) in
+    subst (λ (ls : List (List ℕ)). FillsAmong setup no_totals ls which total) whole (fills-line setup (before ++ seen) next line old which total (counts before h) one)
+
 -- all lines are counted
-pub counted-all : (setup : LineSetup) (log : List ℕ) (sum : SummaryValue) → CountedTo setup (lines log true) [] sum → CountsLog setup log sum
-counted-all setup log sum before =
-    let whole : lines log true ≡ before.seen = before.split ∙ append-nil before.seen in
-    record {
-      said = before.said;
-      reads = subst (λ (x : List (List ℕ)). Say setup x before.said) (sym whole) before.reads;
-      is_sum = before.is_sum;
-      fits = before.fits;
-    }
+pub counted-all : (setup : Setup) (all : List (List ℕ)) (start sum : SummaryValue) → CountedTo setup all [] start sum → (before : List (List ℕ))
+    → CountsLines setup no_totals before start → CountsLines setup no_totals (before ++ all) sum
+counted-all setup all start sum (seen, split, counts) before h =
+    subst (λ (ls : List (List ℕ)). CountsLines setup no_totals (before ++ ls) sum) (sym (split ∙ append-nil seen)) (counts before h)
+
+-- the sum of no outcomes counts no lines
+pub counts-none : (setup : Setup) (sum : SummaryValue) → IsSumOf [] sum → CountsLines setup no_totals [] sum
+counts-none setup sum is = record { outcomes = []; come = refl; is_sum = is; fits = refl }
 
 -- a record is counted under its keys and for its visitor, as the table has them
 pub counts-as : (r : Result (Unit {0}) MergeFault) (old new : SummaryValue) (keys keys' : List Key) (visitor visitor' : Option Visitor) (rec : Record) → keys ≡ keys' → visitor ≡ visitor'

@@ -1,8 +1,7 @@
--- The formats that the words say come to one thing: a setup, or one refusal.
-use Rattle.std.proofs.Common.{◌≡◌, ◌≢◌, ◌⊎◌, ℕ, Bool, true, false, List, refl, ap, sym, ◌∙◌, subst, inl, inr, ⊎_elim, Result, Ok, Err, codes}
+-- The formats of settings come to one thing: a setup, or one refusal.
+use Rattle.std.proofs.Common.{◌≡◌, ◌≢◌, ◌⊎◌, ℕ, Bool, List, refl, ap, sym, ◌∙◌, subst, inl, inr, ⊎_elim, Result, Ok, Err, codes}
 use Rattle.std.proofs.lemmas.Bool.{cases_Bool, true≢false}
 use Rattle.std.proofs.lemmas.Slice.Eq.{bytes_eq-Decides}
-use Rattle.std.specs.List.{list_any}
 use Rattle.std.specs.Str.{bytes_eq}
 use Rattle.ga_base.specs.declared.formats.FormatItem.{FormatItem}
 use Rattle.ga_base.specs.declared.formats.FormatFault.{FormatFault}
@@ -14,11 +13,11 @@ use Rattle.ga_dates.specs.Grammar.{IsAnswer, IsFormatFault}
 use Rattle.ga_format.specs.FormatOf.{FormatOf}
 use Rattle.ga_format.specs.Named.{StandsFor}
 use Rattle.ga_line.specs.declared.setup.LineSetup.{LineSetup}
-use Rattle.ga_run.specs.Formats.{date_text, time_text, LogMeans, is_forwarded}
-use Rattle.ga_run.specs.Steps.Formats.{ComeTo, IsRefusal}
-use Rattle.ga_run.specs.Words.{Said}
-use Rattle.ga_run.specs.declared.formats.SetupFault.{SetupFault}
-use Rattle.ga_run.specs.declared.formats.SetupFault.TheVariants.{Forwarded, Refused, NoMemory}
+use Rattle.ga_words.specs.declared.settings.Settings.{Settings}
+use Rattle.ga_run.specs.Setups.{IsLineSetup, LogMeans, format_word}
+use Rattle.ga_run.specs.Steps.Setups.{ComeTo, IsRefusal}
+use Rattle.ga_run.specs.declared.setups.SetupFault.{SetupFault}
+use Rattle.ga_run.specs.declared.setups.SetupFault.TheVariants.{Refused, NoMemory}
 use Rattle.ga_run.specs.declared.status.Which.{Which}
 use Rattle.ga_run.specs.declared.status.Which.TheVariants.{Log, Date, Time}
 
@@ -47,100 +46,99 @@ abbrev OneFormat : Type 0
 OneFormat = (kind : Kind) (text : List ℕ) (answer other : Result (List Item) FormatFault) → IsAnswer kind text answer → IsAnswer kind text other → answer ≡ other
 
 -- the same in the order in which the formats are asked: each step has one outcome
-abbrev setup-of : List FormatItem → List Item → List Item → LineSetup
-setup-of items dates times = record { format = items; date = dates; time = times; strict_status = true }
+abbrev setup-of : Settings → List FormatItem → List Item → List Item → LineSetup
+setup-of s items dates times = record {
+  format = items;
+  date = dates;
+  time = times;
+  no_ip_validation = s.no_ip_validation;
+  strict_status = s.strict_status;
+  double_decode = s.double_decode;
+  no_query = s.no_query;
+}
 
-abbrev after-time : List FormatItem → List Item → Result (List Item) FormatFault → Result LineSetup SetupFault
-after-time items dates (Ok times) = Ok (setup-of items dates times)
-after-time items dates (Err fault) = Err (Refused Time fault)
+abbrev after-time : Settings → List FormatItem → List Item → Result (List Item) FormatFault → Result LineSetup SetupFault
+after-time s items dates (Ok times) = Ok (setup-of s items dates times)
+after-time s items dates (Err fault) = Err (Refused Time fault)
 
-record TimeStep (said : Said) (items : List FormatItem) (dates : List Item) (answer : Result LineSetup SetupFault) : Type 0 where
+record TimeStep (s : Settings) (items : List FormatItem) (dates : List Item) (answer : Result LineSetup SetupFault) : Type 0 where
   times : Result (List Item) FormatFault
-  means : IsAnswer TimeKind (time_text said) times
-  is : answer ≡ after-time items dates times
+  means : IsAnswer TimeKind s.time_format times
+  is : answer ≡ after-time s items dates times
 
-abbrev AfterDate : Said → List FormatItem → Result (List Item) FormatFault → Result LineSetup SetupFault → Type 0
-AfterDate said items (Ok dates) answer = TimeStep said items dates answer
-AfterDate said items (Err fault) answer = answer ≡ Err (Refused Date fault)
+abbrev AfterDate : Settings → List FormatItem → Result (List Item) FormatFault → Result LineSetup SetupFault → Type 0
+AfterDate s items (Ok dates) answer = TimeStep s items dates answer
+AfterDate s items (Err fault) answer = answer ≡ Err (Refused Date fault)
 
-record DateStep (said : Said) (items : List FormatItem) (answer : Result LineSetup SetupFault) : Type 0 where
+record DateStep (s : Settings) (items : List FormatItem) (answer : Result LineSetup SetupFault) : Type 0 where
   dates : Result (List Item) FormatFault
-  means : IsAnswer DateKind (date_text said) dates
-  next : AfterDate said items dates answer
+  means : IsAnswer DateKind s.date_format dates
+  next : AfterDate s items dates answer
 
-abbrev AfterItems : Said → List FormatItem → Bool → Result LineSetup SetupFault → Type 0
-AfterItems said items true answer = answer ≡ Err Forwarded
-AfterItems said items false answer = DateStep said items answer
+abbrev AfterLog : Settings → Result (List FormatItem) FormatFault → Result LineSetup SetupFault → Type 0
+AfterLog s (Ok items) answer = DateStep s items answer
+AfterLog s (Err fault) answer = answer ≡ Err (Refused Log fault)
 
-abbrev AfterLog : Said → Result (List FormatItem) FormatFault → Result LineSetup SetupFault → Type 0
-AfterLog said (Ok items) answer = AfterItems said items (list_any is_forwarded items) answer
-AfterLog said (Err fault) answer = answer ≡ Err (Refused Log fault)
-
-record LogStep (said : Said) (answer : Result LineSetup SetupFault) : Type 0 where
+record LogStep (s : Settings) (answer : Result LineSetup SetupFault) : Type 0 where
   log : Result (List FormatItem) FormatFault
-  means : LogMeans said.format log
-  next : AfterLog said log answer
+  means : LogMeans (format_word s) log
+  next : AfterLog s log answer
 
 module _ (one_answer : OneAnswer) (one-format : OneFormat) where
   one-log : (word : List ℕ) (a b : Result (List FormatItem) FormatFault) → LogMeans word a → LogMeans word b → a ≡ b
   one-log word a b h k =
       one_answer k.0 a b (subst (λ (text : List ℕ). FormatOf text a) (one-text word h.0 k.0 h.1 k.1) h.2) k.2
 
-  one-time : (said : Said) (items : List FormatItem) (dates : List Item) (a b : Result LineSetup SetupFault) → TimeStep said items dates a → TimeStep said items dates b → a ≡ b
-  one-time said items dates a b h k = h.is ∙ ap (after-time items dates) (one-format TimeKind (time_text said) h.times k.times h.means k.means) ∙ sym k.is
+  one-time : (s : Settings) (items : List FormatItem) (dates : List Item) (a b : Result LineSetup SetupFault) → TimeStep s items dates a → TimeStep s items dates b → a ≡ b
+  one-time s items dates a b h k = h.is ∙ ap (after-time s items dates) (one-format TimeKind s.time_format h.times k.times h.means k.means) ∙ sym k.is
 
-  after-date : (said : Said) (items : List FormatItem) (dates : Result (List Item) FormatFault) (a b : Result LineSetup SetupFault) → AfterDate said items dates a → AfterDate said items dates b
+  after-date : (s : Settings) (items : List FormatItem) (dates : Result (List Item) FormatFault) (a b : Result LineSetup SetupFault) → AfterDate s items dates a → AfterDate s items dates b
       → a ≡ b
-  after-date said items (Ok dates) a b h k = one-time said items dates a b h k
-  after-date said items (Err fault) a b h k = h ∙ sym k
+  after-date s items (Ok dates) a b h k = one-time s items dates a b h k
+  after-date s items (Err fault) a b h k = h ∙ sym k
 
-  one-date : (said : Said) (items : List FormatItem) (a b : Result LineSetup SetupFault) → DateStep said items a → DateStep said items b → a ≡ b
-  one-date said items a b h k =
-      after-date said items k.dates a b
-      (subst (λ (r : Result (List Item) FormatFault). AfterDate said items r a) (one-format DateKind (date_text said) h.dates k.dates h.means k.means) h.next) k.next
+  one-date : (s : Settings) (items : List FormatItem) (a b : Result LineSetup SetupFault) → DateStep s items a → DateStep s items b → a ≡ b
+  one-date s items a b h k =
+      after-date s items k.dates a b
+      (subst (λ (r : Result (List Item) FormatFault). AfterDate s items r a) (one-format DateKind s.date_format h.dates k.dates h.means k.means) h.next) k.next
 
-  after-items : (said : Said) (items : List FormatItem) (forwarded : Bool) (a b : Result LineSetup SetupFault) → AfterItems said items forwarded a → AfterItems said items forwarded b → a ≡ b
-  after-items said items true a b h k = h ∙ sym k
-  after-items said items false a b h k = one-date said items a b h k
+  after-log : (s : Settings) (log : Result (List FormatItem) FormatFault) (a b : Result LineSetup SetupFault) → AfterLog s log a → AfterLog s log b → a ≡ b
+  after-log s (Ok items) a b h k = one-date s items a b h k
+  after-log s (Err fault) a b h k = h ∙ sym k
 
-  after-log : (said : Said) (log : Result (List FormatItem) FormatFault) (a b : Result LineSetup SetupFault) → AfterLog said log a → AfterLog said log b → a ≡ b
-  after-log said (Ok items) a b h k = after-items said items (list_any is_forwarded items) a b h k
-  after-log said (Err fault) a b h k = h ∙ sym k
+  one-step : (s : Settings) (a b : Result LineSetup SetupFault) → LogStep s a → LogStep s b → a ≡ b
+  one-step s a b h k =
+      after-log s k.log a b (subst (λ (r : Result (List FormatItem) FormatFault). AfterLog s r a) (one-log (format_word s) h.log k.log h.means k.means) h.next) k.next
 
-  one-step : (said : Said) (a b : Result LineSetup SetupFault) → LogStep said a → LogStep said b → a ≡ b
-  one-step said a b h k =
-      after-log said k.log a b (subst (λ (r : Result (List FormatItem) FormatFault). AfterLog said r a) (one-log said.format h.log k.log h.means k.means) h.next) k.next
+abbrev with-flags : LineSetup → Bool → Bool → Bool → Bool → LineSetup
+with-flags line n t d q = record line { no_ip_validation = n; strict_status = t; double_decode = d; no_query = q }
 
--- a good log format that is built goes on to the dates
-built : (said : Said) (items : List FormatItem) (answer : Result LineSetup SetupFault) → LogMeans said.format (Ok items) → list_any is_forwarded items ≡ false → DateStep said items answer
-    → LogStep said answer
-built said items answer means none next = record {
-  log = Ok items;
-  means = means;
-  next = subst (λ (b : Bool). AfterItems said items b answer) (sym none) next;
+flags-same : (line : LineSetup) (n n' t t' d d' q q' : Bool) → n ≡ n' → t ≡ t' → d ≡ d' → q ≡ q' → with-flags line n t d q ≡ with-flags line n' t' d' q'
+flags-same line n n' t t' d d' q q' e f g h = λ i. with-flags line (e i) (f i) (g i) (h i)
+
+setup-is : (s : Settings) (line : LineSetup) → IsLineSetup s line → Ok line ≡ after-time s line.format line.date (Ok line.time)
+setup-is s line h =
+    ap Ok (flags-same line line.no_ip_validation s.no_ip_validation line.strict_status s.strict_status line.double_decode s.double_decode line.no_query s.no_query h.no_ip_validation h.strict_status
+    h.double_decode h.no_query)
+
+steps-of : (s : Settings) (answer : Result LineSetup SetupFault) → ComeTo s answer → LogStep s answer
+steps-of s (Ok line) h = record {
+  log = Ok line.format;
+  means = h.format;
+  next = record { dates = Ok line.date; means = h.date; next = record { times = Ok line.time; means = h.time; is = setup-is s line h } };
 }
-
-steps-of : (said : Said) (answer : Result LineSetup SetupFault) → ComeTo said answer → LogStep said answer
-steps-of said (Ok setup) h =
-    built said setup.format (Ok setup) h.format.means h.format.built (record {
-      dates = Ok setup.date;
-      means = h.date;
-      next = record { times = Ok setup.time; means = h.time; is = ap (λ (strict : Bool). Ok (record setup { strict_status = strict })) h.strict };
-    })
-steps-of said (Err Forwarded) h = record {
-  log = Ok h.0.items;
-  means = h.0.means;
-  next = subst (λ (b : Bool). AfterItems said h.0.items b (Err Forwarded)) (sym h.0.forwarded) refl;
+steps-of s (Err (Refused Log fault)) h = record { log = Err fault; means = h.0; next = refl }
+steps-of s (Err (Refused Date fault)) h = record { log = Ok h.0.0; means = h.0.1; next = record { dates = Err fault; means = h.0.2; next = refl } }
+steps-of s (Err (Refused Time fault)) h = record {
+  log = Ok h.0.0;
+  means = h.0.2;
+  next = record { dates = Ok h.0.1; means = h.0.3; next = record { times = Err fault; means = h.0.4; is = refl } };
 }
-steps-of said (Err (Refused Log fault)) h = record { log = Err fault; means = h.0; next = refl }
-steps-of said (Err (Refused Date fault)) h = built said h.0.0 _ h.0.1.means h.0.1.built (record { dates = Err fault; means = h.0.2; next = refl })
-steps-of said (Err (Refused Time fault)) h =
-    built said h.0.0 _ h.0.2.means h.0.2.built (record { dates = Ok h.0.1; means = h.0.3; next = record { times = Err fault; means = h.0.4; is = refl } })
-steps-of said (Err NoMemory) h = absurd (h.1 refl)
+steps-of s (Err NoMemory) h = absurd (h.1 refl)
 
--- the formats of the words come to one thing
-pub one-outcome : OneAnswer → OneFormat → (said : Said) (a b : Result LineSetup SetupFault) → ComeTo said a → ComeTo said b → a ≡ b
-one-outcome answer format said a b h k = one-step answer format said a b (steps-of said a h) (steps-of said b k)
+-- the formats of settings come to one thing
+pub one-outcome : OneAnswer → OneFormat → (s : Settings) (a b : Result LineSetup SetupFault) → ComeTo s a → ComeTo s b → a ≡ b
+one-outcome answer format s a b h k = one-step answer format s a b (steps-of s a h) (steps-of s b k)
 
 answer-of : (kind : Kind) (text : List ℕ) (fault : FormatFault) → IsFormatFault kind text fault → fault ≢ FormatNoMemory → IsAnswer kind text (Err fault)
 answer-of kind text (UnknownSpecifier at) h fed = absurd h
@@ -153,7 +151,6 @@ answer-of kind text FormatNoMemory h fed = absurd (fed refl)
 -- a refusal for the fault that a date or time format has is one for its answer
 pub refused-as : (which : Which) (kind : Kind) (text : List ℕ) (fault : FormatFault) (refusal : SetupFault) → IsFormatFault kind text fault
     → IsRefusal which (λ other. (other ≡ fault) × (other ≢ FormatNoMemory)) refusal → IsRefusal which (λ other. IsAnswer kind text (Err other)) refusal
-refused-as which kind text fault Forwarded bad h = absurd h
 refused-as which kind text fault (Refused other found) bad h =
     (h.0, answer-of kind text found (subst (λ (f : FormatFault). IsFormatFault kind text f) (sym h.1.0) bad) h.1.1)
 refused-as which kind text fault NoMemory bad h = tt

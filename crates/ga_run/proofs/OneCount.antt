@@ -1,23 +1,21 @@
--- The lines of a log say one thing each, so that a log comes to one sum, or fills one counter with one value.
-use Rattle.std.proofs.Common.{◌≡◌, ◌⊎◌, ℕ, List, [], ◌∷◌, ◌++◌, inl, inr, ⊎_elim, refl, ap, sym, ◌∙◌, subst, Option, Some, None, true}
+-- Each line of a log comes to one outcome, so that a log comes to one sum, or fills one counter with one value.
+use Rattle.std.proofs.Common.{◌≡◌, ◌⊎◌, ℕ, List, [], ◌∷◌, ◌++◌, inl, inr, refl, ap, sym, ◌∙◌, subst, Option, Some, None, append_assoc}
 use Rattle.ga_base.specs.declared.counts.Counter.{Counter}
 use Rattle.ga_base.specs.declared.counts.Totals.{Totals}
 use Rattle.ga_base.specs.declared.record.Line.{Line}
 use Rattle.ga_base.specs.declared.record.Line.TheVariants.{Skipped, Failed, Good}
-use Rattle.ga_line.specs.Lines.{lines}
+use Rattle.ga_base.specs.declared.key.Key.{Key}
+use Rattle.ga_base.specs.declared.record.Record.{Record}
 use Rattle.ga_line.specs.Records.{SaysOneThing}
-use Rattle.ga_line.specs.declared.setup.LineSetup.{LineSetup}
-use Rattle.ga_panels.specs.Table.{table_keys}
+use Rattle.ga_panels.specs.Table.{AreKeysOf}
 use Rattle.ga_panels.specs.Visitors.{visitor_in}
+use Rattle.ga_panels.specs.declared.setup.PanelSetup.{PanelSetup}
+use Rattle.ga_run.specs.declared.setup.Setup.{Setup}
 use Rattle.ga_summary.specs.Limits.{over, passes, or_else}
 use Rattle.ga_summary.specs.Outcomes.{Outcome, Counted, hit_of, totals_of}
-use Rattle.ga_summary.specs.Outcomes as outcomes
 use Rattle.ga_summary.specs.Rows.{SummaryValue, totals_plus}
 use Rattle.ga_summary.specs.Sums.{IsSumOf}
-use Rattle.ga_run.specs.Counting.{Say, outcomes_in, no_totals, CountsLog, FillsCounter}
-
-abbrev Passed : Type 0
-Passed = Option (Counter × ℕ)
+use Rattle.ga_run.specs.Counting.{OutcomeIs, ComesTo, Come, listed, CountsLines, FillsAmong}
 
 none-some : {p : Counter × ℕ} → None ≡ Some p → ⊥
 none-some e = cc
@@ -34,99 +32,112 @@ heads e = cc
 tails : {x y : List ℕ} {xs ys : List (List ℕ)} → x ∷ xs ≡ y ∷ ys → xs ≡ ys
 tails e = cc
 
--- the totals after a line, and what passes its limit there
-abbrev after : Totals → Line → Totals
-after t Skipped = t
-after t Failed = totals_plus t (totals_of (outcomes.Failed ∷ []))
-after t (Good rec) = totals_plus t (totals_of (Counted (hit_of (table_keys rec) (visitor_in rec) rec) ∷ []))
+-- the first of two stays where the second only finds more
+later : (first second more : Option (Counter × ℕ)) (p : Counter × ℕ) → (second ≡ Some p → more ≡ Some p) → or_else first second ≡ Some p → or_else first more ≡ Some p
+later None second more p h e = h e
+later (Some q) second more p h e = e
 
-abbrev passed : Totals → Line → Passed
-passed t Skipped = None
-passed t Failed = passes (after t Failed)
-passed t (Good rec) = passes (after t (Good rec))
+-- what passes a limit along outcomes stands along more of them
+over-longer : (t : Totals) (os ps : List Outcome) (p : Counter × ℕ) → over t os ≡ Some p → over t (os ++ ps) ≡ Some p
+over-longer t [] ps p e = absurd (none-some e)
+over-longer t (o ∷ os) ps p e =
+    let more : Totals = totals_plus t (totals_of (o ∷ [])) in
+    later (passes more) (over more os) (over more (os ++ ps)) p (over-longer more os ps p) e
 
-over-cons : (t : Totals) (s : Line) (rest : List Line) → over t (outcomes_in (s ∷ rest)) ≡ or_else (passed t s) (over (after t s) (outcomes_in rest))
-over-cons t Skipped rest = refl
-over-cons t Failed rest = refl
-over-cons t (Good rec) rest = refl
+-- what the law of keys says
+abbrev OneListOfKeys : Type 0
+OneListOfKeys = (setup : PanelSetup) (rec : Record) (one two : List Key) → AreKeysOf setup rec one → AreKeysOf setup rec two → one ≡ two
 
--- the first of two, or the second where the first is none
-first-of : (o rest : Passed) (p : Counter × ℕ) → or_else o rest ≡ Some p → (o ≡ Some p) ⊎ ((o ≡ None) × (rest ≡ Some p))
-first-of None rest p e = inr (refl, e)
-first-of (Some q) rest p e = inl e
+-- what a line says comes to one outcome
+one-said : OneListOfKeys → (panels : PanelSetup) (said : Line) (a b : Option Outcome) → OutcomeIs panels said a → OutcomeIs panels said b → a ≡ b
+one-said keys panels Skipped a b h k = h ∙ sym k
+one-said keys panels Failed a b h k = h ∙ sym k
+one-said keys panels (Good rec) a b (inl h) (inl k) = h.1 ∙ sym k.1
+one-said keys panels (Good rec) a b (inl h) (inr k) = absurd (k.0 h.0)
+one-said keys panels (Good rec) a b (inr h) (inl k) = absurd (h.0 k.0)
+one-said keys panels (Good rec) a b (inr (here, (one, is, same))) (inr (there, (two, is', same'))) =
+    same ∙ ap (λ (ks : List Key). Some (Counted (hit_of ks (visitor_in panels rec) rec))) (keys panels rec one two is is') ∙ sym same'
 
-neither : (o rest : Passed) → or_else o rest ≡ None → (o ≡ None) × (rest ≡ None)
-neither None rest e = (refl, e)
-neither (Some q) rest e = absurd (none-some (sym e))
+-- a line comes to one outcome
+pub one-outcome : OneListOfKeys → (setup : Setup) → ((line : List ℕ) → SaysOneThing setup.line line) → (line : List ℕ) (a b : Option Outcome) → ComesTo setup line a → ComesTo setup line b → a ≡ b
+one-outcome keys setup one line a b (said, says, is) (said', says', is') =
+    one-said keys setup.panels said a b is (subst (λ (s : Line). OutcomeIs setup.panels s b) (one line said' said says' says) is')
 
-module _ (setup : LineSetup) (one : (line : List ℕ) → SaysOneThing setup line) where
-  one-said : (ls : List (List ℕ)) (a b : List Line) → Say setup ls a → Say setup ls b → a ≡ b
-  one-said [] [] [] h k = refl
-  one-said [] [] (y ∷ ys) h k = absurd k
-  one-said [] (x ∷ xs) b h k = absurd h
-  one-said (l ∷ ls) [] b h k = absurd h
-  one-said (l ∷ ls) (x ∷ xs) [] h k = absurd k
-  one-said (l ∷ ls) (x ∷ xs) (y ∷ ys) h k =
-      let head : x ≡ y = one l x y h.0 k.0 in
-      let tail : xs ≡ ys = one-said ls xs ys h.1 k.1 in
-      λ i. head i ∷ tail i
+-- what a front of the lines fills, all of them fill
+pub fills-longer : (setup : Setup) (start : Totals) (front more : List (List ℕ)) (which : Counter) (total : ℕ) → FillsAmong setup start front which total
+    → FillsAmong setup start (front ++ more) which total
+fills-longer setup start front more which total h = record {
+  front = h.front;
+  back = h.back ++ more;
+  split = ap (λ (ls : List (List ℕ)). ls ++ more) h.split ∙ append_assoc h.front h.back more;
+  outcomes = h.outcomes;
+  come = h.come;
+  full = h.full;
+}
 
-  -- a line at the head of two lists says the same in both
-  one-head : (l m : List ℕ) (x y : Line) (ls ms : List (List ℕ)) (xs ys : List Line) → l ≡ m → Say setup (l ∷ ls) (x ∷ xs) → Say setup (m ∷ ms) (y ∷ ys) → x ≡ y
-  one-head l m x y ls ms xs ys e h k = one l x y h.0 (subst (λ (line : List ℕ). Say setup (line ∷ ms) (y ∷ ys)) (sym e) k).0
+-- no lines fill nothing
+pub fills-none : (setup : Setup) (start : Totals) (which : Counter) (total : ℕ) → FillsAmong setup start [] which total → ⊥
+fills-none setup start which total h = go h.front h.split h.come
+  where
+    go : (front : List (List ℕ)) → [] ≡ front ++ h.back → Come setup front h.outcomes → ⊥
+    go [] split come = none-some (sym (ap (over start) come) ∙ h.full)
+    go (line ∷ front) split come = empty-front split
 
-  both-full : (t : Totals) (x y : Line) (xs ys : List Line) (p q : Counter × ℕ) → x ≡ y → over t (outcomes_in (x ∷ xs)) ≡ Some p → over t (outcomes_in (y ∷ ys)) ≡ Some q
-      → ((over (after t x) (outcomes_in xs) ≡ Some p) → (over (after t x) (outcomes_in ys) ≡ Some q) → p ≡ q) → p ≡ q
-  both-full t x y xs ys p q same e f later =
-      let left = first-of (passed t x) (over (after t x) (outcomes_in xs)) p (sym (over-cons t x xs) ∙ e) in
-      let right = first-of (passed t x) (over (after t x) (outcomes_in ys)) q
-      (sym (over-cons t x ys) ∙ ap (λ (s : Line). over t (outcomes_in (s ∷ ys))) same ∙ f) in
-      go left right
+-- of two fronts of one list one is a front of the other
+pub fronts : (ls ms rest more : List (List ℕ)) → ls ++ rest ≡ ms ++ more → ((x : List (List ℕ)) × (ms ≡ ls ++ x)) ⊎ ((x : List (List ℕ)) × (ls ≡ ms ++ x))
+fronts [] ms rest more same = inl (ms, refl)
+fronts (l ∷ ls) [] rest more same = inr (l ∷ ls, refl)
+fronts (l ∷ ls) (m ∷ ms) rest more same = longer (fronts ls ms rest more (tails same))
+  where
+    longer : ((x : List (List ℕ)) × (ms ≡ ls ++ x)) ⊎ ((x : List (List ℕ)) × (ls ≡ ms ++ x))
+        → ((x : List (List ℕ)) × (m ∷ ms ≡ l ∷ (ls ++ x))) ⊎ ((x : List (List ℕ)) × (l ∷ ls ≡ m ∷ (ms ++ x)))
+    longer (inl (x, is)) = inl (x, let head : l ≡ m = heads same in cc)
+    longer (inr (x, is)) = inr (x, let head : l ≡ m = heads same in cc)
+
+module _ (setup : Setup) (one : (line : List ℕ) (a b : Option Outcome) → ComesTo setup line a → ComesTo setup line b → a ≡ b) where
+  pub one-list : (ls : List (List ℕ)) (a b : List Outcome) → Come setup ls a → Come setup ls b → a ≡ b
+  one-list [] a b h k = h ∙ sym k
+  one-list (l ∷ ls) a b (first, rest, comes, later, is) (first', rest', comes', later', is') =
+      is ∙ ap (λ (o : Option Outcome). listed o rest) (one l first first' comes comes') ∙ ap (listed first') (one-list ls rest rest' later later') ∙ sym is'
+
+  listed-append : (first : Option Outcome) (rest ps : List Outcome) → listed first rest ++ ps ≡ listed first (rest ++ ps)
+  listed-append None rest ps = refl
+  listed-append (Some o) rest ps = refl
+
+  -- the outcomes of a front are a front of the outcomes
+  front-of : (ls rest : List (List ℕ)) (a b : List Outcome) → Come setup ls a → Come setup (ls ++ rest) b → (more : List Outcome) × (b ≡ a ++ more)
+  front-of [] rest a b h k = (b, ap (λ (o : List Outcome). o ++ b) (sym h))
+  front-of (l ∷ ls) rest a b (first, os, comes, later, is) (first', os', comes', later', is') =
+      let (more, tail) = front-of ls rest os os' later later' in
+      let head : first' ≡ first = one l first' first comes' comes in
+      (more, is' ∙ ap (λ (o : Option Outcome). listed o os') head ∙ ap (listed first) tail ∙ sym (listed-append first os more) ∙ ap (λ (o : List Outcome). o ++ more) (sym is))
+
+  -- of two fronts of the same lines one is a front of the other
+  one-full : (t : Totals) (ls ms rest more : List (List ℕ)) (a b : List Outcome) (p q : Counter × ℕ) → ls ++ rest ≡ ms ++ more → Come setup ls a → Come setup ms b
+      → over t a ≡ Some p → over t b ≡ Some q → p ≡ q
+  one-full t ls ms rest more a b p q same h k e f = go (fronts ls ms rest more same)
     where
-      go : (passed t x ≡ Some p) ⊎ ((passed t x ≡ None) × (over (after t x) (outcomes_in xs) ≡ Some p))
-          → (passed t x ≡ Some q) ⊎ ((passed t x ≡ None) × (over (after t x) (outcomes_in ys) ≡ Some q)) → p ≡ q
-      go (inl a) (inl b) = some-same (sym a ∙ b)
-      go (inl a) (inr b) = absurd (none-some (sym b.0 ∙ a))
-      go (inr a) (inl b) = absurd (none-some (sym a.0 ∙ b))
-      go (inr a) (inr b) = later a.1 b.1
+      go : ((x : List (List ℕ)) × (ms ≡ ls ++ x)) ⊎ ((x : List (List ℕ)) × (ls ≡ ms ++ x)) → p ≡ q
+      go (inl (x, is)) =
+          let (os, whole) = front-of ls x a b h (subst (λ (m : List (List ℕ)). Come setup m b) is k) in
+          some-same (sym (over-longer t a os p e) ∙ ap (over t) (sym whole) ∙ f)
+      go (inr (x, is)) =
+          let (os, whole) = front-of ms x b a k (subst (λ (m : List (List ℕ)). Come setup m a) is h) in
+          some-same (sym e ∙ ap (over t) whole ∙ over-longer t b os q f)
 
-  -- two fronts of the same lines that fill a counter fill the same one
-  one-full : (t : Totals) (ls ms rest more : List (List ℕ)) (a b : List Line) (p q : Counter × ℕ) → ls ++ rest ≡ ms ++ more → Say setup ls a → Say setup ms b
-      → over t (outcomes_in a) ≡ Some p → over t (outcomes_in b) ≡ Some q → p ≡ q
-  one-full t [] ms rest more [] b p q same h k e f = absurd (none-some e)
-  one-full t [] ms rest more (x ∷ xs) b p q same h k e f = absurd h
-  one-full t (l ∷ ls) ms rest more [] b p q same h k e f = absurd h
-  one-full t (l ∷ ls) [] rest more (x ∷ xs) [] p q same h k e f = absurd (none-some f)
-  one-full t (l ∷ ls) [] rest more (x ∷ xs) (y ∷ ys) p q same h k e f = absurd k
-  one-full t (l ∷ ls) (m ∷ ms) rest more (x ∷ xs) [] p q same h k e f = absurd k
-  one-full t (l ∷ ls) (m ∷ ms) rest more (x ∷ xs) (y ∷ ys) p q same h k e f =
-      both-full t x y xs ys p q (one-head l m x y ls ms xs ys (heads same) h k) e f
-      (λ left right. one-full (after t x) ls ms rest more xs ys p q (tails same) h.1 k.1 left right)
-
-  -- where all lines pass no limit, no front of them does
-  none-full : (t : Totals) (ls ms rest : List (List ℕ)) (a b : List Line) (p : Counter × ℕ) → ms ≡ ls ++ rest → Say setup ls a → Say setup ms b → over t (outcomes_in a) ≡ Some p
-      → over t (outcomes_in b) ≡ None → ⊥
-  none-full t [] ms rest [] b p same h k e f = none-some e
-  none-full t [] ms rest (x ∷ xs) b p same h k e f = h
-  none-full t (l ∷ ls) ms rest [] b p same h k e f = h
-  none-full t (l ∷ ls) [] rest (x ∷ xs) b p same h k e f = empty-front same
-  none-full t (l ∷ ls) (m ∷ ms) rest (x ∷ xs) [] p same h k e f = k
-  none-full t (l ∷ ls) (m ∷ ms) rest (x ∷ xs) (y ∷ ys) p same h k e f =
-      let head : x ≡ y = one-head l m x y ls ms xs ys (sym (heads same)) h k in
-      let right = neither (passed t x) (over (after t x) (outcomes_in ys)) (sym (over-cons t x ys) ∙ ap (λ (s : Line). over t (outcomes_in (s ∷ ys))) head ∙ f) in
-      ⊎_elim (λ here. none-some (sym right.0 ∙ here)) (λ later. none-full (after t x) ls ms rest xs ys p (tails same) h.1 k.1 later.1 right.1)
-      (first-of (passed t x) (over (after t x) (outcomes_in xs)) p (sym (over-cons t x xs) ∙ e))
-
-  module _ (log : List ℕ) where
-    pub one-counter : (which which' : Counter) (total total' : ℕ) → FillsCounter setup log which total → FillsCounter setup log which' total' → (which ≡ which') × (total ≡ total')
+  module _ (start : Totals) (all : List (List ℕ)) where
+    pub one-counter : (which which' : Counter) (total total' : ℕ) → FillsAmong setup start all which total → FillsAmong setup start all which' total' → (which ≡ which') × (total ≡ total')
     one-counter which which' total total' h k =
-        let same = one-full no_totals h.front k.front h.back k.back h.said k.said (which, total) (which', total') (sym h.split ∙ k.split) h.reads k.reads h.full k.full in
+        let same = one-full start h.front k.front h.back k.back h.outcomes k.outcomes (which, total) (which', total') (sym h.split ∙ k.split) h.come k.come h.full k.full in
         (ap (λ (p : Counter × ℕ). p.0) same, ap (λ (p : Counter × ℕ). p.1) same)
 
-    pub not-both : (sum : SummaryValue) (which : Counter) (total : ℕ) → CountsLog setup log sum → FillsCounter setup log which total → ⊥
-    not-both sum which total h k = none-full no_totals k.front (lines log true) k.back k.said h.said (which, total) k.split k.reads h.reads k.full h.fits
+    -- where all lines pass no limit, no front of them does
+    pub not-both : (sum : SummaryValue) (which : Counter) (total : ℕ) → CountsLines setup start all sum → FillsAmong setup start all which total → ⊥
+    not-both sum which total h k =
+        let (more, whole) = front-of k.front k.back k.outcomes h.outcomes k.come (subst (λ (ls : List (List ℕ)). Come setup ls h.outcomes) k.split h.come) in
+        none-some (sym h.fits ∙ ap (over start) whole ∙ over-longer start k.outcomes more (which, total) k.full)
 
-    pub one-count : ((outcomes : List Outcome) (a b : SummaryValue) → IsSumOf outcomes a → IsSumOf outcomes b → a ≡ b) → (a b : SummaryValue) → CountsLog setup log a → CountsLog setup log b
-        → a ≡ b
+    pub one-count : ((outcomes : List Outcome) (a b : SummaryValue) → IsSumOf outcomes a → IsSumOf outcomes b → a ≡ b) → (a b : SummaryValue) → CountsLines setup start all a
+        → CountsLines setup start all b → a ≡ b
     one-count one_sum a b h k =
-        one_sum (outcomes_in h.said) a b h.is_sum (subst (λ (said : List Line). IsSumOf (outcomes_in said) b) (one-said (lines log true) k.said h.said k.reads h.reads) k.is_sum)
+        one_sum h.outcomes a b h.is_sum (subst (λ (os : List Outcome). IsSumOf os b) (one-list all k.outcomes h.outcomes k.come h.come) k.is_sum)

@@ -1,13 +1,10 @@
 pub mod Counting
-pub mod Days
-pub mod Formats
-pub mod Hosts
-pub mod LogRun
+pub mod Inputs
+pub mod LogsRun
 pub mod OneRun
 pub mod Printing
 pub mod Reading
-pub mod Report
 pub mod Run
 pub mod Statuses
 pub mod Steps
-pub mod Words
+pub mod Setups

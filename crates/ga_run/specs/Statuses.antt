@@ -1,25 +1,30 @@
 -- The exit status of a run, and the line that it writes to standard error.
-use Rattle.std.specs.Prelude.{◌≡◌, ℕ, List, [], ◌∷◌, ◌++◌, Option, Some, None, codes, decimal}
+use Rattle.std.specs.Prelude.{◌≡◌, ℕ, List, [], ◌∷◌, ◌++◌, Option, Some, None, Ok, slice_get, codes, decimal}
 use Rattle.std.specs.List.{flat_map}
 use Rattle.ga_base.specs.declared.counts.Counter.{Counter}
 use Rattle.ga_base.specs.declared.counts.Counter.TheVariants.{Lines, Bytes, Micros, Generations}
 use Rattle.ga_base.specs.FormatFaults.{fault_place, fault_text}
 use Rattle.ga_ports.specs.declared.outs.To.{To}
-use Rattle.ga_ports.specs.declared.outs.To.TheVariants.{Stdout}
-use Rattle.ga_run.specs.Words.{Said, SaysRun, NamesLog}
+use Rattle.ga_words.specs.WordsOf.{WordsOf}
+use Rattle.ga_words.specs.declared.fault.WordFault.{WordFault}
+use Rattle.ga_words.specs.declared.fault.WordFault.TheVariants.{UnknownOption, MissingValue, BadValue, NoFormat, NoInput, Conflict, NoMemory as WordNoMemory}
+use Rattle.ga_words.specs.declared.settings.Settings.{Settings}
+use Rattle.ga_run.specs.Printing.{file_of, target_of}
 use Rattle.ga_run.specs.declared.status.Input.{Input}
-use Rattle.ga_run.specs.declared.status.Input.TheVariants.{Log as LogInput}
+use Rattle.ga_run.specs.declared.status.Input.TheVariants.{Rules as RulesInput, Log as LogInput}
 use Rattle.ga_run.specs.declared.status.Status.{Status}
-use Rattle.ga_run.specs.declared.status.Status.TheVariants.{Done, Unbuilt, BadFormat, FileFault, FileShort, OutFault, CounterFull, NoMemory}
+use Rattle.ga_run.specs.declared.status.Status.TheVariants.{Done, BadWords, Unbuilt, BadFormat, BadRules, FileFault, FileShort, OutFault, CounterFull, NoMemory}
 use Rattle.ga_run.specs.declared.status.Which.{Which}
 use Rattle.ga_run.specs.declared.status.Which.TheVariants.{Log, Date, Time}
 
--- 0 where all is done, 1 for the words and their formats, 2 for the files, 4 for the report's target, 5 for a full
+-- 0 where all is done, 1 for the words, their formats and the rules, 2 for the files, 4 for the report's target, 5 for a full
 -- counter, 7 for want of memory
 abbrev pub code_of : Status → ℕ
 code_of Done = 0
+code_of (BadWords fault) = 1
 code_of Unbuilt = 1
 code_of (BadFormat which fault) = 1
+code_of (BadRules line) = 1
 code_of (FileFault file) = 2
 code_of (FileShort file at) = 2
 code_of (OutFault to at) = 4
@@ -46,13 +51,25 @@ abbrev pub place_pieces : Option ℕ → List (List ℕ)
 place_pieces None = []
 place_pieces (Some at) = codes ", byte " ∷ decimal at ∷ []
 
+-- the pieces of the line that a fault of the words is told by
+abbrev pub word_pieces : WordFault → List (List ℕ)
+word_pieces (UnknownOption at) = codes "goaccess: word " ∷ decimal at ∷ codes ": unknown option\n" ∷ []
+word_pieces (MissingValue at) = codes "goaccess: word " ∷ decimal at ∷ codes ": value missing\n" ∷ []
+word_pieces (BadValue at) = codes "goaccess: word " ∷ decimal at ∷ codes ": bad value\n" ∷ []
+word_pieces NoFormat = codes "goaccess: no log format\n" ∷ []
+word_pieces NoInput = codes "goaccess: no input\n" ∷ []
+word_pieces (Conflict at) = codes "goaccess: word " ∷ decimal at ∷ codes ": conflict\n" ∷ []
+word_pieces WordNoMemory = codes "goaccess: no memory\n" ∷ []
+
 -- the pieces of the line that a run with this status writes to standard error: none where it is done.
 -- `name` is that of the input or of the target that failed
 abbrev pub fault_pieces : List ℕ → Status → List (List ℕ)
 fault_pieces name Done = []
+fault_pieces name (BadWords fault) = word_pieces fault
 fault_pieces name Unbuilt = codes "goaccess: not built\n" ∷ []
 fault_pieces name (BadFormat which fault) =
     codes "goaccess: " ∷ format_name which ∷ (place_pieces (fault_place fault) ++ codes ": " ∷ fault_text fault ∷ codes "\n" ∷ [])
+fault_pieces name (BadRules line) = codes "goaccess: browsers file, line " ∷ decimal line ∷ codes ": not a rule\n" ∷ []
 fault_pieces name (FileFault file) = codes "goaccess: " ∷ name ∷ codes ": read failed\n" ∷ []
 fault_pieces name (FileShort file at) = codes "goaccess: " ∷ name ∷ codes ": short at " ∷ decimal at ∷ codes "\n" ∷ []
 fault_pieces name (OutFault to at) =
@@ -66,22 +83,24 @@ fault_line name status = joined (fault_pieces name status)
 
 -- the name of an input, as the words have it
 abbrev pub NamesInput : List (List ℕ) → Input → List ℕ → Type 0
-NamesInput words (LogInput place) name = NamesLog words place name
+NamesInput words RulesInput name = (s : Settings) × WordsOf words (Ok s) × (s.browsers_file ≡ Some name)
+NamesInput words (LogInput place) name = (s : Settings) × WordsOf words (Ok s) × (slice_get s.logs place ≡ Some name)
 
--- what a line calls the target that `-o` says: standard output, as no words are built that name another
+-- what a line calls the target that `-o` says: its file by its name, or standard output
+abbrev pub target_name : Option (List ℕ) → List ℕ
+target_name None = codes "standard output"
+target_name (Some name) = name
+
 abbrev pub NamesTarget : List (List ℕ) → To → List ℕ → Type 0
-NamesTarget words to name = ((said : Said) × SaysRun words said) × (to ≡ Stdout) × (name ≡ codes "standard output")
+NamesTarget words to name = (s : Settings) × WordsOf words (Ok s) × (to ≡ target_of (file_of s.output.name))
+    × (name ≡ target_name (file_of s.output.name))
 
 -- the name of what failed, as the words give it; a status without one leaves it empty
 abbrev pub NamesFailed : List (List ℕ) → Status → List ℕ → Type 0
-NamesFailed words Done name = name ≡ []
-NamesFailed words Unbuilt name = name ≡ []
-NamesFailed words (BadFormat which fault) name = name ≡ []
 NamesFailed words (FileFault file) name = NamesInput words file name
 NamesFailed words (FileShort file at) name = NamesInput words file name
 NamesFailed words (OutFault to at) name = NamesTarget words to name
-NamesFailed words (CounterFull which total) name = name ≡ []
-NamesFailed words NoMemory name = name ≡ []
+NamesFailed words _ name = name ≡ []
 
 -- the line of a run with these words and this status
 pub record IsFaultLine (words : List (List ℕ)) (status : Status) (line : List ℕ) : Type 0 where

@@ -1,75 +1,167 @@
-ghost use Rattle.std.specs.Prelude.{◌≡◌, ◌++◌, ◌∷◌, [], List, ℕ, Some, None, IfOk, OnOk, IsErrOf};
-ghost use Rattle.ga_base.specs.declared.counts.Counter.{Counter};
+ghost use Rattle.std.specs.Prelude.{◌≡◌, ◌++◌, true, List, ℕ, IfOk, IfErr, OnOk, IsErrOf};
+ghost use Rattle.ga_base.specs.declared.counts.Counter.{Counter as TheCounter};
+ghost use Rattle.ga_base.specs.declared.record.Line.TheVariants.{Failed as SaysNothing, Good as SaysRecord};
 ghost use Rattle.ga_line.specs.Bounds.{RecordBounds};
-ghost use Rattle.ga_panels.specs.Table.{table_keys};
-ghost use Rattle.ga_panels.specs.Visitors.{visitor_in};
-ghost use Rattle.ga_summary.specs.Limits.{passes};
-ghost use Rattle.ga_summary.specs.OneLine.{record_totals};
-ghost use Rattle.ga_summary.specs.Outcomes.{Outcome, Counted, hit_of, totals_of};
-ghost use Rattle.ga_summary.specs.Outcomes as outcomes;
-ghost use Rattle.ga_summary.specs.Rows.{totals_plus};
-ghost use Rattle.ga_summary.specs.Sums.{IsSumOf};
-ghost use Rattle.ga_run.specs.Counting.{CountsLog, FillsCounter};
-ghost use Rattle.ga_run.specs.Steps.Counting.{CountsLine, FillsAtLine};
+ghost use Rattle.ga_line.specs.Lines.{lines};
+ghost use Rattle.ga_ports.specs.Stretch.{FilesWent};
+ghost use Rattle.ga_run.specs.Counting.{CountsLines, FillsAmong, no_totals};
+ghost use Rattle.ga_run.specs.Inputs.{CanServe};
+ghost use Rattle.ga_run.specs.Reading.{FilesCanServe};
+ghost use Rattle.ga_run.specs.Steps.Counting.{CountsLine, CountsSaid, FillsAtLine, FillsSaid};
+ghost use Rattle.ga_run.specs.Steps.Logs.{CountsLogs, CountsOneLog, NoneFailed, StopsLogs, StopsOneLog, fault_of_log, fault_of_merge};
 
-use ga_base::{Line, Record};
-use ga_line::{LineSetup, Lines, read_line};
-use ga_panels::{keys_of, visitor_of};
+use crate::Setup;
+use crate::reading::{LogFault, read_log};
+use ga_base::{Counter, Line, Record, Text};
+use ga_line::{Lines, read_line};
+use ga_panels::{PanelSetup, is_excluded, keys_of, visitor_of};
+use ga_ports::Files;
+use ga_ports::laws::files_stay;
 use ga_summary::{MergeFault, Summary};
 use std::alloc::Global;
 
-/// The sum of all lines of a log.
-pub fn count_log(alloc: Global, setup: &LineSetup, log: &[u8]) -> Result<Summary, MergeFault>
-    ensures ok { IfOk result (CountsLog setup.now log.now) }
-    ensures full { (which : Counter) (total : ℕ) → IsErrOf result (MergeFault.CounterFull which total)
-        → FillsCounter setup.now log.now which total }
+/// Why logs weren't counted.
+#[derive(Clone, Copy, Debug, PartialEq, Eq)]
+pub enum CountFault {
+    /// A call on the log at this place failed, from 0.
+    Failed { place: u64 },
+    /// The log at this place gave no byte at a place below its size.
+    Short { place: u64, at: u64 },
+    /// A counter would pass its greatest value: it would have this one.
+    Full { which: Counter, total: u128 },
+    /// Want of memory.
+    NoMemory,
+}
+
+impl CountFault {
+    /// The fault of the log at this place.
+    fn of_log(place: u64, fault: LogFault) -> CountFault
+        ensures { result ≡ fault_of_log place fault }
+    {
+        match fault {
+            LogFault::Failed => CountFault::Failed { place },
+            LogFault::Short { at } => CountFault::Short { place, at },
+            LogFault::NoMemory => CountFault::NoMemory,
+        }
+    }
+}
+
+impl From<MergeFault> for CountFault {
+    ghost from_gives = { λ merge e. e ≡ fault_of_merge merge };
+
+    fn from(fault: MergeFault) -> CountFault {
+        match fault {
+            MergeFault::CounterFull { which, total } => CountFault::Full { which, total },
+            MergeFault::NoMemory => CountFault::NoMemory,
+        }
+    }
+}
+
+/// The sum of all lines of these logs, which are read one after the other.
+pub fn count_logs<F: Files>(
+    alloc: Global,
+    setup: &Setup,
+    names: &[Text],
+    files: &mut F,
+) -> Result<Summary, CountFault>
+    ensures ok { IfOk result (CountsLogs setup.now names.now (F.view files.old) (F.view files.new)) }
+    ensures stops { IfErr result (StopsLogs setup.now names.now (F.view files.old) (F.view files.new)) }
+    ensures calls { FilesWent (F.view files.old) (F.view files.new) }
+    ensures sure { CanServe names.now (F.view files.old) → IfErr result NoneFailed }
 {
+    files_stay();
     let mut summary = Summary::empty(alloc);
-    for line in Lines::of(log, true) {
-        count_line(alloc, setup, line, &mut summary)?;
+    for (place, name) in names.iter().enumerate() {
+        count_one(alloc, setup, place as u64, name, files, &mut summary)?;
     }
     Ok(summary)
+}
+
+/// Reads a log, and counts its lines.
+fn count_one<F: Files>(
+    alloc: Global,
+    setup: &Setup,
+    place: u64,
+    name: &Text,
+    files: &mut F,
+    summary: &mut Summary,
+) -> Result<(), CountFault>
+    ensures ok { OnOk result (CountsOneLog setup.now name.now (F.view files.old) (F.view files.new) summary.old summary.new) }
+    ensures stops { IfErr result (StopsOneLog setup.now place name.now (F.view files.old) (F.view files.new) summary.old) }
+    ensures calls { FilesWent (F.view files.old) (F.view files.new) }
+    ensures sure { FilesCanServe name.now (F.view files.old) → IfErr result NoneFailed }
+{
+    let log = match read_log(alloc, files, name) {
+        Ok(log) => log,
+        Err(fault) => return Err(CountFault::of_log(place, fault)),
+    };
+    count_log(alloc, setup, &log, summary)?;
+    Ok(())
+}
+
+/// Counts all lines of a log. A summary of the lines before them, as of the logs before this one, becomes the summary of
+/// those and these.
+pub fn count_log(
+    alloc: Global,
+    setup: &Setup,
+    log: &[u8],
+    summary: &mut Summary,
+) -> Result<(), MergeFault>
+    ensures ok { OnOk result ((before : List (List ℕ)) → CountsLines setup.now no_totals before summary.old
+        → CountsLines setup.now no_totals (before ++ lines log.now true) summary.new) }
+    ensures full { (which : TheCounter) (total : ℕ) → IsErrOf result (MergeFault.CounterFull which total)
+        → (before : List (List ℕ)) → CountsLines setup.now no_totals before summary.old
+        → FillsAmong setup.now no_totals (before ++ lines log.now true) which total }
+{
+    for line in Lines::of(log, true) {
+        count_line(alloc, setup, line, summary)?;
+    }
+    Ok(())
 }
 
 /// Counts one line more, as what it says. After an `Err` the summary is as it was.
 fn count_line(
     alloc: Global,
-    setup: &LineSetup,
+    setup: &Setup,
     line: &[u8],
     summary: &mut Summary,
 ) -> Result<(), MergeFault>
     ensures ok { OnOk result (CountsLine setup.now line.now summary.old summary.new) }
-    ensures full { (which : Counter) (total : ℕ) → IsErrOf result (MergeFault.CounterFull which total)
+    ensures full { (which : TheCounter) (total : ℕ) → IsErrOf result (MergeFault.CounterFull which total)
         → FillsAtLine setup.now line.now summary.old which total }
 {
-    match read_line(alloc, setup, line)? {
+    match read_line(alloc, &setup.line, line)? {
         Line::Skipped => Ok(()),
-        Line::Failed => count_failed(alloc, summary),
-        Line::Good(rec) => count_record(alloc, &rec, summary),
+        Line::Failed => count_failed(alloc, &setup.panels, summary),
+        Line::Good(rec) => count_record(alloc, &setup.panels, &rec, summary),
     }
 }
 
 /// Counts one failed line.
-fn count_failed(alloc: Global, summary: &mut Summary) -> Result<(), MergeFault>
-    ensures sum { OnOk result ((before : List Outcome) → IsSumOf before summary.old
-        → IsSumOf (before ++ outcomes.Failed ∷ []) summary.new) }
-    ensures fits { OnOk result (passes (totals_plus summary.old.totals (totals_of (outcomes.Failed ∷ []))) ≡ None) }
-    ensures full { (which : Counter) (total : ℕ) → IsErrOf result (MergeFault.CounterFull which total)
-        → passes (totals_plus summary.old.totals (totals_of (outcomes.Failed ∷ []))) ≡ Some (which, total) }
+fn count_failed(alloc: Global, panels: &PanelSetup, summary: &mut Summary) -> Result<(), MergeFault>
+    ensures ok { OnOk result (CountsSaid panels.now SaysNothing summary.old summary.new) }
+    ensures full { (which : TheCounter) (total : ℕ) → IsErrOf result (MergeFault.CounterFull which total)
+        → FillsSaid panels.now SaysNothing summary.old which total }
 {
     summary.merge(&Summary::of_lines(alloc, 1, 0))
 }
 
-/// Counts one record under its keys.
-fn count_record(alloc: Global, rec: &Record, summary: &mut Summary) -> Result<(), MergeFault>
+/// Counts one record: as an excluded line, or under its keys.
+fn count_record(
+    alloc: Global,
+    panels: &PanelSetup,
+    rec: &Record,
+    summary: &mut Summary,
+) -> Result<(), MergeFault>
     requires { RecordBounds rec.now }
-    ensures sum { OnOk result ((before : List Outcome) → IsSumOf before summary.old
-        → IsSumOf (before ++ Counted (hit_of (table_keys rec.now) (visitor_in rec.now) rec.now) ∷ []) summary.new) }
-    ensures fits { OnOk result (passes (totals_plus summary.old.totals (record_totals rec.now)) ≡ None) }
-    ensures full { (which : Counter) (total : ℕ) → IsErrOf result (MergeFault.CounterFull which total)
-        → passes (totals_plus summary.old.totals (record_totals rec.now)) ≡ Some (which, total) }
+    ensures ok { OnOk result (CountsSaid panels.now (SaysRecord rec.now) summary.old summary.new) }
+    ensures full { (which : TheCounter) (total : ℕ) → IsErrOf result (MergeFault.CounterFull which total)
+        → FillsSaid panels.now (SaysRecord rec.now) summary.old which total }
 {
-    let keys = keys_of(alloc, rec)?;
-    let visitor = visitor_of(rec)?;
+    if is_excluded(panels, rec) {
+        return summary.merge(&Summary::of_lines(alloc, 0, 1));
+    }
+    let keys = keys_of(alloc, panels, rec)?;
+    let visitor = visitor_of(panels, rec)?;
     summary.add(&keys, visitor.as_ref(), rec)
 }

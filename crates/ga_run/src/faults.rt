@@ -1,13 +1,14 @@
-ghost use Rattle.std.specs.Prelude.{◌≡◌, ◌≤◌, map};
+ghost use Rattle.std.specs.Prelude.{◌≡◌, ◌≤◌, ◌∷◌, [], codes, decimal, map};
 ghost use Rattle.ga_ports.specs.declared.outs.To.TheVariants.{Stderr};
 ghost use Rattle.ga_ports.specs.Stretch.{OutsWent};
 ghost use Rattle.ga_run.specs.Printing.{ChangesOnly, TakesOrStops};
-ghost use Rattle.ga_run.specs.Statuses.{counter_name, fault_line, format_name, joined};
+ghost use Rattle.ga_run.specs.Statuses.{counter_name, fault_line, format_name, joined, word_pieces};
 
 use crate::printing::print;
 use crate::{Status, Which};
 use ga_base::Counter;
 use ga_ports::{Outs, To};
+use ga_words::WordFault;
 use itoa::Buffer;
 
 /// Writes the fault line of a status to standard error, nothing for `Done`. It takes no memory, and a fault of
@@ -21,6 +22,7 @@ pub fn tell<O: Outs>(outs: &mut O, name: &[u8], status: &Status)
     let mut digits = Buffer::new();
     match status {
         Status::Done => say(outs, &[]),
+        Status::BadWords(fault) => tell_words(outs, fault),
         Status::Unbuilt => say(outs, &[b"goaccess: not built\n"]),
         Status::BadFormat { which, fault } => {
             let format = format_name(*which);
@@ -35,6 +37,11 @@ pub fn tell<O: Outs>(outs: &mut O, name: &[u8], status: &Status)
                     )
                 }
             }
+        }
+        Status::BadRules { line } => {
+            let line = digits.format(*line).as_bytes();
+            let file = b"goaccess: browsers file, line ";
+            say(outs, &[file, line, b": not a rule\n"])
         }
         Status::FileFault { .. } => say(outs, &[b"goaccess: ", name, b": read failed\n"]),
         Status::FileShort { at, .. } => {
@@ -53,6 +60,36 @@ pub fn tell<O: Outs>(outs: &mut O, name: &[u8], status: &Status)
         }
         Status::NoMemory => say(outs, &[b"goaccess: no memory\n"]),
     }
+}
+
+/// Writes the fault line of words.
+fn tell_words<O: Outs>(outs: &mut O, fault: &WordFault)
+    ensures line { TakesOrStops (joined (word_pieces fault.now)) (O.view outs.old).stderr (O.view outs.new).stderr }
+    ensures others { ChangesOnly Stderr (O.view outs.old) (O.view outs.new) }
+    ensures starved { (O.view outs.old).starved ≤ (O.view outs.new).starved }
+    ensures calls { OutsWent (O.view outs.old) (O.view outs.new) }
+{
+    match fault {
+        WordFault::UnknownOption { at } => tell_word(outs, *at, b": unknown option\n"),
+        WordFault::MissingValue { at } => tell_word(outs, *at, b": value missing\n"),
+        WordFault::BadValue { at } => tell_word(outs, *at, b": bad value\n"),
+        WordFault::Conflict { at } => tell_word(outs, *at, b": conflict\n"),
+        WordFault::NoFormat => say(outs, &[b"goaccess: no log format\n"]),
+        WordFault::NoInput => say(outs, &[b"goaccess: no input\n"]),
+        WordFault::NoMemory => say(outs, &[b"goaccess: no memory\n"]),
+    }
+}
+
+/// Writes what is wrong with the word at a place.
+fn tell_word<O: Outs>(outs: &mut O, at: u64, text: &[u8])
+    ensures line { TakesOrStops (joined (codes "goaccess: word " ∷ decimal at ∷ text.now ∷ [])) (O.view outs.old).stderr (O.view outs.new).stderr }
+    ensures others { ChangesOnly Stderr (O.view outs.old) (O.view outs.new) }
+    ensures starved { (O.view outs.old).starved ≤ (O.view outs.new).starved }
+    ensures calls { OutsWent (O.view outs.old) (O.view outs.new) }
+{
+    let mut digits = Buffer::new();
+    let at = digits.format(at).as_bytes();
+    say(outs, &[b"goaccess: word ", at, text])
 }
 
 fn counter_name(which: Counter) -> &'static [u8]

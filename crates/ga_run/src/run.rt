@@ -1,34 +1,35 @@
-ghost use Rattle.std.specs.Prelude.{◌≡◌, ℕ, IfOk, IsErrOf};
-ghost use Rattle.ga_base.specs.declared.counts.Counter.{Counter};
-ghost use Rattle.ga_run.specs.Counting.{FillsCounter};
-ghost use Rattle.ga_run.specs.Days.{AreDayRows};
-ghost use Rattle.ga_run.specs.Hosts.{AreHostRows};
-ghost use Rattle.ga_run.specs.Report.{text_of};
-ghost use Rattle.ga_run.specs.LogRun.{IsReportOf};
+ghost use Rattle.std.specs.Prelude.{◌≡◌, IfOk, option_map};
+ghost use Rattle.std.specs.Option.{option_copied};
+ghost use Rattle.ga_ports.specs.Stretch.{OutsWent};
+ghost use Rattle.ga_run.specs.LogsRun.{IsTextOf};
+ghost use Rattle.ga_run.specs.Printing.{file_of, target_of};
 ghost use Rattle.ga_run.specs.Run.{IsRun};
-ghost use Rattle.ga_run.specs.Steps.Run.{EndsLog, EndsRun, failed_name};
-ghost use Rattle.ga_run.specs.Steps.Words.{said_by};
+ghost use Rattle.ga_run.specs.Statuses.{target_name};
+ghost use Rattle.ga_run.specs.Steps.Run.{EndsLogs, EndsReport, EndsRun, KeepsNames, failed_name, input_name, status_of_count, status_of_rules, status_of_words};
 
-use crate::counting::count_log;
-use crate::days::day_rows;
+use crate::counting::{CountFault, count_logs};
 use crate::faults::tell;
-use crate::formats::{SetupFault, setup_of};
-use crate::hosts::host_rows;
-use crate::printing::print;
-use crate::reading::{LogFault, read_log};
-use crate::text::report_text;
-use crate::words::{RunWords, run_words};
-use crate::{Input, Status, laws};
-use ga_base::{NoMemory, Text};
+use crate::printing::deliver;
+use crate::reading::LogFault;
+use crate::rules::{RulesFault, rules_of};
+use crate::setups::{SetupFault, is_unbuilt, line_setup, panel_setup};
+use crate::{Input, Setup, Status, laws};
+use ga_agents::laws::one_reading;
+use ga_base::{Bytes, NoMemory, Text};
 use ga_line::LineSetup;
+use ga_ports::laws::files_stay;
 use ga_ports::{Files, Outs, To};
-use ga_summary::{MergeFault, Summary};
+use ga_print::{csv, json};
+use ga_report::rows;
+use ga_summary::Summary;
+use ga_words::laws::one_reading as one_reading_of_words;
+use ga_words::{Kind, Output, Settings, WordFault, read_words};
 use std::alloc::Global;
 
 /// Runs goaccess over the words of a command line, without the program's name.
 ///
-/// The words are `--log-format=F`, perhaps `--date-format=D`, perhaps `--time-format=T`, `-o`, `csv` and the name of a log,
-/// in this order; the report goes to standard output. With any status but `Done` a fault line goes to standard error.
+/// The browsers file is read first, where one is named, and then the logs in their order, each opened once; the report goes
+/// where `-o` says once all else has succeeded. With any status but `Done` a fault line goes to standard error.
 pub fn goaccess_run<F: Files, O: Outs>(
     alloc: Global,
     words: &[Text],
@@ -37,102 +38,192 @@ pub fn goaccess_run<F: Files, O: Outs>(
 ) -> Status
     ensures { IsRun words.now (F.view files.old) (F.view files.new) (O.view outs.old) (O.view outs.new) result }
 {
-    // What is known of formats and lines, for the proof alone: the calls do nothing.
+    // What is known of words, formats and lines, for the proof alone: the calls do nothing.
     laws::one_outcome();
     laws::one_count();
-    match run_words(words) {
-        None => {
-            tell(outs, b"", &Status::Unbuilt);
-            Status::Unbuilt
+    one_reading();
+    one_reading_of_words();
+    match read_words(alloc, words) {
+        Err(fault) => {
+            let status = refusal(fault);
+            tell(outs, b"", &status);
+            status
         }
-        Some(said) => {
-            let status = run_said(alloc, &said, files, outs);
-            tell(outs, failed_name(&said, &status), &status);
+        Ok(mut settings) => {
+            let status = run_settings(alloc, &mut settings, files, outs);
+            tell(outs, failed_name(&settings, &status), &status);
             status
         }
     }
 }
 
-/// What the fault line of a status calls what failed: the log by its name, or the report's target.
-fn failed_name<'a>(said: &RunWords<'a>, status: &Status) -> &'a [u8]
-    ensures { result.now ≡ failed_name (said_by said.now) status.now }
+/// The status of words that say no settings.
+fn refusal(fault: WordFault) -> Status
+    ensures { result ≡ status_of_words fault }
+{
+    match fault {
+        WordFault::NoMemory => Status::NoMemory,
+        _ => Status::BadWords(fault),
+    }
+}
+
+/// What the fault line of a status calls what failed: a file by its name, or the report's target.
+fn failed_name<'a>(settings: &'a Settings, status: &Status) -> &'a [u8]
+    ensures { result.now ≡ failed_name settings.now status.now }
 {
     match status {
-        Status::FileFault { .. } | Status::FileShort { .. } => said.name.bytes(),
-        Status::OutFault { .. } => b"standard output",
+        Status::FileFault { file } | Status::FileShort { file, .. } => input_name(settings, *file),
+        Status::OutFault { .. } => target_name(&settings.output),
         _ => b"",
     }
 }
 
-/// Runs as the words say: their formats first, then the log.
-fn run_said<F: Files, O: Outs>(
+/// The name of a file that the settings name.
+fn input_name(settings: &Settings, file: Input) -> &[u8]
+    ensures { result.now ≡ input_name settings.now file }
+{
+    let name = match file {
+        Input::Rules => settings.browsers_file.as_ref(),
+        Input::Log(place) => settings.logs.items().get(place as usize),
+    };
+    match name {
+        Some(name) => name.bytes(),
+        None => b"",
+    }
+}
+
+/// What a fault line calls the report's target.
+fn target_name(output: &Output) -> &[u8]
+    ensures { result.now ≡ target_name (file_of output.now.name) }
+{
+    match report_file(output) {
+        None => b"standard output",
+        Some(name) => name.bytes(),
+    }
+}
+
+/// The name of the report's file, if it has one.
+fn report_file(output: &Output) -> Option<&Text>
+    ensures { option_map (λ name. name.now) result ≡ file_of output.now.name }
+{
+    if output.name.bytes().is_empty() {
+        None
+    } else {
+        Some(&output.name)
+    }
+}
+
+/// Runs as the settings say: their formats first, then the files. The names that they have stay.
+fn run_settings<F: Files, O: Outs>(
     alloc: Global,
-    said: &RunWords,
+    settings: &mut Settings,
     files: &mut F,
     outs: &mut O,
 ) -> Status
-    ensures { EndsRun (said_by said.now) (F.view files.old) (F.view files.new) (O.view outs.old) (O.view outs.new) result }
+    ensures ends { EndsRun settings.old (F.view files.old) (F.view files.new) (O.view outs.old) (O.view outs.new) result }
+    ensures names { KeepsNames settings.old settings.new }
 {
-    match setup_of(alloc, said) {
-        Ok(setup) => run_log(alloc, &setup, said.name, files, outs),
-        Err(SetupFault::Forwarded) => Status::Unbuilt,
+    if is_unbuilt(settings) {
+        return Status::Unbuilt;
+    }
+    match line_setup(alloc, settings) {
+        Ok(line) => run_files(alloc, line, settings, files, outs),
         Err(SetupFault::Refused { which, fault }) => Status::BadFormat { which, fault },
         Err(SetupFault::NoMemory) => Status::NoMemory,
     }
 }
 
-/// Reads a log, and prints its report.
-fn run_log<F: Files, O: Outs>(
+/// Reads the files that the settings name, and delivers the report.
+fn run_files<F: Files, O: Outs>(
     alloc: Global,
-    setup: &LineSetup,
-    name: &Text,
+    line: LineSetup,
+    settings: &mut Settings,
     files: &mut F,
     outs: &mut O,
 ) -> Status
-    ensures { EndsLog setup.now name.now (F.view files.old) (F.view files.new) (O.view outs.old) (O.view outs.new) result }
+    ensures ends { EndsLogs line settings.old (F.view files.old) (F.view files.new) (O.view outs.old) (O.view outs.new) result }
+    ensures names { KeepsNames settings.old settings.new }
 {
-    let log = match read_log(alloc, files, name) {
-        Ok(log) => log,
-        Err(LogFault::Failed) => return Status::FileFault {
-            file: Input::Log(0),
-        },
-        Err(LogFault::Short { at }) => return Status::FileShort {
-            file: Input::Log(0),
-            at,
-        },
-        Err(LogFault::NoMemory) => return Status::NoMemory,
+    // What is known of calls of the files, for the proof alone: the call does nothing.
+    files_stay();
+    let rules = match rules_of(alloc, settings.browsers_file.as_ref(), files) {
+        Ok(rules) => rules,
+        Err(fault) => return status_of_rules(fault),
     };
-    let text = match log_report(alloc, setup, &log) {
-        Ok(text) => text,
-        Err(MergeFault::CounterFull { which, total }) => return Status::CounterFull {
-            which,
-            total,
-        },
-        Err(MergeFault::NoMemory) => return Status::NoMemory,
+    let setup = Setup {
+        line,
+        panels: panel_setup(alloc, settings, rules),
     };
-    match print(outs, To::Stdout, &text) {
-        Ok(()) => Status::Done,
-        Err(at) => Status::OutFault { to: To::Stdout, at },
+    match count_logs(alloc, &setup, settings.logs.items(), files) {
+        Ok(summary) => report(alloc, settings, &summary, outs),
+        Err(fault) => status_of_count(fault),
     }
 }
 
-/// The text of the report on a log.
-fn log_report(alloc: Global, setup: &LineSetup, log: &[u8]) -> Result<Vec<u8>, MergeFault>
-    ensures ok { IfOk result (λ text. IsReportOf setup.now log.now text.items) }
-    ensures full { (which : Counter) (total : ℕ) → IsErrOf result (MergeFault.CounterFull which total)
-        → FillsCounter setup.now log.now which total }
+/// Delivers the report on a summary.
+fn report<O: Outs>(alloc: Global, settings: &Settings, summary: &Summary, outs: &mut O) -> Status
+    ensures ends { EndsReport settings.now summary.now (O.view outs.old) (O.view outs.new) result }
+    ensures errors { (O.view outs.new).stderr ≡ (O.view outs.old).stderr }
+    ensures calls { OutsWent (O.view outs.old) (O.view outs.new) }
 {
-    let summary = count_log(alloc, setup, log)?;
-    let text = summary_text(alloc, &summary)?;
-    Ok(text)
+    let Ok(text) = summary_text(alloc, settings, summary) else {
+        return Status::NoMemory;
+    };
+    let file = report_file(&settings.output);
+    let to = target_of(file);
+    match deliver(outs, file, text.bytes()) {
+        Ok(()) => Status::Done,
+        Err(at) => Status::OutFault { to, at },
+    }
+}
+
+/// The target of a report.
+fn target_of(file: Option<&Text>) -> To
+    ensures { result ≡ target_of (option_copied file.entry) }
+{
+    match file {
+        None => To::Stdout,
+        Some(_) => To::File,
+    }
+}
+
+/// How a run ends whose rules weren't read.
+fn status_of_rules(fault: RulesFault) -> Status
+    ensures { result ≡ status_of_rules fault }
+{
+    let file = Input::Rules;
+    match fault {
+        RulesFault::Bad { line } => Status::BadRules { line },
+        RulesFault::Unread(LogFault::Failed) => Status::FileFault { file },
+        RulesFault::Unread(LogFault::Short { at }) => Status::FileShort { file, at },
+        RulesFault::Unread(LogFault::NoMemory) => Status::NoMemory,
+    }
+}
+
+/// How a run ends whose logs weren't counted.
+fn status_of_count(fault: CountFault) -> Status
+    ensures { result ≡ status_of_count fault }
+{
+    match fault {
+        CountFault::Failed { place } => Status::FileFault {
+            file: Input::Log(place),
+        },
+        CountFault::Short { place, at } => Status::FileShort {
+            file: Input::Log(place),
+            at,
+        },
+        CountFault::Full { which, total } => Status::CounterFull { which, total },
+        CountFault::NoMemory => Status::NoMemory,
+    }
 }
 
 /// The text of the report on a summary.
-fn summary_text(alloc: Global, summary: &Summary) -> Result<Vec<u8>, NoMemory>
-    ensures { IfOk result (λ text. (days hosts : _) × AreDayRows summary.now.rows days × AreHostRows summary.now.rows hosts
-        × (text.items ≡ text_of days hosts)) }
+fn summary_text(alloc: Global, settings: &Settings, summary: &Summary) -> Result<Bytes, NoMemory>
+    ensures { IfOk result (λ text. IsTextOf settings.now summary.now text) }
 {
-    let days = day_rows(alloc, summary)?;
-    let hosts = host_rows(alloc, summary)?;
-    report_text(alloc, &days, &hosts)
+    let report = rows(alloc, summary, &settings.panels, settings.max_items)?;
+    match settings.output.kind {
+        Kind::Json => json(alloc, &report),
+        Kind::Csv => csv(alloc, &report),
+    }
 }

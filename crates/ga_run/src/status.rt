@@ -3,10 +3,13 @@ ghost use Rattle.ga_run.specs.Statuses.{code_of};
 
 use ga_base::{Counter, FormatFault};
 use ga_ports::To;
+use ga_words::WordFault;
 
 /// A file that a run reads.
 #[derive(Clone, Copy, Debug, PartialEq, Eq)]
 pub enum Input {
+    /// The browsers file.
+    Rules,
     /// The log at this place in the list of logs, from 0.
     Log(u64),
 }
@@ -25,12 +28,16 @@ pub enum Which {
 /// How a run ended.
 #[derive(Clone, Copy, Debug, PartialEq, Eq)]
 pub enum Status {
-    /// The log was read to its size and all bytes of the report were taken.
+    /// All logs were read to their sizes and all bytes of the report were taken.
     Done,
-    /// The words are of no form that is built, or their log format has a forwarded host.
+    /// The words say no settings. The fault is never want of memory.
+    BadWords(WordFault),
+    /// The words ask for what isn't built: the database or the generator.
     Unbuilt,
     /// That format of the words is refused, and those before it are good. The fault is never want of memory.
     BadFormat { which: Which, fault: FormatFault },
+    /// The line with this number, from 1, is the first of the browsers file that is no rule.
+    BadRules { line: u64 },
     /// A call on this file failed.
     FileFault { file: Input },
     /// This file gave no byte at a place below its size.
@@ -50,7 +57,10 @@ impl Status {
     {
         match self {
             Status::Done => 0,
-            Status::Unbuilt | Status::BadFormat { .. } => 1,
+            Status::BadWords(_)
+            | Status::Unbuilt
+            | Status::BadFormat { .. }
+            | Status::BadRules { .. } => 1,
             Status::FileFault { .. } | Status::FileShort { .. } => 2,
             Status::OutFault { .. } => 4,
             Status::CounterFull { .. } => 5,

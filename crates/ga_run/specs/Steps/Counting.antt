@@ -1,26 +1,39 @@
 -- What one more line of a log does to the sum of the lines before it.
-use Rattle.std.specs.Prelude.{◌≡◌, ℕ, List, [], ◌∷◌, ◌++◌, Some, None, IfSome}
+use Rattle.std.specs.Prelude.{◌≡◌, ℕ, List, [], ◌∷◌, ◌++◌, Option, Some, None, IfSome}
 use Rattle.ga_base.specs.declared.counts.Counter.{Counter}
 use Rattle.ga_base.specs.declared.record.Line.{Line}
 use Rattle.ga_line.specs.Records.{IsLineOf}
-use Rattle.ga_line.specs.declared.setup.LineSetup.{LineSetup}
+use Rattle.ga_panels.specs.declared.setup.PanelSetup.{PanelSetup}
 use Rattle.ga_summary.specs.Limits.{passes}
 use Rattle.ga_summary.specs.Outcomes.{Outcome, totals_of}
 use Rattle.ga_summary.specs.Rows.{SummaryValue, totals_plus}
 use Rattle.ga_summary.specs.Sums.{IsSumOf}
-use Rattle.ga_run.specs.Counting.{outcome_in, outcomes_in}
+use Rattle.ga_run.specs.Counting.{OutcomeIs, listed}
+use Rattle.ga_run.specs.declared.setup.Setup.{Setup}
 
--- one line more was counted
-pub record CountsLine (setup : LineSetup) (line : List ℕ) (old new : SummaryValue) : Type 0 where
-  pub said : Line
-  pub says : IsLineOf setup line said
-  pub sum : (before : List Outcome) → IsSumOf before old → IsSumOf (before ++ outcomes_in (said ∷ [])) new
-  pub fits : IfSome (outcome_in said) (λ outcome. passes (totals_plus old.totals (totals_of (outcome ∷ []))) ≡ None)
+-- one outcome more, or none, was counted
+pub record CountsOne (outcome : Option Outcome) (old new : SummaryValue) : Type 0 where
+  pub sum : (before : List Outcome) → IsSumOf before old → IsSumOf (before ++ listed outcome []) new
+  pub fits : IfSome outcome (λ one. passes (totals_plus old.totals (totals_of (one ∷ []))) ≡ None)
 
--- one line more would fill a counter
-pub record FillsAtLine (setup : LineSetup) (line : List ℕ) (old : SummaryValue) (which : Counter) (total : ℕ) : Type 0 where
-  pub said : Line
-  pub says : IsLineOf setup line said
+-- one outcome more would fill a counter
+abbrev pub FillsWith : Outcome → SummaryValue → Counter → ℕ → Type 0
+FillsWith outcome old which total = passes (totals_plus old.totals (totals_of (outcome ∷ []))) ≡ Some (which, total)
+
+-- what a line says was counted, or would fill a counter
+pub record CountsSaid (panels : PanelSetup) (said : Line) (old new : SummaryValue) : Type 0 where
+  pub outcome : Option Outcome
+  pub is : OutcomeIs panels said outcome
+  pub counts : CountsOne outcome old new
+
+pub record FillsSaid (panels : PanelSetup) (said : Line) (old : SummaryValue) (which : Counter) (total : ℕ) : Type 0 where
   pub outcome : Outcome
-  pub is : outcome_in said ≡ Some outcome
-  pub full : passes (totals_plus old.totals (totals_of (outcome ∷ []))) ≡ Some (which, total)
+  pub is : OutcomeIs panels said (Some outcome)
+  pub full : FillsWith outcome old which total
+
+-- one line more was counted, or would fill a counter
+abbrev pub CountsLine : Setup → List ℕ → SummaryValue → SummaryValue → Type 0
+CountsLine setup line old new = (said : Line) × IsLineOf setup.line line said × CountsSaid setup.panels said old new
+
+abbrev pub FillsAtLine : Setup → List ℕ → SummaryValue → Counter → ℕ → Type 0
+FillsAtLine setup line old which total = (said : Line) × IsLineOf setup.line line said × FillsSaid setup.panels said old which total

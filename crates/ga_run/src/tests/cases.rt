@@ -1,104 +1,637 @@
-/// Runs, a line of `=` between two: the words with a bar between two, the log `a.log`, and what the run answers, which
-/// is its exit status and then what it wrote. The first log is that of examples/access.log, whose report was worked out
-/// by a script of a few lines in another language.
+/// Runs, a line of `=` between two: the words with a bar between two; the files `a.log`, `b.log` and `agents.txt`, as many
+/// as are there, a line of `+` between two; and what the run answers, which is its exit status and then what standard
+/// output, standard error and the report's file took. The answers were worked out by a program in another language.
 pub const CASES: &str = "\
---log-format=COMMON|-o|csv|a.log
+--log-format=COMMON|a.log
 -----
-# the access log of www.example.org
-192.0.2.1 - - [12/Mar/2024:08:00:00 +0000] \"GET /about.html HTTP/1.1\" 304 -
-192.0.2.1 - - [12/Mar/2024:08:07:13 +0000] \"GET /missing HTTP/1.1\" 404 512
-203.0.113.7 - - [12/Mar/2024:08:14:26 +0000] \"GET /missing HTTP/1.1\" 404 1024
-192.0.2.1 - - [12/Mar/2024:08:21:39 +0000] \"GET /api/items?page=2 HTTP/1.1\" 200 1024
-203.0.113.7 - - [12/Mar/2024:08:28:52 +0000] \"GET / HTTP/1.1\" 200 512
-203.0.113.7 - - [12/Mar/2024:08:35:05 +0000] \"HEAD /search?q=rust HTTP/1.1\" 200 7301
-198.51.100.4 - - [12/Mar/2024:09:42:18 +0000] \"GET /css/site.css HTTP/1.1\" 200 7301
-192.0.2.1 - - [12/Mar/2024:09:49:31 +0000] \"HEAD /about.html HTTP/1.1\" 200 512
-192.0.2.1 - - [12/Mar/2024:09:56:44 +0000] \"HEAD /about.html HTTP/1.1\" 200 7301
-203.0.113.7 - - [12/Mar/2024:09:03:57 +0000] \"GET /img/logo.png HTTP/1.1\" 200 7301
-203.0.113.7 - - [12/Mar/2024:09:10:10 +0000] \"HEAD /search?q=rust HTTP/1.1\" 200 48
-198.51.100.4 - - [12/Mar/2024:09:17:23 +0000] \"HEAD /img/logo.png HTTP/1.1\" 304 -
-2001:db8::8a2e:370:7334 - - [12/Mar/2024:10:24:36 +0000] \"GET /img/logo.png HTTP/1.1\" 200 1024
-203.0.113.7 - - [12/Mar/2024:10:31:49 +0000] \"GET /css/site.css HTTP/1.1\" 200 7301
-198.51.100.4 - - [12/Mar/2024:10:38:02 +0000] \"GET /img/logo.png HTTP/1.1\" 304 -
-203.0.113.7 - - [12/Mar/2024:10:45:15 +0000] \"POST /index.html HTTP/1.1\" 200 7301
-192.0.2.1 - - [12/Mar/2024:10:52:28 +0000] \"POST /img/logo.png HTTP/1.1\" 200 48
 
-192.0.2.1 - - [12/Mar/2024:10:59:41 +0000] \"GET /index.html HTTP/1.1\" 200 7301
-198.51.100.4 - - [12/Mar/2024:11:06:54 +0000] \"HEAD /img/logo.png HTTP/1.1\" 200 48
-2001:db8::1 - - [12/Mar/2024:11:13:07 +0000] \"POST /index.html HTTP/1.1\" 200 2326
-203.0.113.7 - - [13/Mar/2024:11:20:20 +0000] \"GET /index.html HTTP/1.1\" 200 15000
-203.0.113.7 - - [13/Mar/2024:11:27:33 +0000] \"POST /download/report.pdf HTTP/1.1\" 200 15000
-2001:db8::8a2e:370:7334 - - [13/Mar/2024:11:34:46 +0000] \"GET /img/logo.png HTTP/1.1\" 200 48
-203.0.113.7 - - [12/Mar/2024:12:00:00 +0000 this line is broken
-192.0.2.1 - - [13/Mar/2024:11:41:59 +0000] \"GET /index.html HTTP/1.1\" 304 -
-192.0.2.1 - - [13/Mar/2024:12:48:12 +0000] \"GET /js/app.js HTTP/1.1\" 200 15000
-198.51.100.4 - - [13/Mar/2024:12:55:25 +0000] \"POST /download/report.pdf HTTP/1.1\" 200 1024
-198.51.100.4 - - [13/Mar/2024:12:02:38 +0000] \"HEAD /js/app.js HTTP/1.1\" 200 48
-192.0.2.1 - - [13/Mar/2024:12:09:51 +0000] \"POST /api/items?page=2 HTTP/1.1\" 200 15000
-192.0.2.77 - - [13/Mar/2024:12:16:04 +0000] \"GET /about.html HTTP/1.1\" 200 1024
-192.0.2.1 - - [13/Mar/2024:12:23:17 +0000] \"HEAD /css/site.css HTTP/1.1\" 200 48
-192.0.2.1 - - [13/Mar/2024:13:30:30 +0000] \"POST /js/app.js HTTP/1.1\" 200 1024
-198.51.100.4 - - [13/Mar/2024:13:37:43 +0000] \"GET /search?q=rust HTTP/1.1\" 200 2326
-203.0.113.7 - - [13/Mar/2024:13:44:56 +0000] \"GET /missing HTTP/1.1\" 404 7301
-198.51.100.4 - - [13/Mar/2024:13:51:09 +0000] \"POST /missing HTTP/1.1\" 404 48
-198.51.100.4 - - [13/Mar/2024:13:58:22 +0000] \"POST /index.html HTTP/1.1\" 304 -
-192.0.2.1 - - [13/Mar/2024:13:05:35 +0000] \"GET /index.html HTTP/1.1\" 200 48
-192.0.2.1 - - [13/Mar/2024:14:12:48 +0000] \"GET /search?q=rust HTTP/1.1\" 200 512
+-----
+0
+{\"browsers\":{\"data\":[]},\"cache_status\":{\"data\":[]},\"general\":{\"bandwidth\":0,\"excluded_hits\":0,\"failed_requests\":0,\"total_requests\":0,\"unique_visitors\":0,\"valid_requests\":0},\"hosts\":{\"data\":[]},\"keyphrases\":{\"data\":[]},\"mime_type\":{\"data\":[]},\"not_found\":{\"data\":[]},\"os\":{\"data\":[]},\"referrers\":{\"data\":[]},\"referring_sites\":{\"data\":[]},\"remote_user\":{\"data\":[]},\"requests\":{\"data\":[]},\"requests_static\":{\"data\":[]},\"status_codes\":{\"data\":[]},\"tls_type\":{\"data\":[]},\"virtual_hosts\":{\"data\":[]},\"visit_times\":{\"data\":[]},\"visitors\":{\"data\":[]}}
+
+=====
+--log-format=COMBINED|a.log
+-----
+203.0.113.7 - - [12/Mar/2024:08:05:09 +0000] \"GET /index.html HTTP/1.1\" 200 512 \"https://www.example.org/start\" \"Mozilla/5.0 (X11; Linux x86_64; rv:124.0) Gecko/20100101 Firefox/124.0\"
+
+-----
+0
+{\"browsers\":{\"data\":[{\"avgts\":0,\"bytes\":{\"count\":512,\"percent\":\"100.00\"},\"cumts\":0,\"data\":\"Firefox\",\"hits\":{\"count\":1,\"percent\":\"100.00\"},\"items\":[{\"avgts\":0,\"bytes\":{\"count\":512,\"percent\":\"100.00\"},\"cumts\":0,\"data\":\"Firefox/124.0\",\"hits\":{\"count\":1,\"percent\":\"100.00\"},\"maxts\":0,\"visitors\":{\"count\":1,\"percent\":\"100.00\"}}],\"maxts\":0,\"visitors\":{\"count\":1,\"percent\":\"100.00\"}}]},\"cache_status\":{\"data\":[]},\"general\":{\"bandwidth\":512,\"excluded_hits\":0,\"failed_requests\":0,\"total_requests\":1,\"unique_visitors\":1,\"valid_requests\":1},\"hosts\":{\"data\":[{\"avgts\":0,\"bytes\":{\"count\":512,\"percent\":\"100.00\"},\"cumts\":0,\"data\":\"203.0.113.7\",\"hits\":{\"count\":1,\"percent\":\"100.00\"},\"maxts\":0,\"visitors\":{\"count\":1,\"percent\":\"100.00\"}}]},\"keyphrases\":{\"data\":[]},\"mime_type\":{\"data\":[]},\"not_found\":{\"data\":[]},\"os\":{\"data\":[{\"avgts\":0,\"bytes\":{\"count\":512,\"percent\":\"100.00\"},\"cumts\":0,\"data\":\"Linux\",\"hits\":{\"count\":1,\"percent\":\"100.00\"},\"items\":[{\"avgts\":0,\"bytes\":{\"count\":512,\"percent\":\"100.00\"},\"cumts\":0,\"data\":\"Linux\",\"hits\":{\"count\":1,\"percent\":\"100.00\"},\"maxts\":0,\"visitors\":{\"count\":1,\"percent\":\"100.00\"}}],\"maxts\":0,\"visitors\":{\"count\":1,\"percent\":\"100.00\"}}]},\"referrers\":{\"data\":[{\"avgts\":0,\"bytes\":{\"count\":512,\"percent\":\"100.00\"},\"cumts\":0,\"data\":\"https://www.example.org/start\",\"hits\":{\"count\":1,\"percent\":\"100.00\"},\"maxts\":0,\"visitors\":{\"count\":1,\"percent\":\"100.00\"}}]},\"referring_sites\":{\"data\":[{\"avgts\":0,\"bytes\":{\"count\":512,\"percent\":\"100.00\"},\"cumts\":0,\"data\":\"www.example.org\",\"hits\":{\"count\":1,\"percent\":\"100.00\"},\"maxts\":0,\"visitors\":{\"count\":1,\"percent\":\"100.00\"}}]},\"remote_user\":{\"data\":[]},\"requests\":{\"data\":[{\"avgts\":0,\"bytes\":{\"count\":512,\"percent\":\"100.00\"},\"cumts\":0,\"data\":\"/index.html\",\"hits\":{\"count\":1,\"percent\":\"100.00\"},\"maxts\":0,\"method\":\"GET\",\"protocol\":\"HTTP/1.1\",\"visitors\":{\"count\":1,\"percent\":\"100.00\"}}]},\"requests_static\":{\"data\":[]},\"status_codes\":{\"data\":[{\"avgts\":0,\"bytes\":{\"count\":512,\"percent\":\"100.00\"},\"cumts\":0,\"data\":\"2xx Success\",\"hits\":{\"count\":1,\"percent\":\"100.00\"},\"items\":[{\"avgts\":0,\"bytes\":{\"count\":512,\"percent\":\"100.00\"},\"cumts\":0,\"data\":\"200\",\"hits\":{\"count\":1,\"percent\":\"100.00\"},\"maxts\":0,\"visitors\":{\"count\":1,\"percent\":\"100.00\"}}],\"maxts\":0,\"visitors\":{\"count\":1,\"percent\":\"100.00\"}}]},\"tls_type\":{\"data\":[]},\"virtual_hosts\":{\"data\":[]},\"visit_times\":{\"data\":[{\"avgts\":0,\"bytes\":{\"count\":512,\"percent\":\"100.00\"},\"cumts\":0,\"data\":\"08\",\"hits\":{\"count\":1,\"percent\":\"100.00\"},\"maxts\":0,\"visitors\":{\"count\":1,\"percent\":\"100.00\"}}]},\"visitors\":{\"data\":[{\"avgts\":0,\"bytes\":{\"count\":512,\"percent\":\"100.00\"},\"cumts\":0,\"data\":\"20240312\",\"hits\":{\"count\":1,\"percent\":\"100.00\"},\"maxts\":0,\"visitors\":{\"count\":1,\"percent\":\"100.00\"}}]}}
+
+=====
+--log-format=COMMON|-o|csv|a.log|b.log
+-----
+192.0.2.1 - - [01/Jan/2024:00:00:00 +0000] \"GET /a HTTP/1.1\" 200 10
+192.0.2.1 - - [01/Jan/2024:00:00:00 +0000] \"GET /x HTTP/1.1\" 404 5
+192.0.2.2 - - [01/Jan/2024:00:00:00 +0000] \"GET /b.css HTTP/1.1\" 304 -
+192.0.2.1 - - [02/Jan/2024:23:00:00 +0000] \"POST /a HTTP/1.1\" 500 7
+
++++++
+192.0.2.1 - - [01/Jan/2024:00:00:00 +0000] \"GET /a HTTP/1.1\" 200 10
+192.0.2.1 - - [01/Jan/2024:00:00:00 +0000] \"GET /x HTTP/1.1\" 404 5
+192.0.2.2 - - [01/Jan/2024:00:00:00 +0000] \"GET /b.css HTTP/1.1\" 304 -
+192.0.2.1 - - [02/Jan/2024:23:00:00 +0000] \"POST /a HTTP/1.1\" 500 7
+2001:db8::1 - - [03/Jan/2024:00:00:00 +0000] \"GET /a HTTP/1.1\" 200 10
+broken
 
 -----
 0
 id,parent_id,panel,hits,hits%,visitors,visitors%,bytes,bytes%,avgts,cumts,maxts,method,protocol,data
-0,,visitors,17,,5,,73451,,,,,,,20240313
-1,,visitors,20,,5,,58185,,,,,,,20240312
-0,,hosts,14,,2,,48330,,,,,,,192.0.2.1
-1,,hosts,10,,2,,68089,,,,,,,203.0.113.7
-2,,hosts,9,,2,,10795,,,,,,,198.51.100.4
-3,,hosts,2,,2,,1072,,,,,,,2001:db8::8a2e:370:7334
-4,,hosts,1,,1,,1024,,,,,,,192.0.2.77
-5,,hosts,1,,1,,2326,,,,,,,2001:db8::1
+0,,general,10,,,,,,,,,,,total_requests
+1,,general,9,,,,,,,,,,,valid_requests
+2,,general,1,,,,,,,,,,,failed_requests
+3,,general,0,,,,,,,,,,,excluded_hits
+4,,general,4,,,,,,,,,,,unique_visitors
+5,,general,54,,,,,,,,,,,bandwidth
+0,,visitors,1,11.11,1,25.00,10,18.52,0,0,0,,,20240103
+1,,visitors,2,22.22,1,25.00,14,25.93,0,0,0,,,20240102
+2,,visitors,6,66.67,2,50.00,30,55.56,0,0,0,,,20240101
+0,,requests,3,33.33,2,50.00,30,55.56,0,0,0,GET,HTTP/1.1,/a
+1,,requests,2,22.22,1,25.00,14,25.93,0,0,0,POST,HTTP/1.1,/a
+0,,requests_static,2,22.22,1,25.00,0,0.00,0,0,0,GET,HTTP/1.1,/b.css
+0,,not_found,2,22.22,0,0.00,10,18.52,0,0,0,GET,HTTP/1.1,/x
+0,,hosts,6,66.67,2,50.00,44,81.48,0,0,0,,,192.0.2.1
+1,,hosts,2,22.22,1,25.00,0,0.00,0,0,0,,,192.0.2.2
+2,,hosts,1,11.11,1,25.00,10,18.52,0,0,0,,,2001:db8::1
+0,,visit_times,7,77.78,3,75.00,40,74.07,0,0,0,,,00
+1,,visit_times,2,22.22,1,25.00,14,25.93,0,0,0,,,23
+0,,status_codes,3,33.33,2,50.00,30,55.56,0,0,0,,,2xx Success
+1,0,status_codes,3,33.33,2,50.00,30,55.56,0,0,0,,,200
+2,,status_codes,2,22.22,1,25.00,0,0.00,0,0,0,,,3xx Redirection
+3,2,status_codes,2,22.22,1,25.00,0,0.00,0,0,0,,,304
+4,,status_codes,2,22.22,0,0.00,10,18.52,0,0,0,,,4xx Client Errors
+5,4,status_codes,2,22.22,0,0.00,10,18.52,0,0,0,,,404
+6,,status_codes,2,22.22,1,25.00,14,25.93,0,0,0,,,5xx Server Errors
+7,6,status_codes,2,22.22,1,25.00,14,25.93,0,0,0,,,500
 
 =====
---log-format=COMMON|-o|csv|a.log
+a.log|-o|r.json|--log-format|COMMON|--|a.log
 -----
-a - - [01/Jan/2024:00:00:00 z] \"r\" 200 7\r
-# note
-
-nothing fits
-b - - [02/Jan/2024:00:00:00 z] \"r\" 200 5 more
-b - - [02/Jan/2024:00:00:00 z] \"\" 200 5
- - - [01/Jan/2024:00:00:00 z] \"r\" 200 5
-c,d - - [01/Jan/2024:00:00:00 z] \"r\" 404 1000000000000000000
-c,d - - [01/Jan/2024:00:00:00 z] \"r\" 200 1000000000000000001
-b - - [31/Feb/2024:00:00:00 z] \"r\" 200 5
-b - - [01/Jan/2024:00:00:00 z] \"r\" 99 5
-a - - [02/Jan/2024:00:00:00 z] \"r\\\"s\" 200 3
------
-0
-id,parent_id,panel,hits,hits%,visitors,visitors%,bytes,bytes%,avgts,cumts,maxts,method,protocol,data
-0,,visitors,2,,2,,3,,,,,,,20240102
-1,,visitors,2,,1,,1000000000000000007,,,,,,,20240101
-0,,hosts,2,,2,,10,,,,,,,a
-1,,hosts,1,,1,,0,,,,,,,b
-2,,hosts,1,,0,,1000000000000000000,,,,,,,\"c,d\"
-
-=====
---log-format=COMMON|-o|csv|a.log
------
-192.0.2.1 - - [01/Jan/2024:00:00:00 +0000] \"GET /a HTTP/1.1\" 200 1000000000000000000
-192.0.2.1 - - [01/Jan/2024:00:00:00 +0000] \"GET /a HTTP/1.1\" 200 1000000000000000000
-192.0.2.1 - - [01/Jan/2024:00:00:00 +0000] \"GET /a HTTP/1.1\" 200 1000000000000000000
-192.0.2.1 - - [01/Jan/2024:00:00:00 +0000] \"GET /a HTTP/1.1\" 200 1000000000000000000
+192.0.2.1 - - [01/Jan/2024:00:00:00 +0000] \"GET /a HTTP/1.1\" 200 10
 
 -----
 0
-id,parent_id,panel,hits,hits%,visitors,visitors%,bytes,bytes%,avgts,cumts,maxts,method,protocol,data
-0,,visitors,4,,1,,4000000000000000000,,,,,,,20240101
-0,,hosts,4,,1,,4000000000000000000,,,,,,,192.0.2.1
+{\"browsers\":{\"data\":[]},\"cache_status\":{\"data\":[]},\"general\":{\"bandwidth\":20,\"excluded_hits\":0,\"failed_requests\":0,\"total_requests\":2,\"unique_visitors\":1,\"valid_requests\":2},\"hosts\":{\"data\":[{\"avgts\":0,\"bytes\":{\"count\":20,\"percent\":\"100.00\"},\"cumts\":0,\"data\":\"192.0.2.1\",\"hits\":{\"count\":2,\"percent\":\"100.00\"},\"maxts\":0,\"visitors\":{\"count\":1,\"percent\":\"100.00\"}}]},\"keyphrases\":{\"data\":[]},\"mime_type\":{\"data\":[]},\"not_found\":{\"data\":[]},\"os\":{\"data\":[]},\"referrers\":{\"data\":[]},\"referring_sites\":{\"data\":[]},\"remote_user\":{\"data\":[]},\"requests\":{\"data\":[{\"avgts\":0,\"bytes\":{\"count\":20,\"percent\":\"100.00\"},\"cumts\":0,\"data\":\"/a\",\"hits\":{\"count\":2,\"percent\":\"100.00\"},\"maxts\":0,\"method\":\"GET\",\"protocol\":\"HTTP/1.1\",\"visitors\":{\"count\":1,\"percent\":\"100.00\"}}]},\"requests_static\":{\"data\":[]},\"status_codes\":{\"data\":[{\"avgts\":0,\"bytes\":{\"count\":20,\"percent\":\"100.00\"},\"cumts\":0,\"data\":\"2xx Success\",\"hits\":{\"count\":2,\"percent\":\"100.00\"},\"items\":[{\"avgts\":0,\"bytes\":{\"count\":20,\"percent\":\"100.00\"},\"cumts\":0,\"data\":\"200\",\"hits\":{\"count\":2,\"percent\":\"100.00\"},\"maxts\":0,\"visitors\":{\"count\":1,\"percent\":\"100.00\"}}],\"maxts\":0,\"visitors\":{\"count\":1,\"percent\":\"100.00\"}}]},\"tls_type\":{\"data\":[]},\"virtual_hosts\":{\"data\":[]},\"visit_times\":{\"data\":[{\"avgts\":0,\"bytes\":{\"count\":20,\"percent\":\"100.00\"},\"cumts\":0,\"data\":\"00\",\"hits\":{\"count\":2,\"percent\":\"100.00\"},\"maxts\":0,\"visitors\":{\"count\":1,\"percent\":\"100.00\"}}]},\"visitors\":{\"data\":[{\"avgts\":0,\"bytes\":{\"count\":20,\"percent\":\"100.00\"},\"cumts\":0,\"data\":\"20240101\",\"hits\":{\"count\":2,\"percent\":\"100.00\"},\"maxts\":0,\"visitors\":{\"count\":1,\"percent\":\"100.00\"}}]}}
 
 =====
 --log-format=COMMON|-o|csv|a.log
 -----
-192.0.2.1 - - [01/Jan/2024:00:00:00 +0000] \"GET /a HTTP/1.1\" 200 1000000000000000000
+192.0.2.1 - - [01/Jan/2024:00:00:00 +0000] \"GET /a HTTP/1.1\" 200 10
+192.0.2.1 - - [01/Jan/2024:00:00:0
+-----
+0
+id,parent_id,panel,hits,hits%,visitors,visitors%,bytes,bytes%,avgts,cumts,maxts,method,protocol,data
+0,,general,2,,,,,,,,,,,total_requests
+1,,general,1,,,,,,,,,,,valid_requests
+2,,general,1,,,,,,,,,,,failed_requests
+3,,general,0,,,,,,,,,,,excluded_hits
+4,,general,1,,,,,,,,,,,unique_visitors
+5,,general,10,,,,,,,,,,,bandwidth
+0,,visitors,1,100.00,1,100.00,10,100.00,0,0,0,,,20240101
+0,,requests,1,100.00,1,100.00,10,100.00,0,0,0,GET,HTTP/1.1,/a
+0,,hosts,1,100.00,1,100.00,10,100.00,0,0,0,,,192.0.2.1
+0,,visit_times,1,100.00,1,100.00,10,100.00,0,0,0,,,00
+0,,status_codes,1,100.00,1,100.00,10,100.00,0,0,0,,,2xx Success
+1,0,status_codes,1,100.00,1,100.00,10,100.00,0,0,0,,,200
+
+=====
+--4xx-to-unique-count|--log-format=COMMON|-o|csv|a.log
+-----
+192.0.2.1 - - [01/Jan/2024:00:00:00 +0000] \"GET /x HTTP/1.1\" 404 5
+192.0.2.1 - - [01/Jan/2024:00:00:00 +0000] \"GET /a HTTP/1.1\" 200 10
+
+-----
+0
+id,parent_id,panel,hits,hits%,visitors,visitors%,bytes,bytes%,avgts,cumts,maxts,method,protocol,data
+0,,general,2,,,,,,,,,,,total_requests
+1,,general,2,,,,,,,,,,,valid_requests
+2,,general,0,,,,,,,,,,,failed_requests
+3,,general,0,,,,,,,,,,,excluded_hits
+4,,general,1,,,,,,,,,,,unique_visitors
+5,,general,15,,,,,,,,,,,bandwidth
+0,,visitors,2,100.00,1,100.00,15,100.00,0,0,0,,,20240101
+0,,requests,1,50.00,1,100.00,10,66.67,0,0,0,GET,HTTP/1.1,/a
+0,,not_found,1,50.00,1,100.00,5,33.33,0,0,0,GET,HTTP/1.1,/x
+0,,hosts,2,100.00,1,100.00,15,100.00,0,0,0,,,192.0.2.1
+0,,visit_times,2,100.00,1,100.00,15,100.00,0,0,0,,,00
+0,,status_codes,1,50.00,1,100.00,10,66.67,0,0,0,,,2xx Success
+1,0,status_codes,1,50.00,1,100.00,10,66.67,0,0,0,,,200
+2,,status_codes,1,50.00,1,100.00,5,33.33,0,0,0,,,4xx Client Errors
+3,2,status_codes,1,50.00,1,100.00,5,33.33,0,0,0,,,404
+
+=====
+--all-static-files|--log-format=COMMON|-o|csv|a.log
+-----
+192.0.2.1 - - [01/Jan/2024:00:00:00 +0000] \"GET /a.css?v=1 HTTP/1.1\" 200 10
+
+-----
+0
+id,parent_id,panel,hits,hits%,visitors,visitors%,bytes,bytes%,avgts,cumts,maxts,method,protocol,data
+0,,general,1,,,,,,,,,,,total_requests
+1,,general,1,,,,,,,,,,,valid_requests
+2,,general,0,,,,,,,,,,,failed_requests
+3,,general,0,,,,,,,,,,,excluded_hits
+4,,general,1,,,,,,,,,,,unique_visitors
+5,,general,10,,,,,,,,,,,bandwidth
+0,,visitors,1,100.00,1,100.00,10,100.00,0,0,0,,,20240101
+0,,requests_static,1,100.00,1,100.00,10,100.00,0,0,0,GET,HTTP/1.1,/a.css?v=1
+0,,hosts,1,100.00,1,100.00,10,100.00,0,0,0,,,192.0.2.1
+0,,visit_times,1,100.00,1,100.00,10,100.00,0,0,0,,,00
+0,,status_codes,1,100.00,1,100.00,10,100.00,0,0,0,,,2xx Success
+1,0,status_codes,1,100.00,1,100.00,10,100.00,0,0,0,,,200
+
+=====
+--no-query-string|--log-format=COMMON|-o|csv|a.log
+-----
+192.0.2.1 - - [01/Jan/2024:00:00:00 +0000] \"GET /a.css?v=1 HTTP/1.1\" 200 10
+192.0.2.1 - - [01/Jan/2024:00:00:00 +0000] \"GET ?x HTTP/1.1\" 200 10
+
+-----
+0
+id,parent_id,panel,hits,hits%,visitors,visitors%,bytes,bytes%,avgts,cumts,maxts,method,protocol,data
+0,,general,2,,,,,,,,,,,total_requests
+1,,general,2,,,,,,,,,,,valid_requests
+2,,general,0,,,,,,,,,,,failed_requests
+3,,general,0,,,,,,,,,,,excluded_hits
+4,,general,1,,,,,,,,,,,unique_visitors
+5,,general,20,,,,,,,,,,,bandwidth
+0,,visitors,2,100.00,1,100.00,20,100.00,0,0,0,,,20240101
+0,,requests,1,50.00,1,100.00,10,50.00,0,0,0,GET,HTTP/1.1,
+0,,requests_static,1,50.00,1,100.00,10,50.00,0,0,0,GET,HTTP/1.1,/a.css
+0,,hosts,2,100.00,1,100.00,20,100.00,0,0,0,,,192.0.2.1
+0,,visit_times,2,100.00,1,100.00,20,100.00,0,0,0,,,00
+0,,status_codes,2,100.00,1,100.00,20,100.00,0,0,0,,,2xx Success
+1,0,status_codes,2,100.00,1,100.00,20,100.00,0,0,0,,,200
+
+=====
+--double-decode-url|--ignore-panel=VISITORS|--ignore-panel=NOT_FOUND|--ignore-panel=HOSTS|--ignore-panel=OS|--ignore-panel=BROWSERS|--ignore-panel=VISIT_TIMES|--ignore-panel=VIRTUAL_HOSTS|--ignore-panel=REFERRERS|--ignore-panel=REFERRING_SITES|--ignore-panel=KEYPHRASES|--ignore-panel=STATUS_CODES|--ignore-panel=REMOTE_USER|--ignore-panel=CACHE_STATUS|--ignore-panel=MIME_TYPE|--ignore-panel=TLS_TYPE|--log-format=COMMON|-o|csv|a.log
+-----
+192.0.2.1 - - [01/Jan/2024:00:00:00 +0000] \"GET /%2541 HTTP/1.1\" 200 10
+192.0.2.1 - - [01/Jan/2024:00:00:00 +0000] \"GET /b%252Ecss HTTP/1.1\" 200 10
+192.0.2.1 - - [01/Jan/2024:00:00:00 +0000] \"GET /c%253Fx.css HTTP/1.1\" 200 10
+
+-----
+0
+id,parent_id,panel,hits,hits%,visitors,visitors%,bytes,bytes%,avgts,cumts,maxts,method,protocol,data
+0,,general,3,,,,,,,,,,,total_requests
+1,,general,3,,,,,,,,,,,valid_requests
+2,,general,0,,,,,,,,,,,failed_requests
+3,,general,0,,,,,,,,,,,excluded_hits
+4,,general,1,,,,,,,,,,,unique_visitors
+5,,general,30,,,,,,,,,,,bandwidth
+0,,requests,1,33.33,1,100.00,10,33.33,0,0,0,GET,HTTP/1.1,/A
+1,,requests,1,33.33,1,100.00,10,33.33,0,0,0,GET,HTTP/1.1,/c?x.css
+0,,requests_static,1,33.33,1,100.00,10,33.33,0,0,0,GET,HTTP/1.1,/b.css
+
+=====
+--ignore-panel=VISITORS|--ignore-panel=REQUESTS_STATIC|--ignore-panel=HOSTS|--ignore-panel=OS|--ignore-panel=BROWSERS|--ignore-panel=VISIT_TIMES|--ignore-panel=VIRTUAL_HOSTS|--ignore-panel=REFERRERS|--ignore-panel=REFERRING_SITES|--ignore-panel=KEYPHRASES|--ignore-panel=REMOTE_USER|--ignore-panel=CACHE_STATUS|--ignore-panel=MIME_TYPE|--ignore-panel=TLS_TYPE|--444-as-404|--log-format=COMMON|-o|csv|a.log
+-----
+192.0.2.1 - - [01/Jan/2024:00:00:00 +0000] \"GET /x HTTP/1.1\" 444 1
+192.0.2.1 - - [01/Jan/2024:00:00:00 +0000] \"GET /y HTTP/1.1\" 404 2
+
+-----
+0
+id,parent_id,panel,hits,hits%,visitors,visitors%,bytes,bytes%,avgts,cumts,maxts,method,protocol,data
+0,,general,2,,,,,,,,,,,total_requests
+1,,general,2,,,,,,,,,,,valid_requests
+2,,general,0,,,,,,,,,,,failed_requests
+3,,general,0,,,,,,,,,,,excluded_hits
+4,,general,0,,,,,,,,,,,unique_visitors
+5,,general,3,,,,,,,,,,,bandwidth
+0,,not_found,1,50.00,0,0.00,1,33.33,0,0,0,GET,HTTP/1.1,/x
+1,,not_found,1,50.00,0,0.00,2,66.67,0,0,0,GET,HTTP/1.1,/y
+0,,status_codes,2,100.00,0,0.00,3,100.00,0,0,0,,,4xx Client Errors
+1,0,status_codes,1,50.00,0,0.00,2,66.67,0,0,0,,,404
+2,0,status_codes,1,50.00,0,0.00,1,33.33,0,0,0,,,444
+
+=====
+--ignore-panel=VISITORS|--ignore-panel=REQUESTS_STATIC|--ignore-panel=HOSTS|--ignore-panel=OS|--ignore-panel=BROWSERS|--ignore-panel=VISIT_TIMES|--ignore-panel=VIRTUAL_HOSTS|--ignore-panel=REFERRERS|--ignore-panel=REFERRING_SITES|--ignore-panel=KEYPHRASES|--ignore-panel=REMOTE_USER|--ignore-panel=CACHE_STATUS|--ignore-panel=MIME_TYPE|--ignore-panel=TLS_TYPE|--log-format=COMMON|-o|csv|a.log
+-----
+192.0.2.1 - - [01/Jan/2024:00:00:00 +0000] \"GET /x HTTP/1.1\" 444 1
+192.0.2.1 - - [01/Jan/2024:00:00:00 +0000] \"GET /y HTTP/1.1\" 404 2
+
+-----
+0
+id,parent_id,panel,hits,hits%,visitors,visitors%,bytes,bytes%,avgts,cumts,maxts,method,protocol,data
+0,,general,2,,,,,,,,,,,total_requests
+1,,general,2,,,,,,,,,,,valid_requests
+2,,general,0,,,,,,,,,,,failed_requests
+3,,general,0,,,,,,,,,,,excluded_hits
+4,,general,0,,,,,,,,,,,unique_visitors
+5,,general,3,,,,,,,,,,,bandwidth
+0,,requests,1,50.00,0,0.00,1,33.33,0,0,0,GET,HTTP/1.1,/x
+0,,not_found,1,50.00,0,0.00,2,66.67,0,0,0,GET,HTTP/1.1,/y
+0,,status_codes,2,100.00,0,0.00,3,100.00,0,0,0,,,4xx Client Errors
+1,0,status_codes,1,50.00,0,0.00,2,66.67,0,0,0,,,404
+2,0,status_codes,1,50.00,0,0.00,1,33.33,0,0,0,,,444
+
+=====
+--max-items=1|--log-format=COMMON|-o|csv|a.log
+-----
+192.0.2.1 - - [01/Jan/2024:00:00:00 +0000] \"GET /a HTTP/1.1\" 200 10
+192.0.2.1 - - [01/Jan/2024:00:00:00 +0000] \"GET /x HTTP/1.1\" 404 5
+192.0.2.2 - - [01/Jan/2024:00:00:00 +0000] \"GET /b.css HTTP/1.1\" 304 -
+192.0.2.1 - - [02/Jan/2024:23:00:00 +0000] \"POST /a HTTP/1.1\" 500 7
+
+-----
+0
+id,parent_id,panel,hits,hits%,visitors,visitors%,bytes,bytes%,avgts,cumts,maxts,method,protocol,data
+0,,general,4,,,,,,,,,,,total_requests
+1,,general,4,,,,,,,,,,,valid_requests
+2,,general,0,,,,,,,,,,,failed_requests
+3,,general,0,,,,,,,,,,,excluded_hits
+4,,general,3,,,,,,,,,,,unique_visitors
+5,,general,22,,,,,,,,,,,bandwidth
+0,,visitors,1,25.00,1,33.33,7,31.82,0,0,0,,,20240102
+0,,requests,1,25.00,1,33.33,10,45.45,0,0,0,GET,HTTP/1.1,/a
+0,,requests_static,1,25.00,1,33.33,0,0.00,0,0,0,GET,HTTP/1.1,/b.css
+0,,not_found,1,25.00,0,0.00,5,22.73,0,0,0,GET,HTTP/1.1,/x
+0,,hosts,3,75.00,2,66.67,22,100.00,0,0,0,,,192.0.2.1
+0,,visit_times,3,75.00,2,66.67,15,68.18,0,0,0,,,00
+0,,status_codes,1,25.00,1,33.33,10,45.45,0,0,0,,,2xx Success
+1,0,status_codes,1,25.00,1,33.33,10,45.45,0,0,0,,,200
+
+=====
+--max-items|0000000002|--ignore-panel=VISITORS|--ignore-panel=REQUESTS|--ignore-panel=REQUESTS_STATIC|--ignore-panel=NOT_FOUND|--ignore-panel=OS|--ignore-panel=BROWSERS|--ignore-panel=VISIT_TIMES|--ignore-panel=VIRTUAL_HOSTS|--ignore-panel=REFERRERS|--ignore-panel=REFERRING_SITES|--ignore-panel=KEYPHRASES|--ignore-panel=REMOTE_USER|--ignore-panel=CACHE_STATUS|--ignore-panel=MIME_TYPE|--ignore-panel=TLS_TYPE|--log-format=COMMON|-o|json|a.log
+-----
+192.0.2.3 - - [01/Jan/2024:00:00:00 +0000] \"GET /a HTTP/1.1\" 200 10
+192.0.2.20 - - [01/Jan/2024:00:00:00 +0000] \"GET /a HTTP/1.1\" 200 10
+192.0.2.100 - - [01/Jan/2024:00:00:00 +0000] \"GET /a HTTP/1.1\" 200 10
+192.0.2.1 - - [01/Jan/2024:00:00:00 +0000] \"GET /a HTTP/1.1\" 301 10
+192.0.2.1 - - [01/Jan/2024:00:00:00 +0000] \"GET /a HTTP/1.1\" 302 10
+192.0.2.1 - - [01/Jan/2024:00:00:00 +0000] \"GET /a HTTP/1.1\" 303 10
+192.0.2.1 - - [01/Jan/2024:00:00:00 +0000] \"GET /a HTTP/1.1\" 303 10
+
+-----
+0
+{\"general\":{\"bandwidth\":70,\"excluded_hits\":0,\"failed_requests\":0,\"total_requests\":7,\"unique_visitors\":4,\"valid_requests\":7},\"hosts\":{\"data\":[{\"avgts\":0,\"bytes\":{\"count\":40,\"percent\":\"57.14\"},\"cumts\":0,\"data\":\"192.0.2.1\",\"hits\":{\"count\":4,\"percent\":\"57.14\"},\"maxts\":0,\"visitors\":{\"count\":1,\"percent\":\"25.00\"}},{\"avgts\":0,\"bytes\":{\"count\":10,\"percent\":\"14.29\"},\"cumts\":0,\"data\":\"192.0.2.100\",\"hits\":{\"count\":1,\"percent\":\"14.29\"},\"maxts\":0,\"visitors\":{\"count\":1,\"percent\":\"25.00\"}}]},\"status_codes\":{\"data\":[{\"avgts\":0,\"bytes\":{\"count\":40,\"percent\":\"57.14\"},\"cumts\":0,\"data\":\"3xx Redirection\",\"hits\":{\"count\":4,\"percent\":\"57.14\"},\"items\":[{\"avgts\":0,\"bytes\":{\"count\":20,\"percent\":\"28.57\"},\"cumts\":0,\"data\":\"303\",\"hits\":{\"count\":2,\"percent\":\"28.57\"},\"maxts\":0,\"visitors\":{\"count\":1,\"percent\":\"25.00\"}},{\"avgts\":0,\"bytes\":{\"count\":10,\"percent\":\"14.29\"},\"cumts\":0,\"data\":\"301\",\"hits\":{\"count\":1,\"percent\":\"14.29\"},\"maxts\":0,\"visitors\":{\"count\":1,\"percent\":\"25.00\"}}],\"maxts\":0,\"visitors\":{\"count\":1,\"percent\":\"25.00\"}},{\"avgts\":0,\"bytes\":{\"count\":30,\"percent\":\"42.86\"},\"cumts\":0,\"data\":\"2xx Success\",\"hits\":{\"count\":3,\"percent\":\"42.86\"},\"items\":[{\"avgts\":0,\"bytes\":{\"count\":30,\"percent\":\"42.86\"},\"cumts\":0,\"data\":\"200\",\"hits\":{\"count\":3,\"percent\":\"42.86\"},\"maxts\":0,\"visitors\":{\"count\":3,\"percent\":\"75.00\"}}],\"maxts\":0,\"visitors\":{\"count\":3,\"percent\":\"75.00\"}}]}}
+
+=====
+--ignore-panel=HOSTS|--enable-panel=HOSTS|--ignore-panel|VISITORS|--log-format=COMMON|-o|csv|a.log
+-----
+192.0.2.1 - - [01/Jan/2024:00:00:00 +0000] \"GET /a HTTP/1.1\" 200 10
+
+-----
+0
+id,parent_id,panel,hits,hits%,visitors,visitors%,bytes,bytes%,avgts,cumts,maxts,method,protocol,data
+0,,general,1,,,,,,,,,,,total_requests
+1,,general,1,,,,,,,,,,,valid_requests
+2,,general,0,,,,,,,,,,,failed_requests
+3,,general,0,,,,,,,,,,,excluded_hits
+4,,general,1,,,,,,,,,,,unique_visitors
+5,,general,10,,,,,,,,,,,bandwidth
+0,,requests,1,100.00,1,100.00,10,100.00,0,0,0,GET,HTTP/1.1,/a
+0,,hosts,1,100.00,1,100.00,10,100.00,0,0,0,,,192.0.2.1
+0,,visit_times,1,100.00,1,100.00,10,100.00,0,0,0,,,00
+0,,status_codes,1,100.00,1,100.00,10,100.00,0,0,0,,,2xx Success
+1,0,status_codes,1,100.00,1,100.00,10,100.00,0,0,0,,,200
+
+=====
+--enable-panel=HOSTS|--ignore-panel=HOSTS|--ignore-panel=VISITORS|--ignore-panel=REQUESTS_STATIC|--ignore-panel=NOT_FOUND|--ignore-panel=OS|--ignore-panel=BROWSERS|--ignore-panel=VISIT_TIMES|--ignore-panel=VIRTUAL_HOSTS|--ignore-panel=REFERRERS|--ignore-panel=REFERRING_SITES|--ignore-panel=KEYPHRASES|--ignore-panel=STATUS_CODES|--ignore-panel=REMOTE_USER|--ignore-panel=CACHE_STATUS|--ignore-panel=MIME_TYPE|--ignore-panel=TLS_TYPE|--log-format=COMMON|-o|csv|a.log
+-----
+192.0.2.1 - - [01/Jan/2024:00:00:00 +0000] \"GET /a HTTP/1.1\" 200 10
+
+-----
+0
+id,parent_id,panel,hits,hits%,visitors,visitors%,bytes,bytes%,avgts,cumts,maxts,method,protocol,data
+0,,general,1,,,,,,,,,,,total_requests
+1,,general,1,,,,,,,,,,,valid_requests
+2,,general,0,,,,,,,,,,,failed_requests
+3,,general,0,,,,,,,,,,,excluded_hits
+4,,general,1,,,,,,,,,,,unique_visitors
+5,,general,10,,,,,,,,,,,bandwidth
+0,,requests,1,100.00,1,100.00,10,100.00,0,0,0,GET,HTTP/1.1,/a
+
+=====
+--ignore-panel=VISITORS|--ignore-panel=REQUESTS|--ignore-panel=REQUESTS_STATIC|--ignore-panel=NOT_FOUND|--ignore-panel=HOSTS|--ignore-panel=OS|--ignore-panel=BROWSERS|--ignore-panel=VISIT_TIMES|--ignore-panel=VIRTUAL_HOSTS|--ignore-panel=REFERRERS|--ignore-panel=REFERRING_SITES|--ignore-panel=KEYPHRASES|--ignore-panel=STATUS_CODES|--ignore-panel=REMOTE_USER|--ignore-panel=CACHE_STATUS|--ignore-panel=MIME_TYPE|--ignore-panel=TLS_TYPE|--log-format=COMMON|-o|json|a.log
+-----
+192.0.2.1 - - [01/Jan/2024:00:00:00 +0000] \"GET /a HTTP/1.1\" 200 10
+
+-----
+0
+{\"general\":{\"bandwidth\":10,\"excluded_hits\":0,\"failed_requests\":0,\"total_requests\":1,\"unique_visitors\":1,\"valid_requests\":1}}
+
+=====
+--exclude-ip=192.0.2.1-192.0.2.9|--exclude-ip|2001:db8::5|--ignore-status=500|--ignore-panel=VISITORS|--ignore-panel=REQUESTS|--ignore-panel=REQUESTS_STATIC|--ignore-panel=NOT_FOUND|--ignore-panel=OS|--ignore-panel=BROWSERS|--ignore-panel=VISIT_TIMES|--ignore-panel=VIRTUAL_HOSTS|--ignore-panel=REFERRERS|--ignore-panel=REFERRING_SITES|--ignore-panel=KEYPHRASES|--ignore-panel=STATUS_CODES|--ignore-panel=REMOTE_USER|--ignore-panel=CACHE_STATUS|--ignore-panel=MIME_TYPE|--ignore-panel=TLS_TYPE|--log-format=COMMON|-o|csv|a.log
+-----
+192.0.2.9 - - [01/Jan/2024:00:00:00 +0000] \"GET /a HTTP/1.1\" 200 10
+192.0.2.10 - - [01/Jan/2024:00:00:00 +0000] \"GET /a HTTP/1.1\" 200 10
+::ffff:192.0.2.9 - - [01/Jan/2024:00:00:00 +0000] \"GET /a HTTP/1.1\" 200 10
+2001:db8:0::0:5 - - [01/Jan/2024:00:00:00 +0000] \"GET /a HTTP/1.1\" 200 10
+2001:db8::6 - - [01/Jan/2024:00:00:00 +0000] \"GET /a HTTP/1.1\" 200 10
+192.0.2.10 - - [01/Jan/2024:00:00:00 +0000] \"GET /a HTTP/1.1\" 500 10
+
+-----
+0
+id,parent_id,panel,hits,hits%,visitors,visitors%,bytes,bytes%,avgts,cumts,maxts,method,protocol,data
+0,,general,6,,,,,,,,,,,total_requests
+1,,general,3,,,,,,,,,,,valid_requests
+2,,general,0,,,,,,,,,,,failed_requests
+3,,general,3,,,,,,,,,,,excluded_hits
+4,,general,3,,,,,,,,,,,unique_visitors
+5,,general,30,,,,,,,,,,,bandwidth
+0,,hosts,1,33.33,1,33.33,10,33.33,0,0,0,,,192.0.2.10
+1,,hosts,1,33.33,1,33.33,10,33.33,0,0,0,,,2001:db8::6
+2,,hosts,1,33.33,1,33.33,10,33.33,0,0,0,,,::ffff:192.0.2.9
+
+=====
+--no-ip-validation|--log-format=COMMON|-o|csv|a.log
+-----
+proxy,1 - - [01/Jan/2024:00:00:00 +0000] \"GET /a HTTP/1.1\" 200 10
+- - - [01/Jan/2024:00:00:00 +0000] \"GET /a HTTP/1.1\" 200 10
+192.0.2.1 - - [01/Jan/2024:00:00:00 +0000] \"GET /a HTTP/1.1\" 200 10
+
+-----
+0
+id,parent_id,panel,hits,hits%,visitors,visitors%,bytes,bytes%,avgts,cumts,maxts,method,protocol,data
+0,,general,3,,,,,,,,,,,total_requests
+1,,general,3,,,,,,,,,,,valid_requests
+2,,general,0,,,,,,,,,,,failed_requests
+3,,general,0,,,,,,,,,,,excluded_hits
+4,,general,3,,,,,,,,,,,unique_visitors
+5,,general,30,,,,,,,,,,,bandwidth
+0,,visitors,3,100.00,3,100.00,30,100.00,0,0,0,,,20240101
+0,,requests,3,100.00,3,100.00,30,100.00,0,0,0,GET,HTTP/1.1,/a
+0,,hosts,1,33.33,1,33.33,10,33.33,0,0,0,,,-
+1,,hosts,1,33.33,1,33.33,10,33.33,0,0,0,,,192.0.2.1
+2,,hosts,1,33.33,1,33.33,10,33.33,0,0,0,,,\"proxy,1\"
+0,,visit_times,3,100.00,3,100.00,30,100.00,0,0,0,,,00
+0,,status_codes,3,100.00,3,100.00,30,100.00,0,0,0,,,2xx Success
+1,0,status_codes,3,100.00,3,100.00,30,100.00,0,0,0,,,200
+
+=====
+--no-strict-status|--ignore-panel=REQUESTS|--ignore-panel=REQUESTS_STATIC|--ignore-panel=NOT_FOUND|--ignore-panel=HOSTS|--ignore-panel=OS|--ignore-panel=BROWSERS|--ignore-panel=VISIT_TIMES|--ignore-panel=VIRTUAL_HOSTS|--ignore-panel=REFERRERS|--ignore-panel=REFERRING_SITES|--ignore-panel=KEYPHRASES|--ignore-panel=REMOTE_USER|--ignore-panel=CACHE_STATUS|--ignore-panel=MIME_TYPE|--ignore-panel=TLS_TYPE|--log-format=COMMON|-o|csv|a.log
+-----
+192.0.2.1 - - [01/Jan/2024:00:00:00 +0000] \"GET /a HTTP/1.1\" - 10
+192.0.2.1 - - [01/Jan/2024:00:00:00 +0000] \"GET /a HTTP/1.1\" 99 10
+192.0.2.1 - - [01/Jan/2024:00:00:00 +0000] \"GET /a HTTP/1.1\" 404 10
+192.0.2.1 - - [01/Jan/2024:00:00:00 +0000] \"GET /a HTTP/1.1\" 0200 10
+
+-----
+0
+id,parent_id,panel,hits,hits%,visitors,visitors%,bytes,bytes%,avgts,cumts,maxts,method,protocol,data
+0,,general,4,,,,,,,,,,,total_requests
+1,,general,4,,,,,,,,,,,valid_requests
+2,,general,0,,,,,,,,,,,failed_requests
+3,,general,0,,,,,,,,,,,excluded_hits
+4,,general,1,,,,,,,,,,,unique_visitors
+5,,general,40,,,,,,,,,,,bandwidth
+0,,visitors,4,100.00,1,100.00,40,100.00,0,0,0,,,20240101
+0,,status_codes,1,25.00,0,0.00,10,25.00,0,0,0,,,4xx Client Errors
+1,0,status_codes,1,25.00,0,0.00,10,25.00,0,0,0,,,404
+
+=====
+--static-file=.php|--static-file|.CSS|--ignore-panel=VISITORS|--ignore-panel=NOT_FOUND|--ignore-panel=HOSTS|--ignore-panel=OS|--ignore-panel=BROWSERS|--ignore-panel=VISIT_TIMES|--ignore-panel=VIRTUAL_HOSTS|--ignore-panel=REFERRERS|--ignore-panel=REFERRING_SITES|--ignore-panel=KEYPHRASES|--ignore-panel=STATUS_CODES|--ignore-panel=REMOTE_USER|--ignore-panel=CACHE_STATUS|--ignore-panel=MIME_TYPE|--ignore-panel=TLS_TYPE|--log-format=COMMON|-o|csv|a.log
+-----
+192.0.2.1 - - [01/Jan/2024:00:00:00 +0000] \"GET /a.php HTTP/1.1\" 200 10
+192.0.2.1 - - [01/Jan/2024:00:00:00 +0000] \"GET /a.CSS HTTP/1.1\" 200 10
+192.0.2.1 - - [01/Jan/2024:00:00:00 +0000] \"GET /a.Css HTTP/1.1\" 200 10
+192.0.2.1 - - [01/Jan/2024:00:00:00 +0000] \"GET /a.php?x HTTP/1.1\" 200 10
+
+-----
+0
+id,parent_id,panel,hits,hits%,visitors,visitors%,bytes,bytes%,avgts,cumts,maxts,method,protocol,data
+0,,general,4,,,,,,,,,,,total_requests
+1,,general,4,,,,,,,,,,,valid_requests
+2,,general,0,,,,,,,,,,,failed_requests
+3,,general,0,,,,,,,,,,,excluded_hits
+4,,general,1,,,,,,,,,,,unique_visitors
+5,,general,40,,,,,,,,,,,bandwidth
+0,,requests,1,25.00,1,100.00,10,25.00,0,0,0,GET,HTTP/1.1,/a.Css
+1,,requests,1,25.00,1,100.00,10,25.00,0,0,0,GET,HTTP/1.1,/a.php?x
+0,,requests_static,1,25.00,1,100.00,10,25.00,0,0,0,GET,HTTP/1.1,/a.CSS
+1,,requests_static,1,25.00,1,100.00,10,25.00,0,0,0,GET,HTTP/1.1,/a.php
+
+=====
+--ignore-crawlers|--ignore-panel=VISITORS|--ignore-panel=REQUESTS|--ignore-panel=REQUESTS_STATIC|--ignore-panel=NOT_FOUND|--ignore-panel=HOSTS|--ignore-panel=VISIT_TIMES|--ignore-panel=VIRTUAL_HOSTS|--ignore-panel=REFERRERS|--ignore-panel=STATUS_CODES|--ignore-panel=REMOTE_USER|--ignore-panel=CACHE_STATUS|--ignore-panel=MIME_TYPE|--ignore-panel=TLS_TYPE|--log-format=COMBINED|-o|csv|a.log
+-----
+192.0.2.1 - - [01/Jan/2024:00:00:00 +0000] \"GET /a HTTP/1.1\" 200 10 \"-\" \"Mozilla/5.0 (compatible; Googlebot/2.1; +http://www.google.com/bot.html)\"
+192.0.2.2 - - [01/Jan/2024:00:00:00 +0000] \"GET /a HTTP/1.1\" 200 10 \"https://www.google.de/search?q=a+b\" \"Foobot 1.0\"
+192.0.2.3 - - [01/Jan/2024:00:00:00 +0000] \"GET /a HTTP/1.1\" 200 10 \"-\" \"curl/8.4.0\"
+192.0.2.4 - - [01/Jan/2024:00:00:00 +0000] \"GET /a HTTP/1.1\" 200 10 \"http://example.org/x\" \"-\"
+192.0.2.5 - - [01/Jan/2024:00:00:00 +0000] \"GET /a HTTP/1.1\" 200 10 \"-\" \"Mozilla/5.0 (Windows NT 10.0) Firefox/120.0\"
+
+-----
+0
+id,parent_id,panel,hits,hits%,visitors,visitors%,bytes,bytes%,avgts,cumts,maxts,method,protocol,data
+0,,general,5,,,,,,,,,,,total_requests
+1,,general,4,,,,,,,,,,,valid_requests
+2,,general,0,,,,,,,,,,,failed_requests
+3,,general,1,,,,,,,,,,,excluded_hits
+4,,general,4,,,,,,,,,,,unique_visitors
+5,,general,40,,,,,,,,,,,bandwidth
+0,,os,2,50.00,2,50.00,20,50.00,0,0,0,,,Unknown
+1,0,os,2,50.00,2,50.00,20,50.00,0,0,0,,,Unknown
+2,,os,1,25.00,1,25.00,10,25.00,0,0,0,,,Windows
+3,2,os,1,25.00,1,25.00,10,25.00,0,0,0,,,Windows 10
+0,,browsers,1,25.00,1,25.00,10,25.00,0,0,0,,,Firefox
+1,0,browsers,1,25.00,1,25.00,10,25.00,0,0,0,,,Firefox/120.0
+2,,browsers,1,25.00,1,25.00,10,25.00,0,0,0,,,Others
+3,2,browsers,1,25.00,1,25.00,10,25.00,0,0,0,,,curl/8.4.0
+4,,browsers,1,25.00,1,25.00,10,25.00,0,0,0,,,Unknown
+5,4,browsers,1,25.00,1,25.00,10,25.00,0,0,0,,,Unknown
+0,,referring_sites,1,25.00,1,25.00,10,25.00,0,0,0,,,example.org
+1,,referring_sites,1,25.00,1,25.00,10,25.00,0,0,0,,,www.google.de
+0,,keyphrases,1,25.00,1,25.00,10,25.00,0,0,0,,,a b
+
+=====
+--browsers-file=agents.txt|--ignore-panel=VISITORS|--ignore-panel=REQUESTS|--ignore-panel=REQUESTS_STATIC|--ignore-panel=NOT_FOUND|--ignore-panel=HOSTS|--ignore-panel=VISIT_TIMES|--ignore-panel=VIRTUAL_HOSTS|--ignore-panel=REFERRERS|--ignore-panel=REFERRING_SITES|--ignore-panel=KEYPHRASES|--ignore-panel=STATUS_CODES|--ignore-panel=REMOTE_USER|--ignore-panel=CACHE_STATUS|--ignore-panel=MIME_TYPE|--ignore-panel=TLS_TYPE|--log-format=COMBINED|-o|csv|a.log
+-----
+192.0.2.1 - - [01/Jan/2024:00:00:00 +0000] \"GET /a HTTP/1.1\" 200 10 \"-\" \"Mozilla/5.0 (compatible; Googlebot/2.1; +http://www.google.com/bot.html)\"
+192.0.2.2 - - [01/Jan/2024:00:00:00 +0000] \"GET /a HTTP/1.1\" 200 10 \"https://www.google.de/search?q=a+b\" \"Foobot 1.0\"
+192.0.2.3 - - [01/Jan/2024:00:00:00 +0000] \"GET /a HTTP/1.1\" 200 10 \"-\" \"curl/8.4.0\"
+192.0.2.4 - - [01/Jan/2024:00:00:00 +0000] \"GET /a HTTP/1.1\" 200 10 \"http://example.org/x\" \"-\"
+192.0.2.5 - - [01/Jan/2024:00:00:00 +0000] \"GET /a HTTP/1.1\" 200 10 \"-\" \"Mozilla/5.0 (Windows NT 10.0) Firefox/120.0\"
+
++++++
+
++++++
+# ours\r
+Foobot\t\tCrawlers\r
+
+Mozilla/5.0\tOurs, all
+-----
+0
+id,parent_id,panel,hits,hits%,visitors,visitors%,bytes,bytes%,avgts,cumts,maxts,method,protocol,data
+0,,general,5,,,,,,,,,,,total_requests
+1,,general,5,,,,,,,,,,,valid_requests
+2,,general,0,,,,,,,,,,,failed_requests
+3,,general,0,,,,,,,,,,,excluded_hits
+4,,general,5,,,,,,,,,,,unique_visitors
+5,,general,50,,,,,,,,,,,bandwidth
+0,,os,3,60.00,3,60.00,30,60.00,0,0,0,,,Unknown
+1,0,os,3,60.00,3,60.00,30,60.00,0,0,0,,,Unknown
+2,,os,1,20.00,1,20.00,10,20.00,0,0,0,,,Windows
+3,2,os,1,20.00,1,20.00,10,20.00,0,0,0,,,Windows 10
+0,,browsers,2,40.00,2,40.00,20,40.00,0,0,0,,,\"Ours, all\"
+1,0,browsers,2,40.00,2,40.00,20,40.00,0,0,0,,,Mozilla/5.0
+2,,browsers,1,20.00,1,20.00,10,20.00,0,0,0,,,Crawlers
+3,2,browsers,1,20.00,1,20.00,10,20.00,0,0,0,,,Foobot
+4,,browsers,1,20.00,1,20.00,10,20.00,0,0,0,,,Others
+5,4,browsers,1,20.00,1,20.00,10,20.00,0,0,0,,,curl/8.4.0
+
+=====
+--ignore-crawlers|--browsers-file|agents.txt|--ignore-panel=VISITORS|--ignore-panel=REQUESTS|--ignore-panel=REQUESTS_STATIC|--ignore-panel=NOT_FOUND|--ignore-panel=HOSTS|--ignore-panel=OS|--ignore-panel=VISIT_TIMES|--ignore-panel=VIRTUAL_HOSTS|--ignore-panel=REFERRERS|--ignore-panel=REFERRING_SITES|--ignore-panel=KEYPHRASES|--ignore-panel=STATUS_CODES|--ignore-panel=REMOTE_USER|--ignore-panel=CACHE_STATUS|--ignore-panel=MIME_TYPE|--ignore-panel=TLS_TYPE|--log-format=COMBINED|-o|csv|a.log
+-----
+192.0.2.1 - - [01/Jan/2024:00:00:00 +0000] \"GET /a HTTP/1.1\" 200 10 \"-\" \"Mozilla/5.0 (compatible; Googlebot/2.1; +http://www.google.com/bot.html)\"
+192.0.2.2 - - [01/Jan/2024:00:00:00 +0000] \"GET /a HTTP/1.1\" 200 10 \"https://www.google.de/search?q=a+b\" \"Foobot 1.0\"
+192.0.2.3 - - [01/Jan/2024:00:00:00 +0000] \"GET /a HTTP/1.1\" 200 10 \"-\" \"curl/8.4.0\"
+192.0.2.4 - - [01/Jan/2024:00:00:00 +0000] \"GET /a HTTP/1.1\" 200 10 \"http://example.org/x\" \"-\"
+192.0.2.5 - - [01/Jan/2024:00:00:00 +0000] \"GET /a HTTP/1.1\" 200 10 \"-\" \"Mozilla/5.0 (Windows NT 10.0) Firefox/120.0\"
+
++++++
+
++++++
+Foo\tCrawlers
+Googlebot\tFriends
+
+-----
+0
+id,parent_id,panel,hits,hits%,visitors,visitors%,bytes,bytes%,avgts,cumts,maxts,method,protocol,data
+0,,general,5,,,,,,,,,,,total_requests
+1,,general,4,,,,,,,,,,,valid_requests
+2,,general,0,,,,,,,,,,,failed_requests
+3,,general,1,,,,,,,,,,,excluded_hits
+4,,general,4,,,,,,,,,,,unique_visitors
+5,,general,40,,,,,,,,,,,bandwidth
+0,,browsers,1,25.00,1,25.00,10,25.00,0,0,0,,,Firefox
+1,0,browsers,1,25.00,1,25.00,10,25.00,0,0,0,,,Firefox/120.0
+2,,browsers,1,25.00,1,25.00,10,25.00,0,0,0,,,Friends
+3,2,browsers,1,25.00,1,25.00,10,25.00,0,0,0,,,Googlebot/2.1
+4,,browsers,1,25.00,1,25.00,10,25.00,0,0,0,,,Others
+5,4,browsers,1,25.00,1,25.00,10,25.00,0,0,0,,,curl/8.4.0
+
+=====
+--browsers-file=agents.txt|--log-format=COMMON|-o|csv|a.log
+-----
+192.0.2.1 - - [01/Jan/2024:00:00:00 +0000] \"GET /a HTTP/1.1\" 200 10
+
++++++
+
++++++
+# x
+Foo
+
+-----
+1
+goaccess: browsers file, line 2: not a rule
+
+=====
+--log-format=VCOMMON|--ignore-panel=VISITORS|--ignore-panel=REQUESTS|--ignore-panel=REQUESTS_STATIC|--ignore-panel=NOT_FOUND|--ignore-panel=HOSTS|--ignore-panel=OS|--ignore-panel=BROWSERS|--ignore-panel=VISIT_TIMES|--ignore-panel=REFERRERS|--ignore-panel=REFERRING_SITES|--ignore-panel=KEYPHRASES|--ignore-panel=STATUS_CODES|--ignore-panel=REMOTE_USER|--ignore-panel=CACHE_STATUS|--ignore-panel=MIME_TYPE|--ignore-panel=TLS_TYPE|-o|csv|a.log
+-----
+www.example.org:443 192.0.2.1 - - [01/Jan/2024:00:00:00 +0000] \"GET /a HTTP/1.1\" 200 10
+example.org:80 192.0.2.1 - - [01/Jan/2024:00:00:00 +0000] \"GET /a HTTP/1.1\" 200 10
+
+-----
+0
+id,parent_id,panel,hits,hits%,visitors,visitors%,bytes,bytes%,avgts,cumts,maxts,method,protocol,data
+0,,general,2,,,,,,,,,,,total_requests
+1,,general,2,,,,,,,,,,,valid_requests
+2,,general,0,,,,,,,,,,,failed_requests
+3,,general,0,,,,,,,,,,,excluded_hits
+4,,general,1,,,,,,,,,,,unique_visitors
+5,,general,20,,,,,,,,,,,bandwidth
+0,,virtual_hosts,1,50.00,1,100.00,10,50.00,0,0,0,,,example.org
+1,,virtual_hosts,1,50.00,1,100.00,10,50.00,0,0,0,,,www.example.org
+
+=====
+--log-format=%v %e %C %h [%x] %m %U %q %H %s %b \"%R\" \"%u\" %K %M %D|--date-format=%Y-%m-%d|--time-format= %H:%M:%S|--output=csv|a.log
+-----
+www.example.org alice HIT 192.0.2.1 [2024-01-01 08:05:09] GET /a x=1 HTTP/1.1 200 10 \"-\" \"-\" TLSv1.3 text/html 1500
+- - - 192.0.2.1 [2024-01-01 08:05:10] get /b.css ?y HTTP/9 200 10 \"\" \"\" - - -
+www.example.org bob MISS ::1 [2024-01-01 09:00:00] HEAD /c - HTTP/2 204 0 \"-\" \"-\" TLSv1.2 /x 500
+
+-----
+0
+id,parent_id,panel,hits,hits%,visitors,visitors%,bytes,bytes%,avgts,cumts,maxts,method,protocol,data
+0,,general,3,,,,,,,,,,,total_requests
+1,,general,3,,,,,,,,,,,valid_requests
+2,,general,0,,,,,,,,,,,failed_requests
+3,,general,0,,,,,,,,,,,excluded_hits
+4,,general,2,,,,,,,,,,,unique_visitors
+5,,general,20,,,,,,,,,,,bandwidth
+0,,visitors,3,100.00,2,100.00,20,100.00,666,2000,1500,,,20240101
+0,,requests,1,33.33,1,50.00,10,50.00,1500,1500,1500,GET,HTTP/1.1,/a?x=1
+1,,requests,1,33.33,1,50.00,10,50.00,0,0,0,,,/b.css?y
+2,,requests,1,33.33,1,50.00,0,0.00,500,500,500,HEAD,HTTP/2,/c
+0,,hosts,2,66.67,1,50.00,20,100.00,750,1500,1500,,,192.0.2.1
+1,,hosts,1,33.33,1,50.00,0,0.00,500,500,500,,,::1
+0,,visit_times,2,66.67,1,50.00,20,100.00,750,1500,1500,,,08
+1,,visit_times,1,33.33,1,50.00,0,0.00,500,500,500,,,09
+0,,virtual_hosts,2,66.67,2,100.00,10,50.00,1000,2000,1500,,,www.example.org
+0,,status_codes,3,100.00,2,100.00,20,100.00,666,2000,1500,,,2xx Success
+1,0,status_codes,2,66.67,1,50.00,20,100.00,750,1500,1500,,,200
+2,0,status_codes,1,33.33,1,50.00,0,0.00,500,500,500,,,204
+0,,remote_user,1,33.33,1,50.00,10,50.00,1500,1500,1500,,,alice
+1,,remote_user,1,33.33,1,50.00,0,0.00,500,500,500,,,bob
+0,,cache_status,1,33.33,1,50.00,10,50.00,1500,1500,1500,,,HIT
+1,,cache_status,1,33.33,1,50.00,0,0.00,500,500,500,,,MISS
+0,,mime_type,1,33.33,1,50.00,0,0.00,500,500,500,,,Unknown
+1,0,mime_type,1,33.33,1,50.00,0,0.00,500,500,500,,,/x
+2,,mime_type,1,33.33,1,50.00,10,50.00,1500,1500,1500,,,text
+3,2,mime_type,1,33.33,1,50.00,10,50.00,1500,1500,1500,,,text/html
+0,,tls_type,1,33.33,1,50.00,0,0.00,500,500,500,,,TLSv1.2
+1,,tls_type,1,33.33,1,50.00,10,50.00,1500,1500,1500,,,TLSv1.3
+
+=====
+--log-format=COMMON|-o|json|--jobs=16|--chunk-size|1|--db-path=x|--output|csv|--ignore-panel=VISITORS|--ignore-panel=REQUESTS|--ignore-panel=REQUESTS_STATIC|--ignore-panel=NOT_FOUND|--ignore-panel=OS|--ignore-panel=BROWSERS|--ignore-panel=VISIT_TIMES|--ignore-panel=VIRTUAL_HOSTS|--ignore-panel=REFERRERS|--ignore-panel=REFERRING_SITES|--ignore-panel=KEYPHRASES|--ignore-panel=STATUS_CODES|--ignore-panel=REMOTE_USER|--ignore-panel=CACHE_STATUS|--ignore-panel=MIME_TYPE|--ignore-panel=TLS_TYPE|a.log
+-----
+192.0.2.1 - - [01/Jan/2024:00:00:00 +0000] \"GET /a HTTP/1.1\" 200 10
+192.0.2.1 - - [01/Jan/2024:00:00:00 +0000] \"GET /x HTTP/1.1\" 404 5
+192.0.2.2 - - [01/Jan/2024:00:00:00 +0000] \"GET /b.css HTTP/1.1\" 304 -
+192.0.2.1 - - [02/Jan/2024:23:00:00 +0000] \"POST /a HTTP/1.1\" 500 7
+
+-----
+0
+id,parent_id,panel,hits,hits%,visitors,visitors%,bytes,bytes%,avgts,cumts,maxts,method,protocol,data
+0,,general,4,,,,,,,,,,,total_requests
+1,,general,4,,,,,,,,,,,valid_requests
+2,,general,0,,,,,,,,,,,failed_requests
+3,,general,0,,,,,,,,,,,excluded_hits
+4,,general,3,,,,,,,,,,,unique_visitors
+5,,general,22,,,,,,,,,,,bandwidth
+0,,hosts,3,75.00,2,66.67,22,100.00,0,0,0,,,192.0.2.1
+1,,hosts,1,25.00,1,33.33,0,0.00,0,0,0,,,192.0.2.2
+
+=====
+-o|nothing.csv|--log-format=COMMON|a.log|nothing.log
+-----
+192.0.2.1 - - [01/Jan/2024:00:00:00 +0000] \"GET /a HTTP/1.1\" 200 10
+
+-----
+2
+goaccess: nothing.log: read failed
+
+=====
+--log-format=COMMON|-o|csv|--browsers-file=nothing.txt|a.log
+-----
+192.0.2.1 - - [01/Jan/2024:00:00:00 +0000] \"GET /a HTTP/1.1\" 200 10
+
+-----
+2
+goaccess: nothing.txt: read failed
+
+=====
+--log-format=COMMON|--date-format=%d|--browsers-file=nothing.txt|a.log
+-----
+192.0.2.1 - - [01/Jan/2024:00:00:00 +0000] \"GET /a HTTP/1.1\" 200 10
+
+-----
+1
+goaccess: date format, byte 2: bad directive
+
+=====
+--log-format=%h%d \"%r\"|nothing.log
+-----
+192.0.2.1 - - [01/Jan/2024:00:00:00 +0000] \"GET /a HTTP/1.1\" 200 10
+
+-----
+1
+goaccess: log format, byte 0: no delimiter
+
+=====
+--log-format=COMMON|a.log|nothing.log
+-----
 192.0.2.1 - - [01/Jan/2024:00:00:00 +0000] \"GET /a HTTP/1.1\" 200 1000000000000000000
 192.0.2.1 - - [01/Jan/2024:00:00:00 +0000] \"GET /a HTTP/1.1\" 200 1000000000000000000
 192.0.2.1 - - [01/Jan/2024:00:00:00 +0000] \"GET /a HTTP/1.1\" 200 1000000000000000000
@@ -110,293 +643,218 @@ id,parent_id,panel,hits,hits%,visitors,visitors%,bytes,bytes%,avgts,cumts,maxts,
 goaccess: counter full: bytes 5000000000000000000
 
 =====
---log-format=COMMON|-o|csv|a.log
+--log-format=COMMON|a.log|b.log
 -----
+192.0.2.1 - - [01/Jan/2024:00:00:00 +0000] \"GET /a HTTP/1.1\" 200 1000000000000000000
+192.0.2.1 - - [01/Jan/2024:00:00:00 +0000] \"GET /a HTTP/1.1\" 200 1000000000000000000
+192.0.2.1 - - [01/Jan/2024:00:00:00 +0000] \"GET /a HTTP/1.1\" 200 1000000000000000000
+
++++++
+192.0.2.1 - - [01/Jan/2024:00:00:00 +0000] \"GET /a HTTP/1.1\" 200 1000000000000000000
+192.0.2.1 - - [01/Jan/2024:00:00:00 +0000] \"GET /a HTTP/1.1\" 200 1000000000000000000
 
 -----
-0
-id,parent_id,panel,hits,hits%,visitors,visitors%,bytes,bytes%,avgts,cumts,maxts,method,protocol,data
-
-=====
---log-format=%h %^[%d:%t %^] \"%r\" %s %b|--date-format=%d/%b/%Y|--time-format=%T|-o|csv|a.log
------
-192.0.2.1 - - [01/Jan/2024:00:00:00 +0000] \"GET /a HTTP/1.1\" 200 10
-192.0.2.1 - - [01/Jan/2024:00:00:00 +0000] \"GET /b HTTP/1.1\" 200 5
-198.51.100.4 - - [01/Jan/2024:00:00:00 +0000] \"GET /c HTTP/1.1\" 200 -
-
------
-0
-id,parent_id,panel,hits,hits%,visitors,visitors%,bytes,bytes%,avgts,cumts,maxts,method,protocol,data
-0,,visitors,3,,2,,15,,,,,,,20240101
-0,,hosts,2,,1,,15,,,,,,,192.0.2.1
-1,,hosts,1,,1,,0,,,,,,,198.51.100.4
+5
+goaccess: counter full: bytes 5000000000000000000
 
 =====
---log-format=COMMON|--date-format=%F|-o|csv|a.log
+--bogus
 -----
-a - - [2024-01-01:00:00:00 z] \"r\" 200 7
-b - - [01/Jan/2024:00:00:00 z] \"r\" 200 7
 
 -----
-0
-id,parent_id,panel,hits,hits%,visitors,visitors%,bytes,bytes%,avgts,cumts,maxts,method,protocol,data
-0,,visitors,1,,1,,7,,,,,,,20240101
-0,,hosts,1,,1,,7,,,,,,,a
+1
+goaccess: word 0: unknown option
 
 =====
---log-format=COMBINED|-o|csv|a.log
+--jobs
 -----
-192.0.2.1 - - [01/Jan/2024:00:00:00 +0000] \"GET /a HTTP/1.1\" 200 10 \"-\" \"Mozilla/5.0\"
-192.0.2.1 - - [01/Jan/2024:00:00:09 +0000] \"GET /b HTTP/1.1\" 200 5 \"https://example.org/\" \"curl/8.0\"
-198.51.100.4 - - [02/Jan/2024:00:00:00 +0000] \"GET /c HTTP/1.1\" 200 7 \"-\" \"curl/8.0\"
 
 -----
-0
-id,parent_id,panel,hits,hits%,visitors,visitors%,bytes,bytes%,avgts,cumts,maxts,method,protocol,data
-0,,visitors,1,,1,,7,,,,,,,20240102
-1,,visitors,2,,2,,15,,,,,,,20240101
-0,,hosts,2,,2,,15,,,,,,,192.0.2.1
-1,,hosts,1,,1,,7,,,,,,,198.51.100.4
+1
+goaccess: word 0: value missing
 
 =====
---log-format=COMMON|-o|csv|b.log
+--jobs=17|a
 -----
-192.0.2.1 - - [01/Jan/2024:00:00:00 +0000] \"GET /a HTTP/1.1\" 200 10
-192.0.2.1 - - [01/Jan/2024:00:00:00 +0000] \"GET /b HTTP/1.1\" 200 5
-198.51.100.4 - - [01/Jan/2024:00:00:00 +0000] \"GET /c HTTP/1.1\" 200 -
 
 -----
-2
-goaccess: b.log: read failed
+1
+goaccess: word 0: bad value
+
+=====
+--jobs|17|a
+-----
+
+-----
+1
+goaccess: word 1: bad value
+
+=====
+a
+-----
+
+-----
+1
+goaccess: no log format
 
 =====
 
 -----
-192.0.2.1 - - [01/Jan/2024:00:00:00 +0000] \"GET /a HTTP/1.1\" 200 10
-192.0.2.1 - - [01/Jan/2024:00:00:00 +0000] \"GET /b HTTP/1.1\" 200 5
-198.51.100.4 - - [01/Jan/2024:00:00:00 +0000] \"GET /c HTTP/1.1\" 200 -
+
+-----
+1
+goaccess: word 0: bad value
+
+=====
+--generate=5|--persist
+-----
+
+-----
+1
+goaccess: word 0: conflict
+
+=====
+--restore
+-----
 
 -----
 1
 goaccess: not built
 
 =====
---log-format=COMMON
+-o|csv
+-----
+
+-----
+1
+goaccess: no input
+
+=====
+-o=json|a.log
+-----
+
+-----
+1
+goaccess: word 0: unknown option
+
+=====
+-
+-----
+
+-----
+1
+goaccess: word 0: unknown option
+
+=====
+--persist=yes|--bogus
+-----
+
+-----
+1
+goaccess: word 0: bad value
+
+=====
+--exclude-ip=192.0.2.9-192.0.2.1|a.log
+-----
+
+-----
+1
+goaccess: word 0: bad value
+
+=====
+--ignore-status=99|a.log
+-----
+
+-----
+1
+goaccess: word 0: bad value
+
+=====
+--ignore-status=600|a.log
+-----
+
+-----
+1
+goaccess: word 0: bad value
+
+=====
+--ignore-panel=hosts|a.log
+-----
+
+-----
+1
+goaccess: word 0: bad value
+
+=====
+--max-items=4294967296|a.log
+-----
+
+-----
+1
+goaccess: word 0: bad value
+
+=====
+--chunk-size=0|a.log
+-----
+
+-----
+1
+goaccess: word 0: bad value
+
+=====
+--static-file=|a.log
+-----
+
+-----
+1
+goaccess: word 0: bad value
+
+=====
+--browsers-file=|a.log
+-----
+
+-----
+1
+goaccess: word 0: bad value
+
+=====
+--|--bogus|
+-----
+
+-----
+1
+goaccess: word 2: bad value
+
+=====
+--generate=00000000007
+-----
+
+-----
+1
+goaccess: word 0: bad value
+
+=====
+--generate|5|a.log|--log-format=COMMON
+-----
+
+-----
+1
+goaccess: word 0: conflict
+
+=====
+--persist|--log-format=COMMON|a.log
 -----
 192.0.2.1 - - [01/Jan/2024:00:00:00 +0000] \"GET /a HTTP/1.1\" 200 10
-192.0.2.1 - - [01/Jan/2024:00:00:00 +0000] \"GET /b HTTP/1.1\" 200 5
-198.51.100.4 - - [01/Jan/2024:00:00:00 +0000] \"GET /c HTTP/1.1\" 200 -
 
 -----
 1
 goaccess: not built
 
 =====
--o|csv|a.log
+--generate=0000000007
 -----
-192.0.2.1 - - [01/Jan/2024:00:00:00 +0000] \"GET /a HTTP/1.1\" 200 10
-192.0.2.1 - - [01/Jan/2024:00:00:00 +0000] \"GET /b HTTP/1.1\" 200 5
-198.51.100.4 - - [01/Jan/2024:00:00:00 +0000] \"GET /c HTTP/1.1\" 200 -
 
 -----
 1
 goaccess: not built
-
-=====
---log-format|COMMON|-o|csv|a.log
------
-192.0.2.1 - - [01/Jan/2024:00:00:00 +0000] \"GET /a HTTP/1.1\" 200 10
-192.0.2.1 - - [01/Jan/2024:00:00:00 +0000] \"GET /b HTTP/1.1\" 200 5
-198.51.100.4 - - [01/Jan/2024:00:00:00 +0000] \"GET /c HTTP/1.1\" 200 -
-
------
-1
-goaccess: not built
-
-=====
---log-format=COMMON|--log-format=COMMON|-o|csv|a.log
------
-192.0.2.1 - - [01/Jan/2024:00:00:00 +0000] \"GET /a HTTP/1.1\" 200 10
-192.0.2.1 - - [01/Jan/2024:00:00:00 +0000] \"GET /b HTTP/1.1\" 200 5
-198.51.100.4 - - [01/Jan/2024:00:00:00 +0000] \"GET /c HTTP/1.1\" 200 -
-
------
-1
-goaccess: not built
-
-=====
---log-format=COMMON|--time-format=%T|--date-format=%F|-o|csv|a.log
------
-192.0.2.1 - - [01/Jan/2024:00:00:00 +0000] \"GET /a HTTP/1.1\" 200 10
-192.0.2.1 - - [01/Jan/2024:00:00:00 +0000] \"GET /b HTTP/1.1\" 200 5
-198.51.100.4 - - [01/Jan/2024:00:00:00 +0000] \"GET /c HTTP/1.1\" 200 -
-
------
-1
-goaccess: not built
-
-=====
--o|csv|a.log|--log-format=COMMON
------
-192.0.2.1 - - [01/Jan/2024:00:00:00 +0000] \"GET /a HTTP/1.1\" 200 10
-192.0.2.1 - - [01/Jan/2024:00:00:00 +0000] \"GET /b HTTP/1.1\" 200 5
-198.51.100.4 - - [01/Jan/2024:00:00:00 +0000] \"GET /c HTTP/1.1\" 200 -
-
------
-1
-goaccess: not built
-
-=====
---log-format=COMMON|-o|json|a.log
------
-192.0.2.1 - - [01/Jan/2024:00:00:00 +0000] \"GET /a HTTP/1.1\" 200 10
-192.0.2.1 - - [01/Jan/2024:00:00:00 +0000] \"GET /b HTTP/1.1\" 200 5
-198.51.100.4 - - [01/Jan/2024:00:00:00 +0000] \"GET /c HTTP/1.1\" 200 -
-
------
-1
-goaccess: not built
-
-=====
---log-format=COMMON|-o|csv|
------
-192.0.2.1 - - [01/Jan/2024:00:00:00 +0000] \"GET /a HTTP/1.1\" 200 10
-192.0.2.1 - - [01/Jan/2024:00:00:00 +0000] \"GET /b HTTP/1.1\" 200 5
-198.51.100.4 - - [01/Jan/2024:00:00:00 +0000] \"GET /c HTTP/1.1\" 200 -
-
------
-1
-goaccess: not built
-
-=====
---log-format=COMMON|-o|csv|-
------
-192.0.2.1 - - [01/Jan/2024:00:00:00 +0000] \"GET /a HTTP/1.1\" 200 10
-192.0.2.1 - - [01/Jan/2024:00:00:00 +0000] \"GET /b HTTP/1.1\" 200 5
-198.51.100.4 - - [01/Jan/2024:00:00:00 +0000] \"GET /c HTTP/1.1\" 200 -
-
------
-1
-goaccess: not built
-
-=====
---log-format=COMMON|-o|csv|a.log|b.log
------
-192.0.2.1 - - [01/Jan/2024:00:00:00 +0000] \"GET /a HTTP/1.1\" 200 10
-192.0.2.1 - - [01/Jan/2024:00:00:00 +0000] \"GET /b HTTP/1.1\" 200 5
-198.51.100.4 - - [01/Jan/2024:00:00:00 +0000] \"GET /c HTTP/1.1\" 200 -
-
------
-1
-goaccess: not built
-
-=====
---log-format=~h{, } [%d] \"%r\"|--date-format=|-o|csv|a.log
------
-192.0.2.1 - - [01/Jan/2024:00:00:00 +0000] \"GET /a HTTP/1.1\" 200 10
-192.0.2.1 - - [01/Jan/2024:00:00:00 +0000] \"GET /b HTTP/1.1\" 200 5
-198.51.100.4 - - [01/Jan/2024:00:00:00 +0000] \"GET /c HTTP/1.1\" 200 -
-
------
-1
-goaccess: not built
-
-=====
---log-format=%h%d \"%r\"|-o|csv|a.log
------
-192.0.2.1 - - [01/Jan/2024:00:00:00 +0000] \"GET /a HTTP/1.1\" 200 10
-192.0.2.1 - - [01/Jan/2024:00:00:00 +0000] \"GET /b HTTP/1.1\" 200 5
-198.51.100.4 - - [01/Jan/2024:00:00:00 +0000] \"GET /c HTTP/1.1\" 200 -
-
------
-1
-goaccess: log format, byte 0: no delimiter
-
-=====
---log-format=%h [%d] \"%r\" %z|-o|csv|a.log
------
-192.0.2.1 - - [01/Jan/2024:00:00:00 +0000] \"GET /a HTTP/1.1\" 200 10
-192.0.2.1 - - [01/Jan/2024:00:00:00 +0000] \"GET /b HTTP/1.1\" 200 5
-198.51.100.4 - - [01/Jan/2024:00:00:00 +0000] \"GET /c HTTP/1.1\" 200 -
-
------
-1
-goaccess: log format, byte 13: unknown specifier
-
-=====
---log-format=%h %h [%d] \"%r\"|-o|csv|a.log
------
-192.0.2.1 - - [01/Jan/2024:00:00:00 +0000] \"GET /a HTTP/1.1\" 200 10
-192.0.2.1 - - [01/Jan/2024:00:00:00 +0000] \"GET /b HTTP/1.1\" 200 5
-198.51.100.4 - - [01/Jan/2024:00:00:00 +0000] \"GET /c HTTP/1.1\" 200 -
-
------
-1
-goaccess: log format, byte 3: repeated
-
-=====
---log-format=common|--date-format=|--time-format=|-o|csv|a.log
------
-192.0.2.1 - - [01/Jan/2024:00:00:00 +0000] \"GET /a HTTP/1.1\" 200 10
-192.0.2.1 - - [01/Jan/2024:00:00:00 +0000] \"GET /b HTTP/1.1\" 200 5
-198.51.100.4 - - [01/Jan/2024:00:00:00 +0000] \"GET /c HTTP/1.1\" 200 -
-
------
-1
-goaccess: log format: no host
-
-=====
---log-format=%h \"%r\"|-o|csv|a.log
------
-192.0.2.1 - - [01/Jan/2024:00:00:00 +0000] \"GET /a HTTP/1.1\" 200 10
-192.0.2.1 - - [01/Jan/2024:00:00:00 +0000] \"GET /b HTTP/1.1\" 200 5
-198.51.100.4 - - [01/Jan/2024:00:00:00 +0000] \"GET /c HTTP/1.1\" 200 -
-
------
-1
-goaccess: log format: no date
-
-=====
---log-format=%h %d|-o|csv|a.log
------
-192.0.2.1 - - [01/Jan/2024:00:00:00 +0000] \"GET /a HTTP/1.1\" 200 10
-192.0.2.1 - - [01/Jan/2024:00:00:00 +0000] \"GET /b HTTP/1.1\" 200 5
-198.51.100.4 - - [01/Jan/2024:00:00:00 +0000] \"GET /c HTTP/1.1\" 200 -
-
------
-1
-goaccess: log format: no request
-
-=====
---log-format=COMMON|--date-format=%d/%m|--time-format=%Q|-o|csv|a.log
------
-192.0.2.1 - - [01/Jan/2024:00:00:00 +0000] \"GET /a HTTP/1.1\" 200 10
-192.0.2.1 - - [01/Jan/2024:00:00:00 +0000] \"GET /b HTTP/1.1\" 200 5
-198.51.100.4 - - [01/Jan/2024:00:00:00 +0000] \"GET /c HTTP/1.1\" 200 -
-
------
-1
-goaccess: date format, byte 5: bad directive
-
-=====
---log-format=COMMON|--date-format=%F|--time-format=%H:%M:%H|-o|csv|a.log
------
-192.0.2.1 - - [01/Jan/2024:00:00:00 +0000] \"GET /a HTTP/1.1\" 200 10
-192.0.2.1 - - [01/Jan/2024:00:00:00 +0000] \"GET /b HTTP/1.1\" 200 5
-198.51.100.4 - - [01/Jan/2024:00:00:00 +0000] \"GET /c HTTP/1.1\" 200 -
-
------
-1
-goaccess: time format, byte 6: bad directive
-
-=====
---log-format=COMMON|--time-format=|-o|csv|a.log
------
-192.0.2.1 - - [01/Jan/2024:00:00:00 +0000] \"GET /a HTTP/1.1\" 200 10
-192.0.2.1 - - [01/Jan/2024:00:00:00 +0000] \"GET /b HTTP/1.1\" 200 5
-198.51.100.4 - - [01/Jan/2024:00:00:00 +0000] \"GET /c HTTP/1.1\" 200 -
-
------
-1
-goaccess: time format, byte 0: bad directive
 ";

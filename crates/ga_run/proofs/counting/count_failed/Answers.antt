@@ -1,14 +1,24 @@
-use Rattle.std.proofs.Common.{◌≡◌, OnOk, Some, None, subst}
+use Rattle.std.proofs.Common.{◌≡◌, OnOk, Some, None, refl, subst}
 use Rattle.ga_summary.specs.Limits.{passes}
+use Rattle.ga_summary.specs.Outcomes as outcomes
 use Rattle.ga_summary.specs.Rows.{totals_plus}
-use Rattle.ga_run.proofs.CountSteps.{fits_by}
+use Rattle.ga_run.proofs.CountSteps.{fits_by, on_ok-both}
 use Rattle.ga_run.proofs.counting.count_failed.Goals as goal
 
-pub returns-clause-fits : goal.returns-clause-fits
-returns-clause-fits c =
-    subst (λ more. OnOk c.merge-2.result (passes (totals_plus c.args.summary.now.totals more) ≡ None)) c.of_lines.ensures.totals (fits_by _ c.merge-2.result c.merge-2.ensures.full)
+pub returns-clause-ok : goal.returns-clause-ok
+returns-clause-ok c =
+    let fits =
+    subst (λ more. OnOk c.merge-2.result (passes (totals_plus c.args.summary.now.totals more) ≡ None)) c.of_lines.ensures.totals (fits_by _ c.merge-2.result c.merge-2.ensures.full) in
+    on_ok-both c.merge-2.result (λ sum fit. record {
+      outcome = Some outcomes.Failed;
+      is = refl;
+      counts = record { sum = λ before is. sum before _ is c.of_lines.ensures; fits = fit };
+    }) c.merge-2.ensures.sum fits
 
 pub returns-clause-full : goal.returns-clause-full
 returns-clause-full c =
-    λ which total e.
-    subst (λ more. passes (totals_plus c.args.summary.now.totals more) ≡ Some (which, total)) c.of_lines.ensures.totals ((c.merge-2.ensures.full which total).0 e)
+    λ which total e. record {
+      outcome = outcomes.Failed;
+      is = refl;
+      full = subst (λ more. passes (totals_plus c.args.summary.now.totals more) ≡ Some (which, total)) c.of_lines.ensures.totals ((c.merge-2.ensures.full which total).0 e);
+    }

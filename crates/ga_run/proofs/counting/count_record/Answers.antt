@@ -1,26 +1,65 @@
-use Rattle.std.proofs.Common.{subst, sym, ◌∙◌}
-use Rattle.std.specs.Option.{option_copied}
-use Rattle.ga_panels.specs.Form.{AreKeysOfDay}
-use Rattle.ga_panels.specs.Table.{table_keys}
-use Rattle.ga_summary.specs.Outcomes.{hit_of}
+use Rattle.std.proofs.Common.{◌≡◌, subst, sym, ◌∙◌, OnOk, Some, None, refl, inl, inr}
+use Rattle.std.proofs.lemmas.Bool.{both_ways}
+use Rattle.ga_panels.specs.Visitors.{IsExcluded, visitor_in}
+use Rattle.ga_summary.specs.Limits.{passes}
+use Rattle.ga_summary.specs.Outcomes as outcomes
+use Rattle.ga_summary.specs.Outcomes.{Counted, hit_of}
+use Rattle.ga_summary.specs.Rows.{totals_plus}
 use Rattle.ga_summary.specs.Sound.{IsCountable}
-use Rattle.ga_run.proofs.CountSteps.{countable, counts-as, fits_by}
+use Rattle.ga_run.proofs.CountSteps.{can-have, countable, counts-as, fits_by, on_ok-both, one-totals}
 use Rattle.ga_run.proofs.counting.count_record.Goals as goal
+
+pub returns-then-is_excluded-clause-ok : goal.returns-then-is_excluded-clause-ok
+returns-then-is_excluded-clause-ok c =
+    let excluded = c.is_excluded.ensures.0 c.if-is_excluded.true in
+    let fits =
+    subst (λ more. OnOk c.merge-then-is_excluded.result (passes (totals_plus c.args.summary.now.totals more) ≡ None)) c.of_lines.ensures.totals (fits_by _ c.merge-then-is_excluded.result c.merge-then-is_excluded.ensures.full) in
+    on_ok-both c.merge-then-is_excluded.result (λ sum fit. record {
+      outcome = Some outcomes.Excluded;
+      is = inl (excluded, refl);
+      counts = record { sum = λ before is. sum before _ is c.of_lines.ensures; fits = fit };
+    }) c.merge-then-is_excluded.ensures.sum fits
+
+pub returns-then-is_excluded-clause-full : goal.returns-then-is_excluded-clause-full
+returns-then-is_excluded-clause-full c =
+    let excluded = c.is_excluded.ensures.0 c.if-is_excluded.true in
+    λ which total e. record {
+      outcome = outcomes.Excluded;
+      is = inl (excluded, refl);
+      full = subst (λ more. passes (totals_plus c.args.summary.now.totals more) ≡ Some (which, total)) c.of_lines.ensures.totals ((c.merge-then-is_excluded.ensures.full which total).0 e);
+    }
+
+pub keys_of-requires : goal.keys_of-requires
+keys_of-requires c = can-have c.args.rec.now c.requires
 
 pub add-requires : goal.add-requires
 add-requires c =
-    let keys = c.in_ok-keys.ensures.exact in
-    let form = subst (λ ks. AreKeysOfDay c.args.rec.now.date ks) keys c.in_ok-keys.ensures.form in
-    let can = countable c.args.rec.now c.requires form in
+    let can = countable c.args.panels.now c.args.rec.now c.in_ok-keys.keys c.requires c.in_ok-keys.ensures.form in
     let visitor = sym (c.as_ref.ensures.value ∙ c.in_ok-visitor.ensures) in
-    let with_visitor = subst (λ v. IsCountable c.args.rec.now.date (hit_of (table_keys c.args.rec.now) v c.args.rec.now)) visitor can in
-    subst (λ ks. IsCountable c.args.rec.now.date (hit_of ks (option_copied c.as_ref.result) c.args.rec.now)) (sym keys) with_visitor
+    subst (λ v. IsCountable c.args.rec.now.date (hit_of c.in_ok-keys.keys v c.args.rec.now)) visitor can
 
-pub returns-clause-sum : goal.returns-clause-sum
-returns-clause-sum c = counts-as c.add.result _ _ _ _ _ _ c.args.rec.now c.in_ok-keys.ensures.exact (c.as_ref.ensures.value ∙ c.in_ok-visitor.ensures) c.add.ensures.sum
-
-pub returns-clause-fits : goal.returns-clause-fits
-returns-clause-fits c = fits_by _ c.add.result c.add.ensures.full
+pub returns-clause-ok : goal.returns-clause-ok
+returns-clause-ok c =
+    let keys = c.in_ok-keys.keys in
+    let visitor = visitor_in c.args.panels.now c.args.rec.now in
+    let counted : ¬ IsExcluded c.args.panels.now c.args.rec.now = λ excluded. both_ways _ c.if-is_excluded.false (c.is_excluded.ensures.1 excluded) in
+    let sum = counts-as c.add.result _ _ _ _ _ _ c.args.rec.now refl (c.as_ref.ensures.value ∙ c.in_ok-visitor.ensures) c.add.ensures.sum in
+    let same = one-totals keys visitor c.args.rec.now in
+    let fits = subst (λ more. OnOk c.add.result (passes (totals_plus c.args.summary.now.totals more) ≡ None)) same (fits_by _ c.add.result c.add.ensures.full) in
+    on_ok-both c.add.result (λ one fit. record {
+      outcome = Some (Counted (hit_of keys visitor c.args.rec.now));
+      is = inr (counted, (keys, c.in_ok-keys.ensures.exact, refl));
+      counts = record { sum = one; fits = fit };
+    }) sum fits
 
 pub returns-clause-full : goal.returns-clause-full
-returns-clause-full c = λ which total e. (c.add.ensures.full which total).0 e
+returns-clause-full c =
+    let keys = c.in_ok-keys.keys in
+    let visitor = visitor_in c.args.panels.now c.args.rec.now in
+    let counted : ¬ IsExcluded c.args.panels.now c.args.rec.now = λ excluded. both_ways _ c.if-is_excluded.false (c.is_excluded.ensures.1 excluded) in
+    let same = one-totals keys visitor c.args.rec.now in
+    λ which total e. record {
+      outcome = Counted (hit_of keys visitor c.args.rec.now);
+      is = inr (counted, (keys, c.in_ok-keys.ensures.exact, refl));
+      full = subst (λ more. passes (totals_plus c.args.summary.now.totals more) ≡ Some (which, total)) same ((c.add.ensures.full which total).0 e);
+    }

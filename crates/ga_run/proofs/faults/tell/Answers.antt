@@ -27,3 +27,6 @@ pub returns-in-Some-clause-line : goal.returns-in-Some-clause-line
 returns-in-Some-clause-line g c =
     let place = sym c.place.ensures ∙ c.in-Some.is in
     rw (c.in-BadFormat.is, place, ← c.format_name-format.ensures, ← c.text.ensures, ← c.as_bytes-text.ensures.value, ← c.format.ensures.text, ← c.as_bytes-at.ensures.value) c.say-in-Some.ensures.line
+
+pub returns-in-BadRules-clause-line : goal.returns-in-BadRules-clause-line
+returns-in-BadRules-clause-line g c = rw (c.in-BadRules.is, ← c.format-in-BadRules.ensures.text, ← c.as_bytes-line.ensures.value) c.say-in-BadRules.ensures.line

@@ -1,0 +1,15 @@
+-- Words have one answer.
+use Rattle.std.proofs.Common.{◌≡◌, ℕ, List, ap, Result, Ok, Err}
+use Rattle.ga_words.specs.WordsOf.{WordsOf, IsSame}
+use Rattle.ga_words.specs.declared.fault.WordFault.{WordFault}
+use Rattle.ga_words.specs.declared.settings.Settings.{Settings}
+
+same-is : (a b : Result Settings WordFault) → IsSame a b → a ≡ b
+same-is (Ok s) (Ok t) same = ap Ok same
+same-is (Ok s) (Err fault) same = absurd same
+same-is (Err fault) (Ok t) same = absurd same
+same-is (Err fault) (Err other) same = ap Err same
+
+pub one-words : ((words : List (List ℕ)) (answer other : Result Settings WordFault) → WordsOf words answer → WordsOf words other → IsSame answer other)
+    → (words : List (List ℕ)) (a b : Result Settings WordFault) → WordsOf words a → WordsOf words b → a ≡ b
+one-words law words a b h k = same-is a b (law words a b h k)

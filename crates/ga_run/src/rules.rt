@@ -1,0 +1,58 @@
+ghost use Rattle.std.specs.Prelude.{◌≢◌, Some, IfOk, IfErr};
+ghost use Rattle.ga_ports.specs.Stretch.{FilesWent};
+ghost use Rattle.std.specs.Option.{option_copied};
+ghost use Rattle.ga_run.specs.Inputs.{CanServe, HasRules, rules_file};
+ghost use Rattle.ga_run.specs.Reading.{FilesCanServe};
+ghost use Rattle.ga_run.specs.Steps.Logs.{StopsNamed, StopsRules};
+ghost use Rattle.ga_run.specs.declared.reading.LogFault.TheVariants.{Failed};
+ghost use Rattle.ga_run.specs.declared.rules.RulesFault.TheVariants.{Unread};
+
+use crate::reading::{LogFault, read_log};
+use ga_agents::{RuleFault, Rules};
+use ga_base::Text;
+use ga_ports::Files;
+use std::alloc::Global;
+
+/// Why the rules of a browsers file weren't read.
+#[derive(Clone, Copy, Debug, PartialEq, Eq)]
+pub enum RulesFault {
+    /// The file wasn't read whole, or there was no memory for its rules.
+    Unread(LogFault),
+    /// The line with this number, from 1, is the first that is no rule.
+    Bad { line: u64 },
+}
+
+/// The rules of a browsers file, and the built-in ones alone where none is named.
+pub fn rules_of<F: Files>(
+    alloc: Global,
+    name: Option<&Text>,
+    files: &mut F,
+) -> Result<Rules, RulesFault>
+    ensures ok { IfOk result (HasRules (option_copied name.entry) (F.view files.old) (F.view files.new)) }
+    ensures stops { IfErr result (StopsNamed (option_copied name.entry) (F.view files.old) (F.view files.new)) }
+    ensures calls { FilesWent (F.view files.old) (F.view files.new) }
+    ensures sure { CanServe (rules_file (option_copied name.entry)) (F.view files.old) → IfErr result (λ fault. fault ≢ Unread Failed) }
+{
+    match name {
+        Some(name) => read_rules(alloc, name, files),
+        None => Ok(Rules::builtin(alloc)),
+    }
+}
+
+/// The rules of a browsers file.
+fn read_rules<F: Files>(alloc: Global, name: &Text, files: &mut F) -> Result<Rules, RulesFault>
+    ensures ok { IfOk result (λ rules. HasRules (Some name.now) (F.view files.old) (F.view files.new) rules) }
+    ensures stops { IfErr result (StopsRules name.now (F.view files.old) (F.view files.new)) }
+    ensures calls { FilesWent (F.view files.old) (F.view files.new) }
+    ensures sure { FilesCanServe name.now (F.view files.old) → IfErr result (λ fault. fault ≢ Unread Failed) }
+{
+    let text = match read_log(alloc, files, name) {
+        Ok(text) => text,
+        Err(fault) => return Err(RulesFault::Unread(fault)),
+    };
+    match Rules::read(alloc, &text) {
+        Ok(rules) => Ok(rules),
+        Err(RuleFault::RuleFault { line }) => Err(RulesFault::Bad { line }),
+        Err(RuleFault::NoMemory) => Err(RulesFault::Unread(LogFault::NoMemory)),
+    }
+}
