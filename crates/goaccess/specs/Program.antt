@@ -1,5 +1,5 @@
 -- What the program does with the arguments of its command line, and the exit status that it ends with.
-use Rattle.std.specs.Prelude.{◌≡◌, ◌≢◌, ℕ, ◌⊎◌, List, map, drop, String, string_bytes, Option, Some, None}
+use Rattle.std.specs.Prelude.{◌≡◌, ℕ, List, map, drop, String, string_bytes, Option, Some, None}
 use Rattle.ga_ports.specs.Files.{FilesView}
 use Rattle.ga_ports.specs.Outs.{OutsView}
 use Rattle.ga_ports.specs.declared.outs.To.TheVariants.{Stderr}

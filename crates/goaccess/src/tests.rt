@@ -125,30 +125,98 @@ fn each_target_has_its_printer(rt: HostRuntime) -> Result<(), Fail> {
 
 /// What `--help` shows.
 const HELP: &str = "\
-goaccess: visitors of each day, and hosts, in a web log, as CSV
+goaccess: web logs to one report of panels, as CSV or JSON
 
 Usage:
-  goaccess --log-format=F [--date-format=D] [--time-format=T] -o csv LOG
+  goaccess [OPTION].. [--] LOG..
   goaccess --help | --version
 
-  --log-format=F    how a line is written: COMMON, COMBINED, VCOMMON or
-                    VCOMBINED, or a text as '%h %^[%d:%t %^] \"%r\" %s %b';
-                    no default, and ~h{C} isn't built
-  --date-format=D   how %d is written; '%d/%b/%Y' where it is left out
-  --time-format=T   how %t is written; '%H:%M:%S' where it is left out
-  -o csv            writes the report as CSV to standard output; no default
-  LOG               a log; its name isn't empty and doesn't begin with a dash
-  --help            shows this text
-  --version         shows the version
+A word that doesn't begin with a dash is the name of a log; after -- each word
+is. All logs are read in their order into one report. A value stands behind
+the option, as --name=VALUE or in the next word; with -o in the next word
+only. Of an option given again the last value counts; where (+) stands all
+values count.
 
-The words stand in this order.
+Formats:
+  --log-format F      how a line is written: COMMON, COMBINED, VCOMMON or
+                      VCOMBINED, or a text as '%h %^[%d:%t %^] \"%r\" %s %b';
+                      no default, and each run over logs needs one
+  --date-format D     how %d is written; default '%d/%b/%Y'
+  --time-format T     how %t is written; default '%H:%M:%S'
 
-Exit status: 0 done, 1 words of another form or a bad format, 2 the log
-can't be read, 4 the report can't be written, 5 a counter is full, 7 no
-memory. With any but 0 one line on standard error says why.
+Input and filters:
+  LOG                 a regular file, whose name isn't empty
+  --browsers-file FILE
+                      rules for user agents, asked before those built in; a
+                      line is a token, tabs and a category; default none
+  --exclude-ip A      excludes the lines of an address, or of a range as
+                      192.0.2.1-192.0.2.9 (+); default none
+  --ignore-crawlers   excludes the lines of crawlers; default off
+  --ignore-status N   excludes the lines of a status, 100 to 599 (+); default
+                      none
+  --no-ip-validation  takes any text as the host of %h; default off
+  --no-strict-status  takes lines whose status isn't 100 to 599, as without
+                      one; default off
 
-Example:
-  goaccess --log-format=COMBINED -o csv access.log
+What is counted:
+  --no-query-string   cuts the query off URLs; default off
+  --double-decode-url decodes the percent signs of URLs twice; default off
+  --static-file E     an ending of static files beside those built in, as .dat
+                      (+); default none
+  --all-static-files  counts static files with a query as such; default off
+  --4xx-to-unique-count
+                      counts visitors of answers 400 to 499 too; default off
+  --444-as-404        counts the status 444 as not found; default off
+
+Report:
+  -o, --output O      json or csv on standard output, or a file whose name ends
+                      in .json or .csv; default json
+  --max-items N       the most rows of a panel, and of a row's children, 1 to
+                      4294967295; default 366
+  --ignore-panel P    leaves a panel out (+); default none
+  --enable-panel P    shows a panel (+); default all. The last word on a panel
+                      counts. P is VISITORS, REQUESTS, REQUESTS_STATIC,
+                      NOT_FOUND, HOSTS, OS, BROWSERS, VISIT_TIMES,
+                      VIRTUAL_HOSTS, REFERRERS, REFERRING_SITES, KEYPHRASES,
+                      STATUS_CODES, REMOTE_USER, CACHE_STATUS, MIME_TYPE or
+                      TLS_TYPE
+
+Working; these change no report, and have no effect yet:
+  --jobs N            workers, 1 to 16; default 1
+  --chunk-size N      lines that a worker takes at once, 1 to 32768; default
+                      1024
+
+Database and generator, not built yet; but for --db-path each ends with status
+1 and the line 'goaccess: not built':
+  --persist           keeps the run in the database; default off
+  --restore           reports on the runs in the database too; default off
+  --db-path FOLDER    where the database is; default /tmp
+  --generate N        a run over N lines of its own, 1 to 1000000; default none
+
+About itself, as the only word:
+  --help              shows this text
+  --version           shows the version
+
+Exit status:
+  0  done
+  1  the words, a format or the browsers file is refused, or not built
+  2  a log or the browsers file can't be read
+  4  the report can't be written
+  5  a counter is full
+  7  no memory
+Where a run ends with any but 0, one line on standard error says why. It counts
+words and bytes from 0, and lines of the browsers file from 1.
+
+Examples:
+  An nginx log in the combined format, as JSON on standard output:
+    goaccess --log-format=COMBINED access.log
+  Two rotated logs, without the clients of two ranges, as a CSV file:
+    goaccess --log-format=COMBINED --exclude-ip=10.0.0.0-10.255.255.255 \\
+      --exclude-ip=fd00::-fdff:ffff:ffff:ffff:ffff:ffff:ffff:ffff \\
+      -o report.csv access.log.1 access.log
+  A format of one's own, with the seconds that each answer took:
+    goaccess --log-format='%h [%d %t] \"%r\" %s %b %T' \\
+      --date-format=%Y-%m-%d -o csv timed.log
 ";
 
 #[test]
