@@ -1,0 +1,243 @@
+#!/usr/bin/env python3
+"""Writes a table of runs in the form of crates/ga_run/src/tests/cases.rt. The answers come from goaccess_oracle.py.
+
+    make_cases.py lines FILE    runs over one log, in which the formats and the lines vary
+    make_cases.py words FILE    runs in which the options vary, over up to three files
+"""
+import os
+import sys
+
+import goaccess_oracle as oracle
+
+HERE = os.path.dirname(os.path.abspath(__file__))
+with open(os.path.join(HERE, os.pardir, "examples", "access.log"), "rb") as example:
+    EXAMPLE = example.read()
+NAMES = [b"a.log", b"b.log", b"agents.txt"]
+BETWEEN_FILES = b"\n+++++\n"
+
+
+def line(url="/a", status=200, size="10", date="01/Jan/2024", host="192.0.2.1", more="", end="\n", clock="00:00:00", method="GET"):
+    return f'{host} - - [{date}:{clock} +0000] "{method} {url} HTTP/1.1" {status} {size}{more}{end}'
+
+
+def agent(text, referrer="-"):
+    return f' "{referrer}" "{text}"'
+
+
+GOOGLEBOT = "Mozilla/5.0 (compatible; Googlebot/2.1; +http://www.google.com/bot.html)"
+ONE_LINE = oracle.FIREFOX.decode()
+A = line()
+COMMON, COMBINED = "--log-format=COMMON", "--log-format=COMBINED"
+BIG = "1000000000000000000"
+TIMED = '--log-format=%h %^[%d:%t %^] "%r" %s %b '
+ODD = '/%22a,b%0D%00%C3%A9%22?\\%09%0A%08%0C%1F%7F/'
+
+# lines that fail, each for a cause of its own, between good ones
+SECOND = r'''192.0.2.1 - - [01/Jan/2024:00:00:00 z] "r" 200 7
+''' .replace("\n", "\r\n") + r'''# note
+
+nothing fits
+2001:db8::b - - [02/Jan/2024:00:00:00 z] "r" 200 5 more
+2001:db8::b - - [02/Jan/2024:00:00:00 z] "" 200 5
+ - - [01/Jan/2024:00:00:00 z] "r" 200 5
+::ffff:192.0.2.3 - - [01/Jan/2024:00:00:00 z] "r" 404 1000000000000000000
+192.0.2.3 - - [01/Jan/2024:00:00:00 z] "r" 200 1000000000000000001
+192.0.2.3 - - [31/Feb/2024:00:00:00 z] "r" 200 5
+192.0.2.3 - - [01/Jan/2024:24:00:00 z] "r" 200 5
+192.0.2.3 - - [01/Jan/2024:00:00:00 z] "r" 99 5
+192.0.2.03 - - [01/Jan/2024:00:00:00 z] "r" 200 5
+h - - [01/Jan/2024:00:00:00 z] "r" 200 5
+192.0.2.1 - - [02/Jan/2024:23:59:60 z] "r\"s" 200 3
+'''
+FORWARDED = '''unknown, 192.0.2.7, 2001:db8::7" [01/Jan/2024:08:00:00 +0000] "GET /a HTTP/2" 200 10 17
+x\\" 10.0.0.1" [01/Jan/2024:09:00:00 +0000] "GET /b HTTP/2" 200 5 3
+192.0.2.7" [01/Jan/2024:10:00:00 +0000] "GET /c HTTP/2" 200 5 -
+unknown, 192.0.2" [01/Jan/2024:08:00:00 +0000] "GET /d HTTP/2" 200 10 17
+'''
+OVER_LINES = [
+    ([COMBINED, "-o", "csv", "a.log"], EXAMPLE),
+    ([COMBINED, "-o", "json", "a.log"], EXAMPLE),
+    ([COMBINED, "-o", "csv", "a.log"], ONE_LINE),
+    ([COMMON, "-o", "json", "a.log"], ""),
+    ([COMMON, "-o", "csv", "a.log"], A * 2 + line(date="02/Jan/2024") * 2),
+    ([COMMON, "-o", "csv", "a.log"], line("/x", 404, "5") + A),
+    ([COMMON, "-o", "csv", "a.log"], line(end="\r\n") + "# note\n\n"),
+    ([COMBINED, "-o", "csv", "a.log"], A),
+    ([COMMON, "-o", "json", "a.log"], '192.0.2.1 - - [01/Jan/2024:00:00:00 +0000] "-" 408 -\n'),
+    ([COMMON, "-o", "csv", "a.log"], line("/a.css?v=1")),
+    ([COMMON, "-o", "csv", "a.log"], line(size=BIG) * 4),
+    ([COMMON, "-o", "csv", "a.log"], line(size=BIG) * 5),
+    (['--log-format=~h{, } %^[%d:%t %^] "%r" %s %b', "-o", "csv", "a.log"],
+     '10.0.0.1, 192.0.2.7 - [01/Jan/2024:00:00:00 +0000] "GET / HTTP/1.0" 200 0\n'),
+    ([COMBINED, "-o", "csv", "a.log"], line(size="5", more=agent('Foo \\"bar\\" Baz'))),
+    ([COMMON, "-o", "csv", "a.log"], line("/a,b", size="1")),
+    ([TIMED + "%T", "-o", "csv", "a.log"], "".join(line(more=" " + t) for t in ("0.1234567", "-", "1000000000000", "1000000000001"))),
+    ([TIMED + "%L %D", "-o", "json", "a.log"], line(more=" 1.5 9") + line(more=" 17 9")),
+    (['--log-format=~h{, }" [%d:%t %^] "%r" %s %b %D', "-o", "csv", "a.log"], FORWARDED),
+    ([COMMON, "-o", "csv", "a.log"], line(ODD)),
+    ([COMMON, "-o", "r.json", "a.log"], line(ODD)),
+    ([COMMON, "-o", "csv", "a.log"], SECOND),
+    ([COMMON, "--date-format=%F", "--time-format=%R", "-o", "r.csv", "a.log"],
+     '192.0.2.1 - - [2024-01-01:13:05 z] "GET /b HTTP/1.0" 200 7\n' + A),
+    ([COMMON, "-o", "csv", "b.log"], A),
+    (['--log-format=%h%d "%r"', "-o", "nothing.csv", "a.log"], A),
+    (['--log-format=%h "%r"', "-o", "csv", "a.log"], A),
+    (['--log-format=%h [%d] "%r" %z', "-o", "csv", "a.log"], A),
+    ([COMMON, "--date-format=%d/%m", "--time-format=%Q", "-o", "csv", "a.log"], A),
+    ([COMMON, "--date-format=%F", "--time-format=%H:%M:%H", "-o", "csv", "a.log"], A),
+    ([""], A),
+    ([COMMON, "a.log"], A),
+    ([COMMON, "--time-format=%T", "--date-format=%F", "-o", "csv", "a.log"], A),
+    ([COMMON, "--output", "csv", "a.log"], A),
+    ([COMMON, "-o", ".json", "a.log"], A),
+    ([COMMON, "-o", "csv", "-a.log"], A),
+    ([COMMON, "-o", "csv", "a.log", "a.log"], A),
+]
+
+
+CSV = [COMMON, "-o", "csv", "a.log"]
+HIDE = "VISITORS REQUESTS REQUESTS_STATIC NOT_FOUND HOSTS OS BROWSERS VISIT_TIMES VIRTUAL_HOSTS REFERRERS REFERRING_SITES KEYPHRASES STATUS_CODES REMOTE_USER CACHE_STATUS MIME_TYPE TLS_TYPE".split()
+
+
+def only(*panels):
+    """Words that hide all panels but these."""
+    return [f"--ignore-panel={panel}" for panel in HIDE if panel not in panels]
+
+
+TWO_DAYS = A + line("/x", 404, "5") + line("/b.css", 304, "-", host="192.0.2.2") + line("/a", 500, "7", "02/Jan/2024", clock="23:00:00", method="POST")
+AGENTS = "".join(
+    line(host=f"192.0.2.{at}", more=agent(text, referrer))
+    for at, (text, referrer) in enumerate([
+        (GOOGLEBOT, "-"), ("Foobot 1.0", "https://www.google.de/search?q=a+b"), ("curl/8.4.0", "-"), ("-", "http://example.org/x"),
+        ("Mozilla/5.0 (Windows NT 10.0) Firefox/120.0", "-")], 1))
+VHOSTS = ('www.example.org:443 192.0.2.1 - - [01/Jan/2024:00:00:00 +0000] "GET /a HTTP/1.1" 200 10\n'
+          'example.org:80 192.0.2.1 - - [01/Jan/2024:00:00:00 +0000] "GET /a HTTP/1.1" 200 10\n')
+EVERY = '--log-format=%v %e %C %h [%x] %m %U %q %H %s %b "%R" "%u" %K %M %D'
+EVERY_LOG = '''www.example.org alice HIT 192.0.2.1 [2024-01-01 08:05:09] GET /a x=1 HTTP/1.1 200 10 "-" "-" TLSv1.3 text/html 1500
+- - - 192.0.2.1 [2024-01-01 08:05:10] get /b.css ?y HTTP/9 200 10 "" "" - - -
+www.example.org bob MISS ::1 [2024-01-01 09:00:00] HEAD /c - HTTP/2 204 0 "-" "-" TLSv1.2 /x 500
+'''
+FAULTS = [
+    (["--bogus"], {}), (["--jobs"], {}), (["--jobs=17", "a"], {}), (["--jobs", "17", "a"], {}), (["a"], {}), ([""], {}),
+    (["--generate=5", "--persist"], {}), (["--restore"], {}), (["-o", "csv"], {}), (["-o=json", "a.log"], {}), (["-"], {}),
+    (["--persist=yes", "--bogus"], {}), (["--exclude-ip=192.0.2.9-192.0.2.1", "a.log"], {}), (["--ignore-status=99", "a.log"], {}),
+    (["--ignore-status=600", "a.log"], {}), (["--ignore-panel=hosts", "a.log"], {}), (["--max-items=4294967296", "a.log"], {}),
+    (["--chunk-size=0", "a.log"], {}), (["--static-file=", "a.log"], {}), (["--browsers-file=", "a.log"], {}),
+    (["--", "--bogus", ""], {}), (["--generate=00000000007"], {}), (["--generate", "5", "a.log", COMMON], {}),
+    (["--persist", COMMON, "a.log"], {"a.log": A}), (["--generate=0000000007"], {}),
+]
+
+
+def of(words, a="", b=None, agents=None):
+    files = {"a.log": a}
+    if b is not None or agents is not None:
+        files["b.log"] = b or ""
+    if agents is not None:
+        files["agents.txt"] = agents
+    return words, files
+
+
+OVER_WORDS = [
+    of([COMMON, "a.log"]),
+    of([COMBINED, "a.log"], ONE_LINE),
+    of([*CSV, "b.log"], TWO_DAYS, TWO_DAYS + line(host="2001:db8::1", date="03/Jan/2024") + "broken\n"),
+    of(["a.log", "-o", "r.json", "--log-format", "COMMON", "--", "a.log"], A),
+    of(CSV, A + "192.0.2.1 - - [01/Jan/2024:00:00:0"),
+    of(["--4xx-to-unique-count", *CSV], line("/x", 404, "5") + A),
+    of(["--all-static-files", *CSV], line("/a.css?v=1")),
+    of(["--no-query-string", *CSV], line("/a.css?v=1") + line("?x")),
+    of(["--double-decode-url", *only("REQUESTS", "REQUESTS_STATIC"), *CSV], line("/%2541") + line("/b%252Ecss") + line("/c%253Fx.css")),
+    of([*only("REQUESTS", "NOT_FOUND", "STATUS_CODES"), "--444-as-404", *CSV], line("/x", 444, "1") + line("/y", 404, "2")),
+    of([*only("REQUESTS", "NOT_FOUND", "STATUS_CODES"), *CSV], line("/x", 444, "1") + line("/y", 404, "2")),
+    of(["--max-items=1", *CSV], TWO_DAYS),
+    of(["--max-items", "0000000002", *only("HOSTS", "STATUS_CODES"), COMMON, "-o", "json", "a.log"],
+       line(host="192.0.2.3") + line(host="192.0.2.20") + line(host="192.0.2.100") + line(status=301) + line(status=302) + line(status=303) + line(status=303)),
+    of(["--ignore-panel=HOSTS", "--enable-panel=HOSTS", "--ignore-panel", "VISITORS", *CSV], A),
+    of(["--enable-panel=HOSTS", "--ignore-panel=HOSTS", *only("HOSTS", "REQUESTS"), *CSV], A),
+    of([*only(), COMMON, "-o", "json", "a.log"], A),
+    of(["--exclude-ip=192.0.2.1-192.0.2.9", "--exclude-ip", "2001:db8::5", "--ignore-status=500", *only("HOSTS"), *CSV],
+       "".join(line(host=h) for h in ("192.0.2.9", "192.0.2.10", "::ffff:192.0.2.9", "2001:db8:0::0:5", "2001:db8::6")) + line(status=500, host="192.0.2.10")),
+    of(["--no-ip-validation", *CSV], line(host="proxy,1") + line(host="-") + line(host="192.0.2.1")),
+    of(["--no-strict-status", *only("STATUS_CODES", "VISITORS"), *CSV], line(status="-") + line(status=99) + line(status="404") + line(status="0200")),
+    of(["--static-file=.php", "--static-file", ".CSS", *only("REQUESTS", "REQUESTS_STATIC"), *CSV], line("/a.php") + line("/a.CSS") + line("/a.Css") + line("/a.php?x")),
+    of(["--ignore-crawlers", *only("OS", "BROWSERS", "KEYPHRASES", "REFERRING_SITES"), COMBINED, "-o", "csv", "a.log"], AGENTS),
+    of(["--browsers-file=agents.txt", *only("OS", "BROWSERS"), COMBINED, "-o", "csv", "a.log"], AGENTS, None, "# ours\r\nFoobot\t\tCrawlers\r\n\nMozilla/5.0\tOurs, all"),
+    of(["--ignore-crawlers", "--browsers-file", "agents.txt", *only("BROWSERS"), COMBINED, "-o", "csv", "a.log"], AGENTS, None, "Foo\tCrawlers\nGooglebot\tFriends\n"),
+    of(["--browsers-file=agents.txt", *CSV], A, None, "# x\nFoo\n"),
+    of(["--log-format=VCOMMON", *only("VIRTUAL_HOSTS"), "-o", "csv", "a.log"], VHOSTS),
+    of([EVERY, "--date-format=%Y-%m-%d", "--time-format= %H:%M:%S", "--output=csv", "a.log"], EVERY_LOG),
+    of([COMMON, "-o", "json", "--jobs=16", "--chunk-size", "1", "--db-path=x", "--output", "csv", *only("HOSTS"), "a.log"], TWO_DAYS),
+    of(["-o", "nothing.csv", COMMON, "a.log", "nothing.log"], A),
+    of([COMMON, "-o", "csv", "--browsers-file=nothing.txt", "a.log"], A),
+    of([COMMON, "--date-format=%d", "--browsers-file=nothing.txt", "a.log"], A),
+    of(['--log-format=%h%d "%r"', "nothing.log"], A),
+    of([COMMON, "a.log", "nothing.log"], line(size=BIG) * 5),
+    of([COMMON, "a.log", "b.log"], line(size=BIG) * 3, line(size=BIG) * 2),
+] + [(words, files) for words, files in FAULTS]
+
+
+def quoted(text):
+    out = []
+    for c in text:
+        if c == "\n":
+            out.append(c)
+        elif c in '\\"':
+            out.append("\\" + c)
+        elif c in "\r\t\0":
+            out.append({"\r": "\\r", "\t": "\\t", "\0": "\\0"}[c])
+        elif ord(c) < 0x20 or ord(c) == 0x7F:
+            out.append(f"\\x{ord(c):02x}")
+        elif ord(c) > 0x7F:
+            out.append(f"\\u{{{ord(c):x}}}")
+        else:
+            out.append(c)
+    return "".join(out)
+
+
+def answer(words, files):
+    status, out, err, made = oracle.run([word.encode() for word in words], files)
+    assert len(made) <= 1
+    return b"%d\n" % status + out + err + b"".join(made.values())
+
+
+def write(name, doc, cases):
+    texts = []
+    for words, files in cases:
+        assert not any("|" in word for word in words)
+        files = {key.encode(): text if isinstance(text, bytes) else text.encode() for key, text in files.items()}
+        said = answer(words, files)
+        assert list(files) == NAMES[: len(files)], files
+        middle = BETWEEN_FILES.join(files.values())
+        case = "|".join(words).encode() + b"\n-----\n" + middle + b"\n-----\n" + said
+        assert case.count(b"\n-----\n") == 2 and b"\n=====\n" not in case and middle.count(BETWEEN_FILES) == max(0, len(files) - 1)
+        texts.append(case)
+    table = b"\n=====\n".join(texts).decode("utf-8")
+    with open(name, "w", encoding="utf-8", newline="") as out:
+        out.write(doc + 'pub const CASES: &str = "\\\n' + quoted(table) + '";\n')
+    return len(cases)
+
+
+DOC_LINES = """\
+/// Runs, a line of `=` between two: the words with a bar between two, the log `a.log`, and what the run answers, which
+/// is its exit status and then what standard output, standard error and the report's file took. The answers were worked
+/// out by a program in another language; the first log is that of examples/access.log.
+"""
+DOC_WORDS = """\
+/// Runs, a line of `=` between two: the words with a bar between two; the files `a.log`, `b.log` and `agents.txt`, as many
+/// as are there, a line of `+` between two; and what the run answers, which is its exit status and then what standard
+/// output, standard error and the report's file took. The answers were worked out by a program in another language.
+"""
+
+
+def main():
+    if len(sys.argv) != 3 or sys.argv[1] not in ("lines", "words"):
+        sys.exit(__doc__)
+    if sys.argv[1] == "lines":
+        count = write(sys.argv[2], DOC_LINES, [(words, {"a.log": log}) for words, log in OVER_LINES])
+    else:
+        count = write(sys.argv[2], DOC_WORDS, OVER_WORDS)
+    print(count, "runs")
+
+
+if __name__ == "__main__":
+    main()
