@@ -95,7 +95,7 @@ files-stay no_files_call = stays _
 files-stay (one_files_call call) = (once call).stay
 files-stay (files_then a b) = stays-then _ _ _ (files-stay a) (files-stay b)
 
-told-at : {A : Type 0} (P : A → Type 0) (o : Option A) (x : A) → o ≡ Some x → IfSome o P → P x
+pub told-at : {A : Type 0} (P : A → Type 0) (o : Option A) (x : A) → o ≡ Some x → IfSome o P → P x
 told-at P o x e h = subst (λ (o : Option _). IfSome o P) e h
 
 either : (a b : Bool) → true ≡ (a || b) → (a ≡ true) ⊎ (b ≡ true)

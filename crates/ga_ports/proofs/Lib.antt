@@ -3,3 +3,4 @@ pub mod FileStretches
 pub mod Listing
 pub mod OutStretches
 pub mod Results
+pub mod Sure

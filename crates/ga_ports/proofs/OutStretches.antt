@@ -49,7 +49,7 @@ target-fails t = record { taken = omega arith; faults = omega arith; room = narr
 target-then : (a b c : TargetView) → TargetStays a b → TargetStays b c → TargetStays a c
 target-then a b c h k = record { taken = omega (arith, h.taken, k.taken); faults = omega (arith, h.faults, k.faults); room = narrows-then a.room b.room c.room h.room k.room }
 
-each : (P : To → Type 0) → P Stdout → P Stderr → P File → (to : To) → P to
+pub each : (P : To → Type 0) → P Stdout → P Stderr → P File → (to : To) → P to
 each P a b c Stdout = a
 each P a b c Stderr = b
 each P a b c File = c

@@ -10,7 +10,7 @@ use Rattle.std.specs.List.{position_or_len}
 use Rattle.std.specs.Str.{bytes_eq}
 use Rattle.ga_ports.specs.Places.{pairs, is_named, bytes_at, place_of}
 use Rattle.ga_ports.specs.MemFiles.{bytes_of, can_move, grown, moved, renamed}
-use Rattle.ga_ports.specs.declared.mem_files.Content.{Content}
+use Rattle.ga_ports.specs.declared.contents.Content.{Content}
 
 abbrev pub place : List ℕ → List Content → ℕ
 place name cs = position_or_len (is_named name) cs

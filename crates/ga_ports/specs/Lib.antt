@@ -6,3 +6,6 @@ pub mod Outs
 pub mod Stretch
 pub mod MemFiles
 pub mod MemOuts
+pub mod SureFiles
+pub mod SureOuts
+pub mod Sure

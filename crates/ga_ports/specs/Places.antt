@@ -1,9 +1,9 @@
--- The places of the files that `MemFiles` keeps, as names with their bytes.
+-- The places of the files that forms in memory keep, as names with their bytes.
 use Rattle.std.specs.Prelude.{ℕ, Bool, List, map, slice_get, Option, option_map}
 use Rattle.std.specs.List.{position}
 use Rattle.std.specs.Option.{option_and_then}
 use Rattle.std.specs.Str.{bytes_eq}
-use Rattle.ga_ports.specs.declared.mem_files.Content.{Content}
+use Rattle.ga_ports.specs.declared.contents.Content.{Content}
 
 abbrev pub pairs : List Content → List (List ℕ × List ℕ)
 pairs cs = map (λ c. (c.name, c.bytes.items)) cs

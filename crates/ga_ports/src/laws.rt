@@ -1,10 +1,13 @@
 //! What holds of all stretches of calls. Each function's contract is the law, and its body is empty.
 
-ghost use Rattle.std.specs.Prelude.{◌≡◌, ◌<◌, List, ℕ, Some};
+ghost use Rattle.std.specs.Prelude.{◌≡◌, ◌-◌, ◌^◌, ◌<◌, List, ℕ, Some};
 ghost use Rattle.std.specs.List.{Contains};
 ghost use Rattle.ga_ports.specs.Counts.{raised, NoneDue};
 ghost use Rattle.ga_ports.specs.Files.{FilesView};
 ghost use Rattle.ga_ports.specs.Outs.{OutsView};
+ghost use Rattle.ga_ports.specs.Sure.{AreSureFiles, NoFileFaults, AreSureOuts, NoOutFaults};
+ghost use Rattle.ga_ports.specs.SureFiles.{SureFilesState, sure_files_view};
+ghost use Rattle.ga_ports.specs.SureOuts.{SureOutsState, sure_outs_view};
 ghost use Rattle.ga_ports.specs.Stretch.{FilesWent, FilesStay, FilesFailAsListed, OutsWent, OutsStay, OutsFailAsListed};
 
 /// No call of `Files` changes the contents or the list of calls, and no count falls.
@@ -35,4 +38,19 @@ pub fn outs_fail_as_listed()
 pub fn none_due()
     ensures { (listed : List ℕ) (calls : ℕ) → ((call : ℕ) → Contains listed call → call < raised calls 1)
         → NoneDue (Some listed) calls }
+{}
+
+/// Where no call is listed and each name gives a file, no stretch of calls of `Files` has a fault. Each state of
+/// `SureFiles` is such a one.
+pub fn sure_files_have_no_faults()
+    ensures view { (files : SureFilesState) → AreSureFiles (sure_files_view files) }
+    ensures calls { (old new : FilesView) → AreSureFiles old → FilesWent old new → NoFileFaults old new }
+{}
+
+/// Where no call is listed and no target has a room, a stretch of calls of `Outs` has no fault unless one found no
+/// memory. Each state of `SureOuts` is such a one, and tells that none found no memory.
+pub fn sure_outs_have_no_faults()
+    ensures view { (outs : SureOutsState) → AreSureOuts (sure_outs_view outs) }
+    ensures calls { (old new : OutsView) → AreSureOuts old → OutsWent old new → new.starved ≡ old.starved
+        → old.starved < 2 ^ 64 - 1 → NoOutFaults old new }
 {}

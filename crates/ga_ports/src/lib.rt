@@ -1,9 +1,11 @@
 //! The outside: traits by which a run reads files and writes its report, and forms of them in memory.
 //!
 //! Contracts see a form as one plain record (`specs/Files.antt`, `specs/Outs.antt`), and each call says the whole
-//! new record. Start with `Files` and `Outs`; `MemFiles` and `MemOuts` tell their contents and which calls fail.
+//! new record. Start with `Files` and `Outs`; `MemFiles` and `MemOuts` tell their contents and which
+//! calls fail; over `SureFiles` and `SureOuts` no call fails.
 #![tactic(auto)]
 
+mod contents;
 mod file_counts;
 mod files;
 pub mod laws;
@@ -12,6 +14,8 @@ mod mem_files;
 mod mem_outs;
 mod outs;
 mod sink;
+mod sure_files;
+mod sure_outs;
 mod target_counts;
 #[cfg(test)]
 mod tests;
@@ -21,4 +25,6 @@ pub use files::{Failed, Files};
 pub use mem_files::MemFiles;
 pub use mem_outs::MemOuts;
 pub use outs::{Outs, To};
+pub use sure_files::SureFiles;
+pub use sure_outs::SureOuts;
 pub use target_counts::TargetCounts;

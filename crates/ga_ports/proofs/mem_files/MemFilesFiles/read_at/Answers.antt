@@ -1,7 +1,7 @@
-use Rattle.std.proofs.Common.{◌≡◌, ◌-◌, min, length, refl, arith}
+use Rattle.std.proofs.Common.{◌≡◌, ◌-◌, min, length, [], refl, arith}
 use Rattle.std.proofs.lemmas.Grind.{common_steps}
 use Rattle.ga_ports.specs.Files.{AreBytesAt}
-use Rattle.ga_ports.proofs.Results.{if_some-along}
+use Rattle.ga_ports.proofs.Results.{if_some-unwrap}
 use Rattle.ga_ports.proofs.mem_files.MemFilesFiles.read_at.Goals as goal
 
 pub returns-clause-reads : goal.returns-clause-reads
@@ -10,7 +10,7 @@ returns-clause-reads c =
     rw (← c.self.view_is) (record {
       ok = (
         omega (arith, c.copy_from-count.ensures.all),
-        if_some-along (AreBytesAt c.args.at c.copy_from-count.result c.copy_from-count.new.into) _ c.open_bytes.result.now bytes c.copy_from-count.ensures.bytes,
+        if_some-unwrap (AreBytesAt c.args.at c.copy_from-count.result c.copy_from-count.new.into) _ [] c.open_bytes.result.now bytes c.copy_from-count.ensures.bytes,
         rw (c.give.ensures, c.call.ensures, c.is_short-short.ensures) refl,
       );
       failed = tt;
@@ -22,5 +22,5 @@ returns-clause-exact c =
     let count : c.copy_from-count.result ≡ min (length c.copy_from-count.new.into) (length c.open_bytes.result.now - c.args.at) = omega (arith, c.copy_from-count.ensures.all) in
     rw (← c.self.view_is) (record {
       fails = grind (arith, common_steps);
-      fits = if_some-along (λ bytes. c.copy_from-count.result ≡ min (length c.copy_from-count.new.into) (length bytes - c.args.at)) _ c.open_bytes.result.now bytes count;
+      fits = if_some-unwrap (λ bytes. c.copy_from-count.result ≡ min (length c.copy_from-count.new.into) (length bytes - c.args.at)) _ [] c.open_bytes.result.now bytes count;
     })

@@ -4,7 +4,7 @@ use Rattle.ga_ports.specs.MemFiles.{bytes_of}
 use Rattle.ga_ports.proofs.Places.{grown-at, grown-absent, same-at}
 use Rattle.std.proofs.lemmas.List.{map-append}
 use Rattle.ga_ports.proofs.Results.{on_err}
-use Rattle.ga_ports.proofs.mem_files.append.Goals as goal
+use Rattle.ga_ports.proofs.contents.append.Goals as goal
 
 pub returns-in_err-extend_from_slice-clause-err : goal.returns-in_err-extend_from_slice-clause-err
 returns-in_err-extend_from_slice-clause-err c =

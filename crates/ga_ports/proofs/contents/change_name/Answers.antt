@@ -2,7 +2,7 @@ use Rattle.std.proofs.Common.{false, true, arith, refl, sym, ap, ◌∙◌, ◌�
 use Rattle.ga_ports.specs.Places.{pairs, place_of, bytes_at}
 use Rattle.ga_ports.specs.MemFiles.{bytes_of}
 use Rattle.ga_ports.proofs.Places.{moved-at, renamed-absent, renamed-free, bytes_at-renamed}
-use Rattle.ga_ports.proofs.mem_files.change_name.Goals as goal
+use Rattle.ga_ports.proofs.contents.change_name.Goals as goal
 
 pub returns-in-Some-clause-names : goal.returns-in-Some-clause-names
 returns-in-Some-clause-names c =
