@@ -140,6 +140,11 @@ items-rise x xs sorted =
     tied-back : (a b : ToldRow) → is_eq (item_order b a) ≡ eq_by_cmp item_order a b
     tied-back a b = by (item_order b a) (item_order a b) (item_order_total.antisymm b a)
 
+pub merged-rise : (xs : List ToldRow) → IsSorted item_order xs → IsStrictlySortedBy item_order (merged xs)
+unfolding IsStrictlySortedBy
+merged-rise [] up = tt
+merged-rise (x ∷ xs) up = items-rise x xs up
+
 -- a row before another in a list of items is of another item
 other-item : (x y : ToldRow) (key : Key) → item_order x y ≡ Less → is_of key x ≡ true → is_of key y ≡ false
 other-item x y key less here = go (is_of key y) refl

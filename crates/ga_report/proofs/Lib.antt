@@ -8,3 +8,4 @@ pub mod Generals
 pub mod Pairs
 pub mod OneArrangement
 pub mod Printables
+pub mod Stretches

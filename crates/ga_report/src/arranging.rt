@@ -1,7 +1,7 @@
 ghost use Rattle.std.specs.Prelude.{◌≡◌, IfOk, List, All, filter, map};
-ghost use Rattle.std.specs.List.Sorted.{IsPermutation, IsSorted};
-ghost use Rattle.ga_report.specs.Items.{AreItems, by_hits, is_row, is_child, last_first, order};
-ghost use Rattle.ga_report.specs.Steps.Summed.{AreSummed, undate};
+ghost use Rattle.std.specs.List.Sorted.{IsPermutation, IsSorted, IsStrictlySortedBy};
+ghost use Rattle.ga_report.specs.Items.{AreItems, by_hits, is_row, is_child, item_order, last_first, order};
+ghost use Rattle.ga_report.specs.Steps.Summed.{AreSummed, group_order, undate};
 ghost use Rattle.ga_report.specs.Told.{ToldRow};
 ghost use Rattle.ga_base.specs.Layers.{has_groups, is_empty};
 
@@ -32,11 +32,13 @@ pub(crate) fn entries_of<'a>(
     items: &[Told<'a>],
     group: &Told<'_>,
 ) -> Result<Vec<Told<'a>>, NoMemory>
+    requires { IsStrictlySortedBy item_order items.now }
     ensures among { IfOk result (λ rows. IsPermutation (filter (λ item. is_child group.now.key item.key) items.now) rows.items) }
     ensures items { IfOk result (λ rows. (told : List ToldRow) → AreSummed told items.now
         → AreItems group.now.key.panel (is_child group.now.key) told (map undate rows.items)) }
 {
-    let rows = entries_among(alloc, items, group.key())?;
+    let near = stretch_of(items, group.key());
+    let rows = entries_among(alloc, near, group.key())?;
     Ok(sorted(rows, group.key().panel))
 }
 
@@ -123,6 +125,25 @@ fn entries_among<'a>(
         }
     }
     Ok(rows)
+}
+
+/// The stretch of items where all of a group stand.
+fn stretch_of<'s, 'a>(items: &'s [Told<'a>], group: &Key) -> &'s [Told<'a>]
+    requires { IsStrictlySortedBy item_order items.now }
+    ensures { filter (λ item. is_child group.now item.key) result.now ≡ filter (λ item. is_child group.now item.key) items.now }
+{
+    let end = items.partition_point(|item| group_order(item.key(), group).is_le());
+    let up_to = &items[..end];
+    let start = up_to.partition_point(|item| group_order(item.key(), group).is_lt());
+    &up_to[start..]
+}
+
+/// How the groups of two keys stand to each other.
+fn group_order(a: &Key, b: &Key) -> Ordering
+    ensures { result ≡ group_order a.now b.now }
+{
+    panel_order();
+    a.panel.cmp(&b.panel).then(a.parent.cmp(&b.parent))
 }
 
 /// Whether the item of a key is a row of the panel: in a panel with groups, these are the groups.

@@ -1,5 +1,5 @@
 ghost use Rattle.std.specs.Prelude.{◌≡◌, All, IfOk};
-ghost use Rattle.std.specs.List.Sorted.{IsPermutation, IsSorted};
+ghost use Rattle.std.specs.List.Sorted.{IsPermutation, IsSorted, IsStrictlySortedBy};
 ghost use Rattle.ga_report.specs.Items.{is_of, item_order, undated};
 ghost use Rattle.ga_report.specs.Reports.{general_of};
 ghost use Rattle.ga_report.specs.Sound.{AreSound};
@@ -13,9 +13,10 @@ use std::alloc::Global;
 use std::cmp::Ordering;
 use std::mem::replace;
 
-/// The items of told rows: rows that differ in their day alone are added up.
+/// The items of told rows, rising: rows that differ in their day alone are added up.
 pub(crate) fn items_of<'a, T: Tells>(alloc: Global, told: &'a T) -> Result<Vec<Told<'a>>, NoMemory>
     ensures items { IfOk result (λ items. AreSummed (T.view told.now).rows items.items) }
+    ensures rise { IfOk result (λ items. IsStrictlySortedBy item_order items.items) }
     ensures parts { IfOk result (λ items. All (IsPart (general_of (T.view told.now))) items.items) }
 {
     // What is known of the totals is that the rows' sums fit.
@@ -35,10 +36,11 @@ fn told_rows<'a, T: Tells>(alloc: Global, told: &'a T) -> Result<Vec<Told<'a>>, 
     Ok(rows)
 }
 
-/// The items of rows.
+/// The items of rows, rising.
 fn summed(alloc: Global, rows: Vec<Told<'_>>) -> Result<Vec<Told<'_>>, NoMemory>
     requires { AreSound rows.items }
-    ensures { IfOk result (λ items. AreSummed rows.entry.items items.items) }
+    ensures items { IfOk result (λ items. AreSummed rows.entry.items items.items) }
+    ensures rise { IfOk result (λ items. IsStrictlySortedBy item_order items.items) }
 {
     let rows = sorted_by_item(rows);
     merge(alloc, &rows)

@@ -1,4 +1,6 @@
 ghost use Rattle.std.specs.Prelude.{◌≡◌, IfOk, List, All, map, take};
+ghost use Rattle.std.specs.List.Sorted.{IsStrictlySortedBy};
+ghost use Rattle.ga_report.specs.Items.{item_order};
 ghost use Rattle.ga_report.specs.Printable.{IsPrintable};
 ghost use Rattle.ga_report.specs.Reports.{AreChildren, IsPanelList, IsReport, IsRow, Pairwise, data_of, general_of, panels_of, shown_as};
 ghost use Rattle.ga_report.specs.Steps.Summed.{AreSummed, DayFits, IsPart, undate, with_day};
@@ -97,7 +99,8 @@ fn panel_lists(
     panels: &PanelSet,
     max_items: u64,
 ) -> Result<PanelLists, NoMemory>
-    requires { All (IsPart general.now) items.now }
+    requires parts { All (IsPart general.now) items.now }
+    requires rise { IsStrictlySortedBy item_order items.now }
     ensures { IfOk result (λ lists. (told : List ToldRow) → AreSummed told items.now
         → Pairwise (IsPanelList general.now max_items told) (panels_of panels.now) lists) }
 {
@@ -118,7 +121,8 @@ fn panel_list(
     panel: Panel,
     max_items: u64,
 ) -> Result<PanelList, NoMemory>
-    requires { All (IsPart general.now) items.now }
+    requires parts { All (IsPart general.now) items.now }
+    requires rise { IsStrictlySortedBy item_order items.now }
     ensures { IfOk result (λ list. (told : List ToldRow) → AreSummed told items.now
         → IsPanelList general.now max_items told panel list) }
 {
@@ -143,7 +147,8 @@ fn row_list(
     tops: &[Told<'_>],
     max_items: u64,
 ) -> Result<RowList, NoMemory>
-    requires items { All (IsPart general.now) items.now }
+    requires parts { All (IsPart general.now) items.now }
+    requires rise { IsStrictlySortedBy item_order items.now }
     requires tops { All (IsPart general.now) tops.now }
     ensures { IfOk result (λ rows. (told : List ToldRow) → AreSummed told items.now
         → Pairwise (IsRow general.now max_items told) (map undate tops.now) rows) }
@@ -165,7 +170,8 @@ fn children_of(
     top: &Told<'_>,
     max_items: u64,
 ) -> Result<Items, NoMemory>
-    requires { All (IsPart general.now) items.now }
+    requires parts { All (IsPart general.now) items.now }
+    requires rise { IsStrictlySortedBy item_order items.now }
     ensures { IfOk result (λ children. (told : List ToldRow) → AreSummed told items.now
         → AreChildren general.now max_items told (undate top.now) children) }
 {

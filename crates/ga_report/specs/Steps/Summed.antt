@@ -1,6 +1,10 @@
 -- The items of told rows, on the way to a report.
 use Rattle.std.specs.Prelude.{◌≡◌, ◌+◌, ◌≤◌, ◌<◌, ◌^◌, max, if◌then◌else◌, List, [], ◌∷◌, count_by, All}
+use Rattle.std.specs.declared.cmp.Ordering.{Ordering}
+use Rattle.std.specs.Ordering.{nat_cmp, ordering_then}
 use Rattle.ga_base.specs.declared.key.Key.{Key}
+use Rattle.ga_base.specs.Orders.{text_cmp}
+use Rattle.ga_base.specs.Panels.{panel_number}
 use Rattle.ga_report.specs.declared.report.General.{General}
 use Rattle.ga_report.specs.Items.{undated, is_of, of_item, has_item, item_of}
 use Rattle.ga_report.specs.Sound.{SumsFit}
@@ -68,3 +72,7 @@ pub record DayFits (general : General) (day : ToldRow) : Type 0 where
   pub hits : general.valid_requests + day.sums.hits < 2 ^ 64
   pub visitors : general.unique_visitors + day.visitors < 2 ^ 64
   pub bytes : general.bandwidth + day.sums.bytes < 2 ^ 64
+
+-- the groups of two keys by panel and parent
+abbrev pub group_order : Key → Key → Ordering
+group_order a b = ordering_then (nat_cmp (panel_number a.panel) (panel_number b.panel)) (text_cmp a.parent b.parent)

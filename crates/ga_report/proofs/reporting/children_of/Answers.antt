@@ -10,7 +10,7 @@ use Rattle.ga_report.proofs.reporting.children_of.Goals as goal
 pub shown_items-requires : goal.shown_items-requires
 shown_items-requires c =
     parts-shown c.args.general.now (λ item. is_child c.args.top.now.key item.key) c.args.max_items c.args.items.now c.in_ok-entries.entries.items c.deref.result.now c.first.result.now
-    c.requires c.in_ok-entries.ensures.among c.deref.ensures.value c.first.ensures
+    c.requires.parts c.in_ok-entries.ensures.among c.deref.ensures.value c.first.ensures
 
 pub returns : goal.returns
 returns c =

@@ -5,7 +5,7 @@ use Rattle.ga_report.proofs.reporting.panel_list.Goals as goal
 pub row_list-requires-clause-tops : goal.row_list-requires-clause-tops
 row_list-requires-clause-tops c =
     parts-shown c.args.general.now (λ item. is_row c.args.panel item.key) c.args.max_items c.args.items.now c.in_ok-tops.tops.items c.deref.result.now c.first.result.now
-    c.requires c.in_ok-tops.ensures.among c.deref.ensures.value c.first.ensures
+    c.requires.parts c.in_ok-tops.ensures.among c.deref.ensures.value c.first.ensures
 
 pub returns : goal.returns
 returns c = λ told are.

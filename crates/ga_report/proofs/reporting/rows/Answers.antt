@@ -6,8 +6,8 @@ use Rattle.ga_report.specs.Told.{ToldRow}
 use Rattle.ga_report.proofs.Printables.{printable}
 use Rattle.ga_report.proofs.reporting.rows.Goals as goal
 
-pub panel_lists-requires : goal.panel_lists-requires
-panel_lists-requires g c =
+pub panel_lists-requires-clause-parts : goal.panel_lists-requires-clause-parts
+panel_lists-requires-clause-parts g c =
     subst (λ (xs : List ToldRow). All (IsPart c.general_of-general.result) xs) (sym c.deref.ensures.value)
     (subst (λ (general : General). All (IsPart general) c.in_ok-items.items.items) (sym c.general_of-general.ensures) c.in_ok-items.ensures.parts)
 
