@@ -15,7 +15,7 @@ use Rattle.ga_ports.specs.declared.outs.To.{To}
 use Rattle.ga_words.specs.declared.fault.WordFault.{WordFault}
 use Rattle.ga_words.specs.declared.settings.Settings.{Settings}
 use Rattle.ga_run.specs.Inputs.{AreTold, HasRules, ReadAll, RulesAreTold, inputs_of, rules_file}
-use Rattle.ga_run.specs.LogsRun.{HasGoodInput, HasRead, IsReportOf, RunsLogs, WasServed}
+use Rattle.ga_run.specs.LogsRun.{FillsCounter, FillsTold, HasGoodInput, HasRead, IsReportOf, RunsLogs, WasServed}
 use Rattle.ga_run.specs.OneRun.{Alike, HaveSameInputs, IsUntroubled, RunView, Wrote}
 use Rattle.ga_run.specs.Printing.{TakesOrStops, but_errors, delivered, file_of, target_of}
 use Rattle.ga_run.specs.Reading.{ReadsLog}
@@ -78,6 +78,13 @@ read-told s names files files' some read =
     let same : read.mid.contents ≡ files.contents = kept-rules s.browsers_file files read.mid read.rules read.has_rules in
     let later = all-told names read.mid files' read.logs (λ none. some (sym same ∙ none)) read.has_logs in
     (rules-told s.browsers_file files read.mid read.rules some read.has_rules, told-later names read.mid files read.logs (sym same) later)
+
+-- the lines of told logs fill a counter
+pub fills-told : (line : LineSetup) (s : Settings) (files files' : FilesView) (which : Counter) (total : ℕ) → files.contents ≢ None → FillsCounter line s files files' which total
+    → FillsTold line s files which total
+fills-told line s files files' which total some h =
+    let known = read-told s h.front files files' some h.read in
+    record { front = h.front; back = h.back; split = h.split; rules = h.read.rules; rules_told = known.0; logs = h.read.logs; logs_told = known.1; fills = h.fills }
 
 -- what is told of the same files
 rules-along : (file : Option (List ℕ)) (a b : FilesView) (rules : List Rule) → Same a b (rules_file file) → RulesAreTold file b rules → RulesAreTold file a rules
@@ -201,11 +208,19 @@ module _ (words : List (List ℕ)) (s : Settings) (line : LineSetup) (says : Say
 
     full-too : (which : Counter) (total : ℕ) → b.status ≡ CounterFull which total → a.status ≡ CounterFull which total
     full-too which total e =
-        let k = (over b v).counter_full which total e in
-        let known = read-told s k.front b.files b.files' v.told_all k.read in
+        let k = (((over b v).full which total v.told_all).0 e).0 in
         let fronts : Same a.files b.files k.front = in-front a.files b.files k.front k.back (subst (λ (names : List (List ℕ)). Same a.files b.files names) k.split same-logs) in
-        (over a u).full k.front k.back k.read.rules k.read.logs which total k.split (rules-along s.browsers_file a.files b.files k.read.rules same-rules known.0)
-        (logs-along k.front a.files b.files k.read.logs fronts known.1) k.fills (was-served a.status (ending a u))
+        let told-too : FillsTold line s a.files which total = record {
+          front = k.front;
+          back = k.back;
+          split = k.split;
+          rules = k.rules;
+          rules_told = rules-along s.browsers_file a.files b.files k.rules same-rules k.rules_told;
+          logs = k.logs;
+          logs_told = logs-along k.front a.files b.files k.logs fronts k.logs_told;
+          fills = k.fills;
+        } in
+        ((over a u).full which total u.told_all).1 (told-too, was-served a.status (ending a u))
 
 module _ (words : List (List ℕ)) (a b : RunView) (u : IsUntroubled words a) (v : IsUntroubled words b) where
   -- with one status and one report, all is alike

@@ -29,6 +29,7 @@ use Rattle.ga_run.specs.declared.status.Status.{Status}
 use Rattle.ga_run.specs.declared.status.Status.TheVariants.{Done, BadWords, Unbuilt, BadFormat, BadRules, FileFault, FileShort, OutFault, CounterFull, NoMemory}
 use Rattle.ga_run.specs.declared.status.Which.{Which}
 use Rattle.ga_run.proofs.LogsEnds.{asks-none}
+use Rattle.ga_run.proofs.OneRun.{fills-told}
 use Rattle.ga_run.proofs.Endings.{OneCount, OneReading, absent-by, along, bad-by, complete-by, early-faults, finishes-after, full-when, named, nothing-taken, refused-by, same-but, same-faults, stops-after}
 
 -- what the laws of words and of formats say
@@ -198,8 +199,10 @@ module _ (one : OneWords) (outcome : OneOutcome) (words : List (List ℕ)) where
           counter_full = λ which total e. (at (CounterFull which total) e).0;
           absent = λ place name stands gone. absent-by line s files files' outs mid place name stands gone status ended.ends;
           bad = λ name text place named told_is. bad-by line s count reading files files' outs mid name text place named told_is status ended.ends;
-          full = λ front back rules logs which total split rules-told logs-told fills served.
-              full-when line s count reading files files' outs mid front back rules logs which total split rules-told logs-told fills status ended.ends served;
+          full = λ which total told_all. (
+            λ e. (fills-told line s files files' which total told_all (at (CounterFull which total) e).0, record { file = λ file f. cc; memory = λ f. cc }),
+            λ p. full-when line s count reading files files' outs mid p.0.front p.0.back p.0.rules p.0.logs which total p.0.split p.0.rules_told p.0.logs_told p.0.fills status ended.ends p.1,
+          );
           complete = complete-by line s files files' outs mid outs' status changed more ended.ends ended.faults;
         }
 
@@ -242,7 +245,7 @@ decides-nothing words files outs outs' = record {
     counter_full = λ which total e. absurd (cc e);
     absent = λ place name stands gone. tt;
     bad = λ name text at named told_is. (λ e. absurd (cc e), λ p. absurd (p.1.memory refl));
-    full = λ front back rules logs which total split rules-told logs-told fills served. absurd (served.memory refl);
+    full = λ which total told_all. (λ e. absurd (cc e), λ p. absurd (p.1.memory refl));
     complete = λ served took good. inr refl;
   };
 }

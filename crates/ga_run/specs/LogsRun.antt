@@ -1,6 +1,6 @@
 -- What the run over the files that settings name is: the browsers file is read, the logs are read and counted one after the
 -- other, and the report is delivered.
-use Rattle.std.specs.Prelude.{◌≡◌, ◌≢◌, ℕ, ◌≤◌, ◌⊎◌, ◌↔◌, ◌+◌, true, ⊤, List, ◌++◌, length, Some, slice_get}
+use Rattle.std.specs.Prelude.{◌≡◌, ◌≢◌, ℕ, ◌≤◌, ◌⊎◌, ◌↔◌, ◌+◌, true, ⊤, List, ◌++◌, length, Some, None, slice_get}
 use Rattle.ga_agents.specs.declared.row.Rule.{Rule}
 use Rattle.ga_agents.specs.RulesFile.{IsBadLine}
 use Rattle.ga_base.specs.declared.counts.Counter.{Counter}
@@ -100,6 +100,17 @@ pub record FillsCounter (line : LineSetup) (s : Settings) (files files' : FilesV
   pub read : HasRead s front files files'
   pub fills : FillsAmong (setup_of line s read.rules) no_totals (all_lines read.logs) which total
 
+-- it is told what the browsers file and the logs up to some one hold, and their lines up to one of them fill a counter
+pub record FillsTold (line : LineSetup) (s : Settings) (files : FilesView) (which : Counter) (total : ℕ) : Type 0 where
+  pub front : List (List ℕ)
+  pub back : List (List ℕ)
+  pub split : s.logs ≡ front ++ back
+  pub rules : List Rule
+  pub rules_told : RulesAreTold s.browsers_file files rules
+  pub logs : List (List ℕ)
+  pub logs_told : AreTold front files logs
+  pub fills : FillsAmong (setup_of line s rules) no_totals (all_lines logs) which total
+
 -- the files served: it was told that they can, or no count of their failed or short calls rose
 abbrev pub FilesServed : Settings → FilesView → FilesView → Type 0
 FilesServed s files files' = CanServe (inputs_of s) files
@@ -156,12 +167,10 @@ pub record RunsLogs (line : LineSetup) (s : Settings) (files files' : FilesView)
   -- memory ran out
   pub bad : (name text : List ℕ) (at : ℕ) → s.browsers_file ≡ Some name → told name files.contents ≡ Some text
       → (status ≡ BadRules at) ↔ (IsBadLine text at × WasServed status)
-  -- over told contents a counter is full where the lines of the logs up to some one fill it, unless a file failed or memory
-  -- ran out
-  pub full : (front back : List (List ℕ)) (rules : List Rule) (logs : List (List ℕ)) (which : Counter) (total : ℕ)
-      → s.logs ≡ front ++ back → RulesAreTold s.browsers_file files rules → AreTold front files logs
-      → FillsAmong (setup_of line s rules) no_totals (all_lines logs) which total
-      → WasServed status → status ≡ CounterFull which total
+  -- over told contents a counter is full exactly where the lines of the logs up to some one fill it, unless a file failed or
+  -- memory ran out
+  pub full : (which : Counter) (total : ℕ) → files.contents ≢ None
+      → (status ≡ CounterFull which total) ↔ (FillsTold line s files which total × WasServed status)
   -- where the files and the output served, the rules are good and no counter is full, the run is done, or memory ran out
   pub complete : FilesServed s files files' → OutputServed line s outs outs' → HasGoodInput status
       → (status ≡ Done) ⊎ (status ≡ NoMemory)
