@@ -1,0 +1,3 @@
+mod Choices
+mod PartReads
+mod Placements

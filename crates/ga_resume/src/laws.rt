@@ -1,0 +1,16 @@
+//! What holds of entries and logs in general. Each function's contract is the law, and its body is empty.
+
+ghost use Rattle.std.specs.Prelude.{◌≡◌, ◌↔◌, ℕ, List, Option, take};
+ghost use Rattle.ga_base.specs.declared.entry.Entry.{Entry};
+ghost use Rattle.ga_resume.specs.Entries.{Fits, IsChoice};
+
+/// Whether an entry fits a log shows on the log's first 4096 bytes.
+pub fn fits_by_front()
+    ensures { (log : List ℕ) (end : ℕ) (entry : Entry) → Fits (take 4096 log) end entry ↔ Fits log end entry }
+{}
+
+/// A log continues one entry of a list, or none.
+pub fn one_choice()
+    ensures { (entries : List Entry) (front : List ℕ) (end : ℕ) (place other : Option ℕ) (from begin : ℕ)
+        → IsChoice entries front end place from → IsChoice entries front end other begin → (place ≡ other) × (from ≡ begin) }
+{}

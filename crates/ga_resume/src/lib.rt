@@ -1,0 +1,22 @@
+//! Where the counting of a log goes on: which entry of a database it continues, and what a run leaves there.
+//!
+//! Start with `place` and `advance`. `specs/Entries.antt` says which entry a log continues and what becomes of it,
+//! `specs/Segment.antt` what `place` reads.
+#![tactic(auto)]
+
+mod choosing;
+mod fault;
+mod following;
+pub mod laws;
+mod placing;
+mod reading;
+mod segment;
+
+pub use fault::PlaceFault;
+pub use following::advance;
+pub use placing::place;
+pub use reading::read_part;
+pub use segment::{FRONT, Segment};
+
+#[cfg(test)]
+mod tests;
