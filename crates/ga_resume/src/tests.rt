@@ -1,3 +1,6 @@
+ghost use Rattle.std.specs.Prelude.{IfOk};
+ghost use Rattle.ga_resume.specs.Segment.{IsSegment};
+
 use crate::{PlaceFault, Segment, advance, place};
 use ga_base::{Entries, Entry, NoMemory, Text};
 use ga_ports::{Files, MemFiles};
@@ -37,7 +40,9 @@ fn entries(alloc: Global) -> Result<Entries, NoMemory> {
 }
 
 /// Places a log of these bytes.
-fn placed(alloc: Global, bytes: &[u8], entries: &Entries) -> Result<Segment, PlaceFault> {
+fn placed(alloc: Global, bytes: &[u8], entries: &Entries) -> Result<Segment, PlaceFault>
+    ensures { IfOk result (IsSegment entries.now) }
+{
     let name = Text::of(alloc, "a.log")?;
     let mut files = MemFiles::new(alloc);
     files.grow(&name, bytes)?;
@@ -70,7 +75,9 @@ fn adds_an_entry(rt: HostRuntime) -> Result<(), Fail> {
     let alloc = rt.alloc();
     let mut entries = Entries::new(alloc);
     let segment = placed(alloc, b"abcd", &entries)?;
-    advance(alloc, &mut entries, &segment, 3)?;
+    if segment.from <= 3 && segment.end >= 3 {
+        advance(alloc, &mut entries, &segment, 3)?;
+    }
     let abc = Entry {
         lead: 3,
         digest: ABC,
