@@ -10,6 +10,8 @@ As a module:
 
 It was written from the product's rules alone, and not from its code. Texts are bytes everywhere.
 """
+import hashlib
+import json
 import os
 import stat
 import sys
@@ -722,7 +724,8 @@ def micros_of(letter, text):
 class LineSetup:
     def __init__(self, s):
         self.s = s
-        self.items = compile_format(NAMED.get(s.log_format, s.log_format))
+        log_format = b"COMBINED" if s.log_format is None else s.log_format
+        self.items = compile_format(NAMED.get(log_format, log_format))
         self.date = compile_date(s.date_format)
         self.time = compile_time(s.time_format)
         self.clock = next((what for kind, what in self.items if kind == FIELD and what in (b"D", b"T", b"L")), None)
@@ -1022,11 +1025,30 @@ def text_of(s, read):
         if isinstance(rules, int):
             raise Fault(1, b"browsers file, line %d: not a rule" % rules)
     summary = Summary()
-    for log in s.logs:
-        for line in lines_of(content(log)):
+    for log in [generated(s.generate)] if s.generate else map(content, s.logs):
+        for line in lines_of(log):
             summary.count(s, rules, setup, line)
     report = report_of(s, summary)
+    if s.generate:
+        return six_lines(s.generate, json_text(report))
     return csv_text(report) if s.kind == b"csv" else json_text(report)
+
+
+def generated(lines):
+    """The generator's log."""
+    return b"".join(
+        b'10.%d.%d.%d - - [%02d/Jan/2024:%02d:00:00 +0000] "GET /p%d%s HTTP/1.1" %d %d "-" '
+        b'"Mozilla/5.0 (X11; Linux x86_64; rv:100.0) Gecko/20100101 Firefox/%d.0"\n'
+        % (i % 7, i % 11, i % 13, 1 + i % 28, i % 24, i % 17, b"" if i % 5 else b".css", 404 if i % 10 == 9 else 200, i % 1000, 100 + i % 3)
+        for i in range(lines))
+
+
+def six_lines(lines, text):
+    """What a run over the generator's log prints in place of its report."""
+    general = json.loads(text)["general"]
+    return b"generated %d\nvalid %d\nfailed %d\nvisitors %d\nbandwidth %d\nreport %s\n" % (
+        lines, general["valid_requests"], general["failed_requests"], general["unique_visitors"], general["bandwidth"],
+        hashlib.sha256(text).hexdigest().encode())
 
 
 def run_words(words, read):
@@ -1035,12 +1057,12 @@ def run_words(words, read):
         if not all(is_utf8(word) for word in words):
             raise Fault(1, b"words are not UTF-8")
         s = read_words(words)
-        if s.persist or s.restore or s.generate is not None:
+        if s.persist or s.restore:
             raise NOT_BUILT
         text = text_of(s, read)
     except Fault as fault:
         return fault.status, b"", b"goaccess: " + fault.text + b"\n", None
-    if s.target:
+    if s.target and not s.generate:
         return 0, b"", b"", (s.target, text)
     return 0, text, b"", None
 

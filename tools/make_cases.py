@@ -124,7 +124,7 @@ FAULTS = [
     (["--ignore-status=600", "a.log"], {}), (["--ignore-panel=hosts", "a.log"], {}), (["--max-items=4294967296", "a.log"], {}),
     (["--chunk-size=0", "a.log"], {}), (["--static-file=", "a.log"], {}), (["--browsers-file=", "a.log"], {}),
     (["--", "--bogus", ""], {}), (["--generate=00000000007"], {}), (["--generate", "5", "a.log", COMMON], {}),
-    (["--persist", COMMON, "a.log"], {"a.log": A}), (["--generate=0000000007"], {}),
+    (["--persist", COMMON, "a.log"], {"a.log": A}), (["--generate=0000000007"], {}), (["--generate=2", "--log-format=%h"], {}),
 ]
 
 
@@ -167,6 +167,9 @@ OVER_WORDS = [
     of(["--log-format=VCOMMON", *only("VIRTUAL_HOSTS"), "-o", "csv", "a.log"], VHOSTS),
     of([EVERY, "--date-format=%Y-%m-%d", "--time-format= %H:%M:%S", "--output=csv", "a.log"], EVERY_LOG),
     of([COMMON, "-o", "json", "--jobs=16", "--chunk-size", "1", "--db-path=x", "--output", "csv", *only("HOSTS"), "a.log"], TWO_DAYS),
+    of(["--generate=1000"]),
+    of(["--generate", "30", "-o", "r.csv", "--ignore-status=404", "--browsers-file=agents.txt", "--max-items=2"], "", None, "Firefox\tCrawlers\n"),
+    of(["--generate=5", "--log-format=%h - - [%d:%t %^] \"%r\" %s %^"]),
     of(["-o", "nothing.csv", COMMON, "a.log", "nothing.log"], A),
     of([COMMON, "-o", "csv", "--browsers-file=nothing.txt", "a.log"], A),
     of([COMMON, "--date-format=%d", "--browsers-file=nothing.txt", "a.log"], A),

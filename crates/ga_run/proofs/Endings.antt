@@ -18,10 +18,10 @@ use Rattle.ga_ports.specs.declared.outs.To.{To}
 use Rattle.ga_summary.specs.Rows.{SummaryValue}
 use Rattle.ga_words.specs.WordsOf.{WordsOf}
 use Rattle.ga_words.specs.declared.settings.Settings.{Settings}
-use Rattle.ga_run.specs.Counting.{CountsLines, FillsAmong, all_lines, no_totals}
+use Rattle.ga_run.specs.Counting.{CountsLines, FillsAmong, all_lines, counted_lines, generated_log, no_totals}
 use Rattle.ga_run.specs.Inputs.{ReadAll, HasRules, rules_file, inputs_of, CanServe, AreTold, RulesAreTold}
 use Rattle.ga_run.specs.LogsRun.{EndsBefore, FilesServed, FillsCounter, Finishes, HasBadRule, HasGoodInput, HasRead, Misses, OutputServed, StopsPrinting, WasServed, place_of}
-use Rattle.ga_run.specs.Printing.{FailsWriting, Stops, TakesOrStops, but_errors, delivered, file_of, stopped, target_of, unmade}
+use Rattle.ga_run.specs.Printing.{FailsWriting, Stops, TakesOrStops, but_errors, delivered, report_file, stopped, target_of, unmade}
 use Rattle.ga_run.specs.Reading.{ReadsLog}
 use Rattle.ga_run.specs.Run.{SameFaults, faults_after}
 use Rattle.ga_run.specs.Setups.{setup_of}
@@ -33,7 +33,7 @@ use Rattle.ga_run.specs.declared.status.Input.{Input}
 use Rattle.ga_run.specs.declared.status.Input.TheVariants.{Rules, Log}
 use Rattle.ga_run.specs.declared.status.Status.{Status}
 use Rattle.ga_run.specs.declared.status.Status.TheVariants.{Done, BadWords, Unbuilt, BadFormat, BadRules, FileFault, FileShort, OutFault, CounterFull, NoMemory}
-use Rattle.ga_run.proofs.OneCount.{fills-longer, fills-none, fronts}
+use Rattle.ga_run.proofs.OneCount.{fills-longer, fronts}
 use Rattle.ga_run.proofs.Takes.{takes-nil}
 
 none-some : {bytes : List ℕ} → None ≡ Some bytes → ⊥
@@ -109,7 +109,7 @@ finishes-after line s files files' outs mid outs' changed h = record {
   read = h.read;
   text = h.text;
   report = h.report;
-  printed = along (delivered (file_of s.output.name) h.text outs) mid outs' changed h.printed;
+  printed = along (delivered (report_file s.generate s.output.name) h.text outs) mid outs' changed h.printed;
 }
 
 rose-after : (a b c : ℕ) → Rose a b → b ≤ c → Rose a c
@@ -126,7 +126,7 @@ stops-after line s files files' outs mid outs' to at changed more h = record {
   read = h.read;
   text = h.text;
   report = h.report;
-  stops = fails-after (file_of s.output.name) h.text at outs mid outs' changed h.stops;
+  stops = fails-after (report_file s.generate s.output.name) h.text at outs mid outs' changed h.stops;
   unsure = λ can. rose-after outs.starved mid.starved outs'.starved (h.unsure can) more;
 }
 
@@ -192,7 +192,7 @@ short-not s files files' file at misses counted (inr still) = still.1 (rose-at _
 stopped-not : (line : LineSetup) (s : Settings) (files files' : FilesView) (outs outs' : OutsView) (to : To) (at : ℕ) → StopsPrinting line s files files' outs outs' to at
     → OutputServed line s outs outs' → ⊥
 stopped-not line s files files' outs outs' to at h (inl (fits, fed)) = fed (h.unsure (fits h.read.rules h.read.logs h.text h.report))
-stopped-not line s files files' outs outs' to at h (inr still) = still (fails-rose (file_of s.output.name) h.text at outs outs' h.stops)
+stopped-not line s files files' outs outs' to at h (inr still) = still (fails-rose (report_file s.generate s.output.name) h.text at outs outs' h.stops)
 
 pub complete-by : (line : LineSetup) (s : Settings) (files files' : FilesView) (outs mid outs' : OutsView) (status : Status) → outs' ≡ but_errors outs' mid → mid.starved ≤ outs'.starved
     → Ends line s files files' outs mid status → SameFaults (faults_after status files.counts) files'.counts → FilesServed s files files' → OutputServed line s outs outs' → HasGoodInput status
@@ -237,63 +237,64 @@ untold-not : (name : List ℕ) (files : FilesView) (text : List ℕ) → files.c
 untold-not name files text none is = none-some (sym (ap (told name) none) ∙ is)
 
 module _ (line : LineSetup) (s : Settings) (one : OneCount line s) (reading : OneReading) (files files' : FilesView) (outs mid : OutsView) where
-  module _ (front back : List (List ℕ)) (rules : List Rule) (logs : List (List ℕ)) (which : Counter) (total : ℕ) (split : s.logs ≡ front ++ back)
-      (rules-told : RulesAreTold s.browsers_file files rules) (logs-told : AreTold front files logs) (fills : FillsAmong (setup_of line s rules) no_totals (all_lines logs) which total) where
+  -- the lines that are counted where these logs were read
+  abbrev counted-of : List (List ℕ) → List (List ℕ)
+  counted-of logs = counted_lines s.generate logs
+
+  -- and where these were read behind others
+  counted-append : (ones others : List (List ℕ)) → counted-of (ones ++ others) ≡ counted-of ones ++ all_lines others
+  counted-append ones others =
+      ap all_lines (sym (append_assoc (generated_log s.generate) ones others)) ∙ lines-append (generated_log s.generate ++ ones) others
+
+  module _ (told-all : files.contents ≢ None) (front back : List (List ℕ)) (rules : List Rule) (logs : List (List ℕ)) (which : Counter) (total : ℕ) (split : s.logs ≡ front ++ back)
+      (rules-told : RulesAreTold s.browsers_file files rules) (logs-told : AreTold front files logs) (fills : FillsAmong (setup_of line s rules) no_totals (counted-of logs) which total) where
     told-at : (v : FilesView) (found : List Rule) → HasRules s.browsers_file files v found → AreTold front v logs
     told-at v found has = told-later front files v logs (kept-rules s.browsers_file files v found has) logs-told
 
     -- what was read of logs of which these are a front begins with their contents
-    begins : (longer more : List (List ℕ)) → longer ≡ front ++ more → (read : HasRead s longer files files') → (others : List (List ℕ)) × (all_lines read.logs ≡ all_lines logs ++ others)
+    begins : (longer more : List (List ℕ)) → longer ≡ front ++ more → (read : HasRead s longer files files') → (others : List (List ℕ)) × (counted-of read.logs ≡ counted-of logs ++ others)
     begins longer more is read =
         let (v, ones, others, reads, left, parts) = read-front front more read.mid files' read.logs (subst (λ names. ReadAll names read.mid files' read.logs) is read.has_logs) in
         let same : ones ≡ logs = read-all-is front read.mid v ones logs reads (told-at read.mid read.rules read.has_rules) in
-        (all_lines others, ap all_lines parts ∙ lines-append ones others ∙ ap (λ ls. all_lines ls ++ all_lines others) same)
+        (all_lines others, ap counted-of parts ∙ counted-append ones others ∙ ap (λ ls. counted-of ls ++ all_lines others) same)
 
     same-rules : (names : List (List ℕ)) (read : HasRead s names files files') → read.rules ≡ rules
     same-rules names read = rules-are reading s.browsers_file files read.mid read.rules rules read.has_rules rules-told
 
-    counted : (read : HasRead s s.logs files files') (sum : SummaryValue) → CountsLines (setup_of line s read.rules) no_totals (all_lines read.logs) sum → ⊥
+    counted : (read : HasRead s s.logs files files') (sum : SummaryValue) → CountsLines (setup_of line s read.rules) no_totals (counted-of read.logs) sum → ⊥
     counted read sum counts =
         let (others, whole) = begins s.logs back split read in
-        one.apart rules no_totals (all_lines logs ++ others) sum which total
-        (subst (λ ls. CountsLines (setup_of line s rules) no_totals ls sum) whole (subst (λ r. CountsLines (setup_of line s r) no_totals (all_lines read.logs) sum) (same-rules s.logs read) counts))
-        (fills-longer (setup_of line s rules) no_totals (all_lines logs) others which total fills)
+        one.apart rules no_totals (counted-of logs ++ others) sum which total
+        (subst (λ ls. CountsLines (setup_of line s rules) no_totals ls sum) whole (subst (λ r. CountsLines (setup_of line s r) no_totals (counted-of read.logs) sum) (same-rules s.logs read) counts))
+        (fills-longer (setup_of line s rules) no_totals (counted-of logs) others which total fills)
 
     filled : (which' : Counter) (total' : ℕ) → FillsCounter line s files files' which' total' → CounterFull which' total' ≡ CounterFull which total
     filled which' total' h = go (fronts front h.front back h.back (sym split ∙ h.split))
       where
-        same : FillsAmong (setup_of line s rules) no_totals (all_lines h.read.logs) which' total'
-        same = subst (λ r. FillsAmong (setup_of line s r) no_totals (all_lines h.read.logs) which' total') (same-rules h.front h.read) h.fills
+        same : FillsAmong (setup_of line s rules) no_totals (counted-of h.read.logs) which' total'
+        same = subst (λ r. FillsAmong (setup_of line s r) no_totals (counted-of h.read.logs) which' total') (same-rules h.front h.read) h.fills
 
         go : ((x : List (List ℕ)) × (h.front ≡ front ++ x)) ⊎ ((x : List (List ℕ)) × (front ≡ h.front ++ x)) → CounterFull which' total' ≡ CounterFull which total
         go (inl (x, is)) =
             let (others, whole) = begins h.front x is h.read in
             full-same which' which total' total
-            (one.counter rules no_totals (all_lines logs ++ others) which' which total' total
+            (one.counter rules no_totals (counted-of logs ++ others) which' which total' total
             (subst (λ ls. FillsAmong (setup_of line s rules) no_totals ls which' total') whole same)
-            (fills-longer (setup_of line s rules) no_totals (all_lines logs) others which total fills))
+            (fills-longer (setup_of line s rules) no_totals (counted-of logs) others which total fills))
         go (inr (x, is)) =
             let (ones, others, told_ones, parts) = told-front h.front x h.read.mid logs (subst (λ names. AreTold names h.read.mid logs) is (told-at h.read.mid h.read.rules h.read.has_rules)) in
             let read : h.read.logs ≡ ones = read-all-is h.front h.read.mid files' h.read.logs ones h.read.has_logs told_ones in
-            let whole : all_lines logs ≡ all_lines h.read.logs ++ all_lines others =
-            ap all_lines parts ∙ lines-append ones others ∙ ap (λ ls. all_lines ls ++ all_lines others) (sym read) in
+            let whole : counted-of logs ≡ counted-of h.read.logs ++ all_lines others =
+            ap counted-of parts ∙ counted-append ones others ∙ ap (λ ls. counted-of ls ++ all_lines others) (sym read) in
             full-same which' which total' total
-            (one.counter rules no_totals (all_lines h.read.logs ++ all_lines others) which' which total' total
-            (fills-longer (setup_of line s rules) no_totals (all_lines h.read.logs) (all_lines others) which' total' same)
+            (one.counter rules no_totals (counted-of h.read.logs ++ all_lines others) which' which total' total
+            (fills-longer (setup_of line s rules) no_totals (counted-of h.read.logs) (all_lines others) which' total' same)
             (subst (λ ls. FillsAmong (setup_of line s rules) no_totals ls which total) whole fills))
 
     no-bad : (at : ℕ) → HasBadRule s files files' at → ⊥
     no-bad at h =
         let (text, told_is, given) = subst (λ file. RulesAreTold file files rules) h.named rules-told in
         reading.either text rules at given (subst (λ t. IsBadLine t at) (read-is h.name files files' h.text text h.read told_is) h.bad)
-
-    -- some content is told
-    no-untold : files.contents ≡ None → ⊥
-    no-untold none = go front logs logs-told fills
-      where
-        go : (front logs : List (List ℕ)) → AreTold front files logs → FillsAmong (setup_of line s rules) no_totals (all_lines logs) which total → ⊥
-        go [] logs h fills = fills-none (setup_of line s rules) no_totals which total (subst (λ ls. FillsAmong (setup_of line s rules) no_totals (all_lines ls) which total) h fills)
-        go (name ∷ front) logs (text, rest, is, more, e) fills = untold-not name files text none is
 
     pub full-when : (status : Status) → Ends line s files files' outs mid status → WasServed status → status ≡ CounterFull which total
     full-when Done ends served = absurd (counted ends.read ends.report.sum ends.report.counts)
@@ -302,7 +303,7 @@ module _ (line : LineSetup) (s : Settings) (one : OneCount line s) (reading : On
     full-when (BadFormat which' fault) ends served = absurd ends
     full-when (BadRules at) ends served = absurd (no-bad at ends.0)
     full-when (FileFault file) ends served = absurd (served.file file refl)
-    full-when (FileShort file at) ends served = absurd (no-untold (short-untold s files files' file at ends.0))
+    full-when (FileShort file at) ends served = absurd (told-all (short-untold s files files' file at ends.0))
     full-when (OutFault to at) ends served = absurd (counted ends.read ends.report.sum ends.report.counts)
     full-when (CounterFull which' total') ends served = filled which' total' ends.0
     full-when NoMemory ends served = absurd (served.memory refl)

@@ -11,6 +11,7 @@ use Rattle.ga_ports.specs.Stretch.{FilesStay, FilesWent, OutsWent, no_outs_call}
 use Rattle.ga_ports.specs.declared.file_counts.FileCounts.{FileCounts}
 use Rattle.ga_summary.specs.Rows.{SummaryValue}
 use Rattle.ga_words.specs.declared.settings.Settings.{Settings}
+use Rattle.ga_run.specs.Counting.{generated_log}
 use Rattle.ga_run.specs.Inputs.{ReadAll, MissesAt, HasRules, rules_file, inputs_of, Asks, CanServe}
 use Rattle.ga_run.specs.LogsRun.{HasRead, IsReportOf, IsTextOf}
 use Rattle.ga_run.specs.Reading.{AsksOnce, ReadsLog, MissesLog}
@@ -189,7 +190,7 @@ module _ (line : LineSetup) (s : Settings) (files files' : FilesView) (outs : Ou
     miss-counts : (place : ℕ) (fault : LogFault) → MissesAt s.logs place mid files' fault → SameFaults (counts-after fault files.counts) files'.counts
     miss-counts place fault h = miss-after h.name files h.mid files' fault (same-before h.front h.mid h.texts h.read) h.misses
 
-    pub ends-count : (stay : FilesStay files mid) (fault : CountFault) → StopsLogs (setup_of line s rules) s.logs mid files' fault → (CanServe s.logs mid → NoneFailed fault)
+    pub ends-count : (stay : FilesStay files mid) (fault : CountFault) → StopsLogs (setup_of line s rules) (generated_log s.generate) s.logs mid files' fault → (CanServe s.logs mid → NoneFailed fault)
         → EndsLogs line s files files' outs outs (status_of_count fault)
     ends-count stay (LogFailed place) h sure =
         stopped _ (miss-asked place Failed h) (
@@ -215,7 +216,7 @@ module _ (line : LineSetup) (s : Settings) (files files' : FilesView) (outs : Ou
     ends-count stay CountNoMemory (inr h) sure = stopped _ (read-asked h.front h.back h.logs h.split h.read) refl (same-before h.front files' h.logs h.read)
 
     -- the settings that gave their lists for the setup
-    module _ (t : Settings) (left : t ≡ record s { ranges = []; statics = []; ignore_status = [] }) (sum : SummaryValue) (counts : CountsLogs (setup_of line s rules) s.logs mid files' sum) (outs' : OutsView)
+    module _ (t : Settings) (left : t ≡ record s { ranges = []; statics = []; ignore_status = [] }) (sum : SummaryValue) (counts : CountsLogs (setup_of line s rules) (generated_log s.generate) s.logs mid files' sum) (outs' : OutsView)
         (errors : outs'.stderr ≡ outs.stderr) (told_outs : OutsWent outs outs') where
       text-as : (text : List ℕ) → IsTextOf (record s { ranges = []; statics = []; ignore_status = [] }) sum text → IsTextOf s sum text
       text-as text h = record { report = h.report; is_report = h.is_report; written = h.written }

@@ -23,9 +23,6 @@ none-some e = cc
 some-same : {p q : Counter × ℕ} → Some p ≡ Some q → p ≡ q
 some-same e = cc
 
-empty-front : {line : List ℕ} {lines : List (List ℕ)} → [] ≡ line ∷ lines → ⊥
-empty-front e = cc
-
 heads : {x y : List ℕ} {xs ys : List (List ℕ)} → x ∷ xs ≡ y ∷ ys → x ≡ y
 heads e = cc
 
@@ -74,14 +71,6 @@ fills-longer setup start front more which total h = record {
   come = h.come;
   full = h.full;
 }
-
--- no lines fill nothing
-pub fills-none : (setup : Setup) (start : Totals) (which : Counter) (total : ℕ) → FillsAmong setup start [] which total → ⊥
-fills-none setup start which total h = go h.front h.split h.come
-  where
-    go : (front : List (List ℕ)) → [] ≡ front ++ h.back → Come setup front h.outcomes → ⊥
-    go [] split come = none-some (sym (ap (over start) come) ∙ h.full)
-    go (line ∷ front) split come = empty-front split
 
 -- of two fronts of one list one is a front of the other
 pub fronts : (ls ms rest more : List (List ℕ)) → ls ++ rest ≡ ms ++ more → ((x : List (List ℕ)) × (ms ≡ ls ++ x)) ⊎ ((x : List (List ℕ)) × (ls ≡ ms ++ x))

@@ -17,7 +17,7 @@ use Rattle.ga_words.specs.declared.settings.Settings.{Settings}
 use Rattle.ga_run.specs.Inputs.{AreTold, HasRules, ReadAll, RulesAreTold, inputs_of, rules_file}
 use Rattle.ga_run.specs.LogsRun.{FillsCounter, FillsTold, HasGoodInput, HasRead, IsReportOf, RunsLogs, WasServed}
 use Rattle.ga_run.specs.OneRun.{Alike, HaveSameInputs, IsUntroubled, RunView, Wrote}
-use Rattle.ga_run.specs.Printing.{TakesOrStops, but_errors, delivered, file_of, target_of}
+use Rattle.ga_run.specs.Printing.{TakesOrStops, but_errors, delivered, report_file, target_of}
 use Rattle.ga_run.specs.Reading.{ReadsLog}
 use Rattle.ga_run.specs.Run.{AreRefused, HaveSetup, SayRun}
 use Rattle.ga_run.specs.Setups.{IsLineSetup}
@@ -189,7 +189,7 @@ module _ (words : List (List ℕ)) (s : Settings) (line : LineSetup) (says : Say
   over r u = u.is_run.runs s line says is
 
   ending : (r : RunView) → IsUntroubled words r → IsEnding r.status
-  ending r u = ended r.status (λ good. (over r u).complete (inr (u.faults, u.shorts)) (inr (output-still words r u (file_of s.output.name))) good) u.fed
+  ending r u = ended r.status (λ good. (over r u).complete (inr (u.faults, u.shorts)) (inr (output-still words r u (report_file s.generate s.output.name))) good) u.fed
 
   -- where one ended for a bad rule or a full counter, so did the other
   module _ (a b : RunView) (u : IsUntroubled words a) (v : IsUntroubled words b) (same : Same a.files b.files (inputs_of s)) where
@@ -265,8 +265,8 @@ module _ (words : List (List ℕ)) (a b : RunView) (u : IsUntroubled words a) (v
         let told_report : IsReportOf line s h.read.rules h.read.logs k.text =
         subst (λ (ls : List (List ℕ)). IsReportOf line s h.read.rules ls k.text) logs (subst (λ (rs : List Rule). IsReportOf line s rs k.read.logs k.text) rules k.report) in
         let text : k.text ≡ h.text = report h.read.rules h.read.logs k.text h.text told_report h.report in
-        alike Done (λ ws name n. n) e f (Some (file_of s.output.name, h.text)) h.printed
-        (subst (λ (t : List ℕ). b.outs' ≡ but_errors b.outs' (delivered (file_of s.output.name) t b.outs)) text k.printed)
+        alike Done (λ ws name n. n) e f (Some (report_file s.generate s.output.name, h.text)) h.printed
+        (subst (λ (t : List ℕ). b.outs' ≡ but_errors b.outs' (delivered (report_file s.generate s.output.name) t b.outs)) text k.printed)
 
     logs-alike : Alike a b
     logs-alike = go (ending words s line says is a u) (ending words s line says is b v)

@@ -1,5 +1,5 @@
 -- From how a run ended to what it is, once the fault line is written.
-use Rattle.std.proofs.Common.{◌≡◌, ◌≢◌, ◌⊎◌, ◌↔◌, ℕ, ◌≤◌, arith, true, false, List, refl, ap, sym, ◌∙◌, subst, inl, inr, [], Result, Ok, Err}
+use Rattle.std.proofs.Common.{Option, ◌≡◌, ◌≢◌, ◌⊎◌, ◌↔◌, ℕ, ◌≤◌, arith, true, false, List, refl, ap, sym, ◌∙◌, subst, inl, inr, [], Result, Ok, Err}
 use Rattle.std.proofs.lemmas.Bool.{false≢true}
 use Rattle.ga_base.specs.declared.formats.FormatFault.{FormatFault}
 use Rattle.ga_line.specs.declared.setup.LineSetup.{LineSetup}
@@ -16,7 +16,7 @@ use Rattle.ga_run.specs.LogsRun.{RunsLogs}
 use Rattle.ga_words.specs.declared.settings.Output.{Output}
 use Rattle.std.specs.Option.{unwrap_or}
 use Rattle.std.specs.Prelude.{slice_get}
-use Rattle.ga_run.specs.Printing.{ChangesOnly, TakesOrStops, but_errors, file_of}
+use Rattle.ga_run.specs.Printing.{ChangesOnly, TakesOrStops, but_errors, report_file}
 use Rattle.ga_run.specs.Run.{AreRefused, AreUnbuilt, HaveRefused, HaveSetup, IsRun, SameFaults, SayRun, faults_after}
 use Rattle.ga_run.specs.Setups.{IsLineSetup, IsRefused, is_unbuilt}
 use Rattle.ga_run.specs.Statuses.{fault_line, target_name, NamesFailed}
@@ -201,7 +201,7 @@ module _ (one : OneWords) (outcome : OneOutcome) (words : List (List ℕ)) where
           bad = λ name text place named told_is. bad-by line s count reading files files' outs mid name text place named told_is status ended.ends;
           full = λ which total told_all. (
             λ e. (fills-told line s files files' which total told_all (at (CounterFull which total) e).0, record { file = λ file f. cc; memory = λ f. cc }),
-            λ p. full-when line s count reading files files' outs mid p.0.front p.0.back p.0.rules p.0.logs which total p.0.split p.0.rules_told p.0.logs_told p.0.fills status ended.ends p.1,
+            λ p. full-when line s count reading files files' outs mid told_all p.0.front p.0.back p.0.rules p.0.logs which total p.0.split p.0.rules_told p.0.logs_told p.0.fills status ended.ends p.1,
           );
           complete = complete-by line s files files' outs mid outs' status changed more ended.ends ended.faults;
         }
@@ -316,6 +316,6 @@ named-same old new keeps (FileFault Rules) = ap (λ o. unwrap_or o []) keeps.bro
 named-same old new keeps (FileFault (Log place)) = ap (λ (logs : List (List ℕ)). unwrap_or (slice_get logs place) []) keeps.logs
 named-same old new keeps (FileShort Rules at) = ap (λ o. unwrap_or o []) keeps.browsers_file
 named-same old new keeps (FileShort (Log place) at) = ap (λ (logs : List (List ℕ)). unwrap_or (slice_get logs place) []) keeps.logs
-named-same old new keeps (OutFault to at) = ap (λ (o : Output). target_name (file_of o.name)) keeps.output
+named-same old new keeps (OutFault to at) = ap (λ (o : Output). target_name (report_file new.generate o.name)) keeps.output ∙ ap (λ (n : Option ℕ). target_name (report_file n old.output.name)) keeps.generate
 named-same old new keeps (CounterFull which total) = refl
 named-same old new keeps NoMemory = refl

@@ -5,6 +5,7 @@ use Rattle.ga_base.specs.declared.counts.Totals.{Totals}
 use Rattle.ga_base.specs.declared.key.Key.{Key}
 use Rattle.ga_base.specs.declared.record.Line.{Line}
 use Rattle.ga_base.specs.declared.record.Line.TheVariants.{Skipped, Failed, Good}
+use Rattle.ga_generate.specs.Lines.{generated}
 use Rattle.ga_line.specs.Lines.{lines}
 use Rattle.ga_line.specs.Records.{IsLineOf}
 use Rattle.ga_run.specs.declared.setup.Setup.{Setup}
@@ -64,3 +65,12 @@ pub record FillsAmong (setup : Setup) (start : Totals) (all : List (List ℕ)) (
 -- the lines of logs, in their order
 abbrev pub all_lines : List (List ℕ) → List (List ℕ)
 all_lines logs = flat_map (λ log. lines log true) logs
+
+-- the generator's lines as a log, where so many are asked for
+abbrev pub generated_log : Option ℕ → List (List ℕ)
+generated_log None = []
+generated_log (Some n) = generated n ∷ []
+
+-- the lines that a run counts: the generator's, where they are asked for, and those of its logs
+abbrev pub counted_lines : Option ℕ → List (List ℕ) → List (List ℕ)
+counted_lines n logs = all_lines (generated_log n ++ logs)

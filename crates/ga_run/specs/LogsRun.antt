@@ -1,9 +1,10 @@
 -- What the run over the files that settings name is: the browsers file is read, the logs are read and counted one after the
 -- other, and the report is delivered.
-use Rattle.std.specs.Prelude.{◌≡◌, ◌≢◌, ℕ, ◌≤◌, ◌⊎◌, ◌↔◌, ◌+◌, true, ⊤, List, ◌++◌, length, Some, None, slice_get}
+use Rattle.std.specs.Prelude.{◌≡◌, ◌≢◌, ℕ, ◌≤◌, ◌⊎◌, ◌↔◌, ◌+◌, true, ⊤, List, ◌++◌, length, Option, Some, None, slice_get}
 use Rattle.ga_agents.specs.declared.row.Rule.{Rule}
 use Rattle.ga_agents.specs.RulesFile.{IsBadLine}
 use Rattle.ga_base.specs.declared.counts.Counter.{Counter}
+use Rattle.ga_generate.specs.Summary.{summary_text}
 use Rattle.ga_line.specs.declared.setup.LineSetup.{LineSetup}
 use Rattle.ga_ports.specs.Counts.{Rose}
 use Rattle.ga_ports.specs.Files.{FilesView, told, is_absent}
@@ -18,9 +19,9 @@ use Rattle.ga_summary.specs.Rows.{SummaryValue}
 use Rattle.ga_words.specs.declared.settings.Kind.{Kind}
 use Rattle.ga_words.specs.declared.settings.Kind.TheVariants.{Json, Csv}
 use Rattle.ga_words.specs.declared.settings.Settings.{Settings}
-use Rattle.ga_run.specs.Counting.{CountsLines, FillsAmong, all_lines, no_totals}
+use Rattle.ga_run.specs.Counting.{CountsLines, FillsAmong, counted_lines, no_totals}
 use Rattle.ga_run.specs.Inputs.{ReadAll, MissesAt, HasRules, rules_file, inputs_of, Asks, CanServe, AreTold, RulesAreTold}
-use Rattle.ga_run.specs.Printing.{FailsWriting, OutputCanTake, but_errors, delivered, file_of, target_of}
+use Rattle.ga_run.specs.Printing.{FailsWriting, OutputCanTake, but_errors, delivered, report_file, target_of}
 use Rattle.ga_run.specs.Reading.{ReadsLog, MissesLog}
 use Rattle.ga_run.specs.Setups.{setup_of}
 use Rattle.ga_run.specs.declared.reading.LogFault.{LogFault}
@@ -35,16 +36,22 @@ abbrev pub text_as : Kind → Report → List ℕ
 text_as Json report = json_text report
 text_as Csv report = csv_text report
 
--- the text is the report on a summary, as the settings say: its panels, the length of its lists and the kind of text
+-- what is printed of a report: itself, or the six lines in its place where its lines are the generator's
+abbrev pub shown : Option ℕ → Kind → Report → List ℕ
+shown None kind report = text_as kind report
+shown (Some lines) kind report = summary_text lines report.general (json_text report)
+
+-- the text is the report on a summary, as the settings say: its panels, the length of its lists and what is printed of it
 pub record IsTextOf (s : Settings) (sum : SummaryValue) (text : List ℕ) : Type 0 where
   pub report : Report
   pub is_report : IsReport (told_value sum) s.panels s.max_items report
-  pub written : text ≡ text_as s.output.kind report
+  pub written : text ≡ shown s.generate s.output.kind report
 
--- the text is the report of these logs, whose lines are read and counted as the settings say
+-- the text is the report of these logs and of the generator's lines, where they are asked for; the lines are read and counted
+-- as the settings say
 pub record IsReportOf (line : LineSetup) (s : Settings) (rules : List Rule) (logs : List (List ℕ)) (text : List ℕ) : Type 0 where
   pub sum : SummaryValue
-  pub counts : CountsLines (setup_of line s rules) no_totals (all_lines logs) sum
+  pub counts : CountsLines (setup_of line s rules) no_totals (counted_lines s.generate logs) sum
   pub written : IsTextOf s sum text
 
 -- the browsers file and these logs were read whole
@@ -60,18 +67,18 @@ pub record Finishes (line : LineSetup) (s : Settings) (files files' : FilesView)
   pub read : HasRead s s.logs files files'
   pub text : List ℕ
   pub report : IsReportOf line s read.rules read.logs text
-  pub printed : outs' ≡ but_errors outs' (delivered (file_of s.output.name) text outs)
+  pub printed : outs' ≡ but_errors outs' (delivered (report_file s.generate s.output.name) text outs)
 
 -- the report's file couldn't be made, or its target took the front of it up to a place, and failed there; where it was
 -- told that it can take the report, some call of the targets wanted memory
 pub record StopsPrinting (line : LineSetup) (s : Settings) (files files' : FilesView) (outs outs' : OutsView)
     (to : To) (at : ℕ) : Type 0 where
-  pub target_is : to ≡ target_of (file_of s.output.name)
+  pub target_is : to ≡ target_of (report_file s.generate s.output.name)
   pub read : HasRead s s.logs files files'
   pub text : List ℕ
   pub report : IsReportOf line s read.rules read.logs text
-  pub stops : FailsWriting (file_of s.output.name) text at outs outs'
-  pub unsure : OutputCanTake (target_of (file_of s.output.name)) (length text) outs → Rose outs.starved outs'.starved
+  pub stops : FailsWriting (report_file s.generate s.output.name) text at outs outs'
+  pub unsure : OutputCanTake (target_of (report_file s.generate s.output.name)) (length text) outs → Rose outs.starved outs'.starved
 
 -- this file wasn't read whole, for this fault; those before it were
 abbrev pub Misses : Settings → FilesView → FilesView → Input → LogFault → Type 0
@@ -92,15 +99,16 @@ pub record HasBadRule (s : Settings) (files files' : FilesView) (line : ℕ) : T
   pub read : ReadsLog name files files' text
   pub bad : IsBadLine text line
 
--- the logs up to some one were read, and their lines up to one of them fill a counter
+-- the logs up to some one were read, and the lines that are counted then, up to one of them, fill a counter
 pub record FillsCounter (line : LineSetup) (s : Settings) (files files' : FilesView) (which : Counter) (total : ℕ) : Type 0 where
   pub front : List (List ℕ)
   pub back : List (List ℕ)
   pub split : s.logs ≡ front ++ back
   pub read : HasRead s front files files'
-  pub fills : FillsAmong (setup_of line s read.rules) no_totals (all_lines read.logs) which total
+  pub fills : FillsAmong (setup_of line s read.rules) no_totals (counted_lines s.generate read.logs) which total
 
--- it is told what the browsers file and the logs up to some one hold, and their lines up to one of them fill a counter
+-- it is told what the browsers file and the logs up to some one hold, and the lines that are counted then, up to one of them,
+-- fill a counter
 pub record FillsTold (line : LineSetup) (s : Settings) (files : FilesView) (which : Counter) (total : ℕ) : Type 0 where
   pub front : List (List ℕ)
   pub back : List (List ℕ)
@@ -109,7 +117,7 @@ pub record FillsTold (line : LineSetup) (s : Settings) (files : FilesView) (whic
   pub rules_told : RulesAreTold s.browsers_file files rules
   pub logs : List (List ℕ)
   pub logs_told : AreTold front files logs
-  pub fills : FillsAmong (setup_of line s rules) no_totals (all_lines logs) which total
+  pub fills : FillsAmong (setup_of line s rules) no_totals (counted_lines s.generate logs) which total
 
 -- the files served: it was told that they can, or no count of their failed or short calls rose
 abbrev pub FilesServed : Settings → FilesView → FilesView → Type 0
@@ -121,8 +129,8 @@ FilesServed s files files' = CanServe (inputs_of s) files
 abbrev pub OutputServed : LineSetup → Settings → OutsView → OutsView → Type 0
 OutputServed line s outs outs' =
     (((rules : List Rule) (logs : List (List ℕ)) (text : List ℕ) → IsReportOf line s rules logs text
-    → OutputCanTake (target_of (file_of s.output.name)) (length text) outs) × ¬ Rose outs.starved outs'.starved)
-    ⊎ (¬ Rose (target (target_of (file_of s.output.name)) outs).faults (target (target_of (file_of s.output.name)) outs').faults)
+    → OutputCanTake (target_of (report_file s.generate s.output.name)) (length text) outs) × ¬ Rose outs.starved outs'.starved)
+    ⊎ (¬ Rose (target (target_of (report_file s.generate s.output.name)) outs).faults (target (target_of (report_file s.generate s.output.name)) outs').faults)
 
 -- the run ended neither for a bad rule nor for a full counter
 pub record HasGoodInput (status : Status) : Type 0 where

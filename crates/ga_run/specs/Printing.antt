@@ -41,6 +41,11 @@ abbrev pub file_of : List ℕ → Option (List ℕ)
 file_of [] = None
 file_of (byte ∷ bytes) = Some (byte ∷ bytes)
 
+-- and a run over generated lines has none, whatever the settings name
+abbrev pub report_file : Option ℕ → List ℕ → Option (List ℕ)
+report_file None name = file_of name
+report_file (Some lines) name = None
+
 -- the target that a report goes to: its file, where it has a name
 abbrev pub target_of : Option (List ℕ) → To
 target_of None = Stdout

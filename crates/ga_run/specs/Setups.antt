@@ -1,6 +1,6 @@
 -- What the settings of a run come to: the setup with which lines are read and counted, or the first format that is
 -- refused.
-use Rattle.std.specs.Prelude.{◌≡◌, ℕ, Bool, ◌||◌, is_some, List, unwrap_or, Result, Ok, Err, codes}
+use Rattle.std.specs.Prelude.{◌≡◌, ℕ, Bool, ◌||◌, List, unwrap_or, Result, Ok, Err, codes}
 use Rattle.ga_agents.specs.declared.row.Rule.{Rule}
 use Rattle.ga_base.specs.declared.formats.FormatItem.{FormatItem}
 use Rattle.ga_base.specs.declared.formats.FormatFault.{FormatFault}
@@ -16,9 +16,9 @@ use Rattle.ga_run.specs.declared.setup.Setup.{Setup}
 use Rattle.ga_run.specs.declared.status.Which.{Which}
 use Rattle.ga_run.specs.declared.status.Which.TheVariants.{Log, Date, Time}
 
--- the settings ask for the database or the generator, which aren't built
+-- the settings ask for the database, which isn't built
 abbrev pub is_unbuilt : Settings → Bool
-is_unbuilt s = s.persist || (s.restore || is_some s.generate)
+is_unbuilt s = s.persist || s.restore
 
 -- the log format, by its text or its name; where none is given it is the combined one, which the generator's lines have
 abbrev pub format_word : Settings → List ℕ

@@ -9,7 +9,7 @@ use Rattle.ga_words.specs.WordsOf.{WordsOf}
 use Rattle.ga_words.specs.declared.fault.WordFault.{WordFault}
 use Rattle.ga_words.specs.declared.fault.WordFault.TheVariants.{UnknownOption, MissingValue, BadValue, NoFormat, NoInput, Conflict, NoMemory as WordNoMemory}
 use Rattle.ga_words.specs.declared.settings.Settings.{Settings}
-use Rattle.ga_run.specs.Printing.{file_of, target_of}
+use Rattle.ga_run.specs.Printing.{report_file, target_of}
 use Rattle.ga_run.specs.declared.status.Input.{Input}
 use Rattle.ga_run.specs.declared.status.Input.TheVariants.{Rules as RulesInput, Log as LogInput}
 use Rattle.ga_run.specs.declared.status.Status.{Status}
@@ -92,8 +92,8 @@ target_name None = codes "standard output"
 target_name (Some name) = name
 
 abbrev pub NamesTarget : List (List ℕ) → To → List ℕ → Type 0
-NamesTarget words to name = (s : Settings) × WordsOf words (Ok s) × (to ≡ target_of (file_of s.output.name))
-    × (name ≡ target_name (file_of s.output.name))
+NamesTarget words to name = (s : Settings) × WordsOf words (Ok s) × (to ≡ target_of (report_file s.generate s.output.name))
+    × (name ≡ target_name (report_file s.generate s.output.name))
 
 -- the name of what failed, as the words give it; a status without one leaves it empty
 abbrev pub NamesFailed : List (List ℕ) → Status → List ℕ → Type 0

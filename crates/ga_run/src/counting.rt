@@ -4,15 +4,16 @@ ghost use Rattle.ga_base.specs.declared.record.Line.TheVariants.{Failed as SaysN
 ghost use Rattle.ga_line.specs.Bounds.{RecordBounds};
 ghost use Rattle.ga_line.specs.Lines.{lines};
 ghost use Rattle.ga_ports.specs.Stretch.{FilesWent};
-ghost use Rattle.ga_run.specs.Counting.{CountsLines, FillsAmong, no_totals};
+ghost use Rattle.ga_run.specs.Counting.{CountsLines, FillsAmong, all_lines, generated_log, no_totals};
 ghost use Rattle.ga_run.specs.Inputs.{CanServe};
 ghost use Rattle.ga_run.specs.Reading.{FilesCanServe};
 ghost use Rattle.ga_run.specs.Steps.Counting.{CountsLine, CountsSaid, FillsAtLine, FillsSaid};
-ghost use Rattle.ga_run.specs.Steps.Logs.{CountsLogs, CountsOneLog, NoneFailed, StopsLogs, StopsOneLog, fault_of_log, fault_of_merge};
+ghost use Rattle.ga_run.specs.Steps.Logs.{CountsLogs, CountsOneLog, NoneFailed, StopsGenerated, StopsLogs, StopsOneLog, fault_of_log, fault_of_merge};
 
 use crate::Setup;
 use crate::reading::{LogFault, read_log};
 use ga_base::{Counter, Line, Record, Text};
+use ga_generate::generate;
 use ga_line::{Lines, read_line};
 use ga_panels::{PanelSetup, is_excluded, keys_of, visitor_of};
 use ga_ports::Files;
@@ -57,24 +58,44 @@ impl From<MergeFault> for CountFault {
     }
 }
 
-/// The sum of all lines of these logs, which are read one after the other.
+/// The sum of the generator's lines, where so many are asked for, and of all lines of these logs, which are read one after
+/// the other.
 pub fn count_logs<F: Files>(
     alloc: Global,
     setup: &Setup,
+    generated: Option<u32>,
     names: &[Text],
     files: &mut F,
 ) -> Result<Summary, CountFault>
-    ensures ok { IfOk result (CountsLogs setup.now names.now (F.view files.old) (F.view files.new)) }
-    ensures stops { IfErr result (StopsLogs setup.now names.now (F.view files.old) (F.view files.new)) }
+    ensures ok { IfOk result (CountsLogs setup.now (generated_log generated) names.now (F.view files.old) (F.view files.new)) }
+    ensures stops { IfErr result (StopsLogs setup.now (generated_log generated) names.now (F.view files.old) (F.view files.new)) }
     ensures calls { FilesWent (F.view files.old) (F.view files.new) }
     ensures sure { CanServe names.now (F.view files.old) → IfErr result NoneFailed }
 {
     files_stay();
-    let mut summary = Summary::empty(alloc);
+    let mut summary = count_generated(alloc, setup, generated)?;
     for (place, name) in names.iter().enumerate() {
         count_one(alloc, setup, place as u64, name, files, &mut summary)?;
     }
     Ok(summary)
+}
+
+/// The sum of the generator's lines, where so many are asked for.
+fn count_generated(
+    alloc: Global,
+    setup: &Setup,
+    generated: Option<u32>,
+) -> Result<Summary, MergeFault>
+    ensures ok { IfOk result (CountsLines setup.now no_totals (all_lines (generated_log generated))) }
+    ensures stops { IfErr result (StopsGenerated setup.now (generated_log generated)) }
+{
+    let mut sum = Summary::empty(alloc);
+    let Some(n) = generated else {
+        return Ok(sum);
+    };
+    let log = generate(alloc, n)?;
+    count_log(alloc, setup, log.bytes(), &mut sum)?;
+    Ok(sum)
 }
 
 /// Reads a log, and counts its lines.

@@ -1,8 +1,11 @@
 ghost use Rattle.std.specs.Prelude.{◌≡◌, IfOk, option_map};
 ghost use Rattle.std.specs.Option.{option_copied};
 ghost use Rattle.ga_ports.specs.Stretch.{OutsWent};
-ghost use Rattle.ga_run.specs.LogsRun.{IsTextOf};
-ghost use Rattle.ga_run.specs.Printing.{file_of, target_of};
+ghost use Rattle.ga_generate.specs.Summary.{summary_text};
+ghost use Rattle.ga_print.specs.Json.{json_text};
+ghost use Rattle.ga_report.specs.Printable.{IsPrintable};
+ghost use Rattle.ga_run.specs.LogsRun.{IsTextOf, text_as};
+ghost use Rattle.ga_run.specs.Printing.{report_file, target_of};
 ghost use Rattle.ga_run.specs.Run.{IsRun};
 ghost use Rattle.ga_run.specs.Statuses.{target_name};
 ghost use Rattle.ga_run.specs.Steps.Run.{EndsLogs, EndsReport, EndsRun, KeepsNames, failed_name, input_name, status_of_count, status_of_rules, status_of_words};
@@ -16,14 +19,15 @@ use crate::setups::{SetupFault, is_unbuilt, line_setup, panel_setup};
 use crate::{Input, Setup, Status, laws};
 use ga_agents::laws::one_reading;
 use ga_base::{Bytes, NoMemory, Text};
+use ga_generate::summary;
 use ga_line::LineSetup;
 use ga_ports::laws::files_stay;
 use ga_ports::{Files, Outs, To};
 use ga_print::{csv, json};
-use ga_report::rows;
+use ga_report::{Report, rows};
 use ga_summary::Summary;
 use ga_words::laws::one_reading as one_reading_of_words;
-use ga_words::{Kind, Output, Settings, WordFault, read_words};
+use ga_words::{Kind, Settings, WordFault, read_words};
 use std::alloc::Global;
 
 /// Runs goaccess over the words of a command line, without the program's name.
@@ -73,7 +77,7 @@ fn failed_name<'a>(settings: &'a Settings, status: &Status) -> &'a [u8]
 {
     match status {
         Status::FileFault { file } | Status::FileShort { file, .. } => input_name(settings, *file),
-        Status::OutFault { .. } => target_name(&settings.output),
+        Status::OutFault { .. } => target_name(settings),
         _ => b"",
     }
 }
@@ -93,23 +97,24 @@ fn input_name(settings: &Settings, file: Input) -> &[u8]
 }
 
 /// What a fault line calls the report's target.
-fn target_name(output: &Output) -> &[u8]
-    ensures { result.now ≡ target_name (file_of output.now.name) }
+fn target_name(settings: &Settings) -> &[u8]
+    ensures { result.now ≡ target_name (report_file settings.now.generate settings.now.output.name) }
 {
-    match report_file(output) {
+    match report_file(settings) {
         None => b"standard output",
         Some(name) => name.bytes(),
     }
 }
 
-/// The name of the report's file, if it has one.
-fn report_file(output: &Output) -> Option<&Text>
-    ensures { option_map (λ name. name.now) result ≡ file_of output.now.name }
+/// The name of the report's file, if it has one. A run over generated lines has none.
+fn report_file(settings: &Settings) -> Option<&Text>
+    ensures { option_map (λ name. name.now) result ≡ report_file settings.now.generate settings.now.output.name }
 {
-    if output.name.bytes().is_empty() {
+    let name = &settings.output.name;
+    if settings.generate.is_some() || name.bytes().is_empty() {
         None
     } else {
-        Some(&output.name)
+        Some(name)
     }
 }
 
@@ -154,7 +159,13 @@ fn run_files<F: Files, O: Outs>(
         line,
         panels: panel_setup(alloc, settings, rules),
     };
-    match count_logs(alloc, &setup, settings.logs.items(), files) {
+    match count_logs(
+        alloc,
+        &setup,
+        settings.generate,
+        settings.logs.items(),
+        files,
+    ) {
         Ok(summary) => report(alloc, settings, &summary, outs),
         Err(fault) => status_of_count(fault),
     }
@@ -166,10 +177,10 @@ fn report<O: Outs>(alloc: Global, settings: &Settings, summary: &Summary, outs: 
     ensures errors { (O.view outs.new).stderr ≡ (O.view outs.old).stderr }
     ensures calls { OutsWent (O.view outs.old) (O.view outs.new) }
 {
-    let Ok(text) = summary_text(alloc, settings, summary) else {
+    let Ok(text) = text_of(alloc, settings, summary) else {
         return Status::NoMemory;
     };
-    let file = report_file(&settings.output);
+    let file = report_file(settings);
     let to = target_of(file);
     match deliver(outs, file, text.bytes()) {
         Ok(()) => Status::Done,
@@ -217,13 +228,33 @@ fn status_of_count(fault: CountFault) -> Status
     }
 }
 
-/// The text of the report on a summary.
-fn summary_text(alloc: Global, settings: &Settings, summary: &Summary) -> Result<Bytes, NoMemory>
+/// What is printed of the report on a summary.
+fn text_of(alloc: Global, settings: &Settings, summary: &Summary) -> Result<Bytes, NoMemory>
     ensures { IfOk result (λ text. IsTextOf settings.now summary.now text) }
 {
     let report = rows(alloc, summary, &settings.panels, settings.max_items)?;
-    match settings.output.kind {
-        Kind::Json => json(alloc, &report),
-        Kind::Csv => csv(alloc, &report),
+    match settings.generate {
+        None => report_text(alloc, settings.output.kind, &report),
+        Some(lines) => generated_text(alloc, lines, &report),
     }
+}
+
+/// A report as this kind of text.
+fn report_text(alloc: Global, kind: Kind, report: &Report) -> Result<Bytes, NoMemory>
+    requires { IsPrintable report.now }
+    ensures { IfOk result (λ text. text ≡ text_as kind report.now) }
+{
+    match kind {
+        Kind::Json => json(alloc, report),
+        Kind::Csv => csv(alloc, report),
+    }
+}
+
+/// What is printed of a report on so many generated lines.
+fn generated_text(alloc: Global, lines: u32, report: &Report) -> Result<Bytes, NoMemory>
+    requires { IsPrintable report.now }
+    ensures { IfOk result (λ text. text ≡ summary_text lines report.now.general (json_text report.now)) }
+{
+    let json = json(alloc, report)?;
+    summary(alloc, lines, &report.general, json.bytes())
 }

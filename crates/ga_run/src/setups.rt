@@ -40,11 +40,11 @@ impl From<NoMemory> for SetupFault {
     }
 }
 
-/// Whether the settings ask for the database or the generator, which aren't built.
+/// Whether the settings ask for the database, which isn't built.
 pub fn is_unbuilt(settings: &Settings) -> bool
     ensures { result ≡ is_unbuilt settings.now }
 {
-    settings.persist || settings.restore || settings.generate.is_some()
+    settings.persist || settings.restore
 }
 
 /// How the lines of the logs are read, as the settings say.

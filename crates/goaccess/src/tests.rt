@@ -186,12 +186,16 @@ Working; these change no report, and have no effect yet:
   --chunk-size N      lines that a worker takes at once, 1 to 32768; default
                       1024
 
-Database and generator, not built yet; but for --db-path each ends with status
-1 and the line 'goaccess: not built':
+Generator:
+  --generate N        a run over N lines of its own in place of logs, 1 to
+                      1000000, that prints six lines in place of its report;
+                      default none
+
+Database, not built yet; but for --db-path each ends with status 1 and the line
+'goaccess: not built':
   --persist           keeps the run in the database; default off
   --restore           reports on the runs in the database too; default off
   --db-path FOLDER    where the database is; default /tmp
-  --generate N        a run over N lines of its own, 1 to 1000000; default none
 
 About itself, as the only word:
   --help              shows this text

@@ -18,20 +18,20 @@ use Rattle.ga_run.specs.declared.rules.RulesFault.{RulesFault}
 use Rattle.ga_run.specs.declared.rules.RulesFault.TheVariants.{Unread, Bad}
 use Rattle.ga_run.specs.declared.setup.Setup.{Setup}
 
--- the logs were read and counted
-pub record CountsLogs (setup : Setup) (names : List (List ℕ)) (old new : FilesView) (sum : SummaryValue) : Type 0 where
+-- the logs were read and counted, behind those with which the counting began
+pub record CountsLogs (setup : Setup) (begun names : List (List ℕ)) (old new : FilesView) (sum : SummaryValue) : Type 0 where
   pub logs : List (List ℕ)
   pub read : ReadAll names old new logs
-  pub counts : CountsLines setup no_totals (all_lines logs) sum
+  pub counts : CountsLines setup no_totals (all_lines (begun ++ logs)) sum
 
 -- some logs were read, and their lines fill a counter
-pub record FillsLogs (setup : Setup) (names : List (List ℕ)) (old new : FilesView) (which : Counter) (total : ℕ) : Type 0 where
+pub record FillsLogs (setup : Setup) (begun names : List (List ℕ)) (old new : FilesView) (which : Counter) (total : ℕ) : Type 0 where
   pub front : List (List ℕ)
   pub back : List (List ℕ)
   pub split : names ≡ front ++ back
   pub logs : List (List ℕ)
   pub read : ReadAll front old new logs
-  pub fills : FillsAmong setup no_totals (all_lines logs) which total
+  pub fills : FillsAmong setup no_totals (all_lines (begun ++ logs)) which total
 
 -- some logs were read, and then memory ran out
 pub record ReadSome (names : List (List ℕ)) (old new : FilesView) : Type 0 where
@@ -42,11 +42,16 @@ pub record ReadSome (names : List (List ℕ)) (old new : FilesView) : Type 0 whe
   pub read : ReadAll front old new logs
 
 -- why the logs weren't counted
-abbrev pub StopsLogs : Setup → List (List ℕ) → FilesView → FilesView → CountFault → Type 0
-StopsLogs setup names old new (LogFailed place) = MissesAt names place old new Failed
-StopsLogs setup names old new (LogShort place at) = MissesAt names place old new (Short at)
-StopsLogs setup names old new (Full which total) = FillsLogs setup names old new which total
-StopsLogs setup names old new CountNoMemory = ((place : ℕ) × MissesAt names place old new NoMemory) ⊎ ReadSome names old new
+abbrev pub StopsLogs : Setup → List (List ℕ) → List (List ℕ) → FilesView → FilesView → CountFault → Type 0
+StopsLogs setup begun names old new (LogFailed place) = MissesAt names place old new Failed
+StopsLogs setup begun names old new (LogShort place at) = MissesAt names place old new (Short at)
+StopsLogs setup begun names old new (Full which total) = FillsLogs setup begun names old new which total
+StopsLogs setup begun names old new CountNoMemory = ((place : ℕ) × MissesAt names place old new NoMemory) ⊎ ReadSome names old new
+
+-- why the generator's lines weren't counted
+abbrev pub StopsGenerated : Setup → List (List ℕ) → MergeFault → Type 0
+StopsGenerated setup begun (CounterFull which total) = FillsAmong setup no_totals (all_lines begun) which total
+StopsGenerated setup begun MergeNoMemory = ⊤
 
 -- the fault of the log at a place, and of counting
 abbrev pub fault_of_log : ℕ → LogFault → CountFault

@@ -12,7 +12,7 @@ use Rattle.ga_words.specs.declared.fault.WordFault.TheVariants.{NoMemory as Word
 use Rattle.ga_words.specs.declared.settings.Settings.{Settings}
 use Rattle.ga_run.specs.Inputs.{Asks, inputs_of}
 use Rattle.ga_run.specs.LogsRun.{IsTextOf, Finishes, StopsPrinting, FailsInput, Misses, HasBadRule, FillsCounter}
-use Rattle.ga_run.specs.Printing.{FailsWriting, OutputCanTake, but_errors, delivered, file_of, target_of}
+use Rattle.ga_run.specs.Printing.{FailsWriting, OutputCanTake, but_errors, delivered, report_file, target_of}
 use Rattle.ga_run.specs.Run.{SameFaults, faults_after}
 use Rattle.ga_run.specs.Setups.{IsLineSetup, IsRefused, is_unbuilt}
 use Rattle.ga_run.specs.Statuses.{target_name}
@@ -68,13 +68,14 @@ input_name s (Log place) = unwrap_or (slice_get s.logs place) []
 abbrev pub failed_name : Settings → Status → List ℕ
 failed_name s (FileFault file) = input_name s file
 failed_name s (FileShort file at) = input_name s file
-failed_name s (OutFault to at) = target_name (file_of s.output.name)
+failed_name s (OutFault to at) = target_name (report_file s.generate s.output.name)
 failed_name s _ = []
 
 -- the names that settings have are the same
 pub record KeepsNames (old new : Settings) : Type 0 where
   pub browsers_file : new.browsers_file ≡ old.browsers_file
   pub output : new.output ≡ old.output
+  pub generate : new.generate ≡ old.generate
   pub logs : new.logs ≡ old.logs
 
 -- the status of words that say no settings, of rules that weren't read, and of logs that weren't counted
@@ -96,16 +97,16 @@ status_of_count CountNoMemory = NoMemory
 
 -- the report on a summary wasn't delivered
 pub record StopsReport (s : Settings) (sum : SummaryValue) (outs outs' : OutsView) (to : To) (at : ℕ) : Type 0 where
-  pub target_is : to ≡ target_of (file_of s.output.name)
+  pub target_is : to ≡ target_of (report_file s.generate s.output.name)
   pub text : List ℕ
   pub written : IsTextOf s sum text
-  pub stops : FailsWriting (file_of s.output.name) text at outs outs'
-  pub unsure : OutputCanTake (target_of (file_of s.output.name)) (length text) outs → Rose outs.starved outs'.starved
+  pub stops : FailsWriting (report_file s.generate s.output.name) text at outs outs'
+  pub unsure : OutputCanTake (target_of (report_file s.generate s.output.name)) (length text) outs → Rose outs.starved outs'.starved
 
 -- how the delivery of the report on a summary ended
 abbrev pub EndsReport : Settings → SummaryValue → OutsView → OutsView → Status → Type 0
 EndsReport s sum outs outs' Done = (text : List ℕ) × IsTextOf s sum text
-    × (outs' ≡ but_errors outs' (delivered (file_of s.output.name) text outs))
+    × (outs' ≡ but_errors outs' (delivered (report_file s.generate s.output.name) text outs))
 EndsReport s sum outs outs' (OutFault to at) = StopsReport s sum outs outs' to at
 EndsReport s sum outs outs' NoMemory = outs' ≡ outs
 EndsReport s sum outs outs' _ = ⊥

@@ -594,6 +594,50 @@ id,parent_id,panel,hits,hits%,visitors,visitors%,bytes,bytes%,avgts,cumts,maxts,
 1,,hosts,1,25.00,1,33.33,0,0.00,0,0,0,,,192.0.2.2
 
 =====
+--generate=1000
+-----
+
+-----
+0
+generated 1000
+valid 1000
+failed 0
+visitors 900
+bandwidth 499500
+report 2eb338646d6ed3b5672290dcd3f3b71802dad6ac3ba2458f03e28054adea440d
+
+=====
+--generate|30|-o|r.csv|--ignore-status=404|--browsers-file=agents.txt|--max-items=2
+-----
+
++++++
+
++++++
+Firefox\tCrawlers
+
+-----
+0
+generated 30
+valid 27
+failed 0
+visitors 27
+bandwidth 378
+report 2cfe744d339d943081c6c1e7d844a74047f9311a2125d2bf1deafa78031fb48b
+
+=====
+--generate=5|--log-format=%h - - [%d:%t %^] \"%r\" %s %^
+-----
+
+-----
+0
+generated 5
+valid 5
+failed 0
+visitors 5
+bandwidth 0
+report 960523d156085ff354620e7a776d37e9d9b6df6c8090bd849a4b066f527d7750
+
+=====
 -o|nothing.csv|--log-format=COMMON|a.log|nothing.log
 -----
 192.0.2.1 - - [01/Jan/2024:00:00:00 +0000] \"GET /a HTTP/1.1\" 200 10
@@ -855,6 +899,19 @@ goaccess: not built
 -----
 
 -----
+0
+generated 7
+valid 7
+failed 0
+visitors 7
+bandwidth 21
+report c3a1a67558f54128683fe345b552cbd0938babf07d7b2a1028568814865abde1
+
+=====
+--generate=2|--log-format=%h
+-----
+
+-----
 1
-goaccess: not built
+goaccess: log format: no date
 ";

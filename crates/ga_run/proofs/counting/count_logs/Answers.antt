@@ -1,28 +1,31 @@
 use Rattle.std.proofs.Common.{◌≡◌, ◌+◌, ◌∷◌, ◌++◌, ◌∙◌, [], suc, sym, ap, subst, take, drop, arith, slice_index_or}
 use Rattle.std.proofs.lemmas.Result.{err_from_is_err_and}
 use Rattle.ga_ports.specs.Stretch.{no_files_call, files_then}
+use Rattle.ga_run.specs.Counting.{generated_log}
 use Rattle.ga_run.specs.Steps.Logs.{CountsLogs}
-use Rattle.ga_run.proofs.CountSteps.{counts-none}
 use Rattle.ga_run.proofs.LogsSteps.{take-more, split-at, taken-length, counts-no-logs, counts-more, stops-more}
 use Rattle.ga_run.proofs.counting.count_logs.Goals as goal
 
 pub loop-place-init : goal.loop-place-init
 loop-place-init g c = record {
   within = omega arith;
-  counted = counts-no-logs c.args.setup.now _ c.empty-summary.result (counts-none c.args.setup.now c.empty-summary.result c.empty-summary.ensures);
+  counted = counts-no-logs c.args.setup.now (generated_log c.args.generated) _ c.in_ok-summary.summary c.in_ok-summary.ensures.ok;
   went = no_files_call;
 }
 
+pub returns-in_err-summary-clause-calls : goal.returns-in_err-summary-clause-calls
+returns-in_err-summary-clause-calls g c = no_files_call
+
 pub returns-in_err-count_one-clause-stops : goal.returns-in_err-count_one-clause-stops
 returns-in_err-count_one-clause-stops g c =
-    let p = err_from_is_err_and c.from_residual.result c.from_residual.ensures.1 in
+    let p = err_from_is_err_and c.from_residual-in_err-count_one.result c.from_residual-in_err-count_one.ensures.1 in
     let names = c.args.names.now in
     let place = c.loop-place.place in
     let at : slice_index_or names place c.index-names-place.result ≡ c.index-names-place.result = sym c.index-names-place.is in
     let split : names ≡ take place names ++ c.index-names-place.result ∷ drop (suc place) names =
     split-at names place c.index-names-place.result c.loop-place-test.true ∙ ap (λ name. take place names ++ name ∷ drop (suc place) names) at in
     rw (p.1, p.2)
-    (stops-more c.args.setup.now names (take place names) (drop (suc place) names) c.index-names-place.result split _ _ _ c.loop-place.summary c.loop-place.invariant.counted place _
+    (stops-more c.args.setup.now (generated_log c.args.generated) names (take place names) (drop (suc place) names) c.index-names-place.result split _ _ _ c.loop-place.summary c.loop-place.invariant.counted place _
     (taken-length names place c.loop-place.invariant.within) c.in_err-count_one.ensures.stops)
 
 pub returns-in_err-count_one-clause-calls : goal.returns-in_err-count_one-clause-calls
@@ -38,7 +41,7 @@ loop-place-preserved g c =
     take-more names place c.index-names-place.result c.loop-place-test.true ∙ ap (λ name. take place names ++ name ∷ []) at in
     record {
       within = omega arith;
-      counted = subst (λ front. CountsLogs c.args.setup.now front (view c.args.files.now) (view c.count_one.new.files) c.count_one.new.summary) (sym next)
-          (counts-more c.args.setup.now (take place names) c.index-names-place.result (view c.args.files.now) (view c.loop-place.files) (view c.count_one.new.files) c.loop-place.summary c.count_one.new.summary c.loop-place.invariant.counted c.in_ok-count_one.ensures.ok);
+      counted = subst (λ front. CountsLogs c.args.setup.now (generated_log c.args.generated) front (view c.args.files.now) (view c.count_one.new.files) c.count_one.new.summary) (sym next)
+          (counts-more c.args.setup.now (generated_log c.args.generated) (take place names) c.index-names-place.result (view c.args.files.now) (view c.loop-place.files) (view c.count_one.new.files) c.loop-place.summary c.count_one.new.summary c.loop-place.invariant.counted c.in_ok-count_one.ensures.ok);
       went = files_then c.loop-place.invariant.went c.count_one.ensures.calls;
     }

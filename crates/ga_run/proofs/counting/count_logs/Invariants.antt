@@ -1,5 +1,6 @@
 use Rattle.std.proofs.Common.{◌≤◌, length, take}
 use Rattle.ga_ports.specs.Stretch.{FilesWent}
+use Rattle.ga_run.specs.Counting.{generated_log}
 use Rattle.ga_run.specs.Steps.Logs.{CountsLogs}
 use Rattle.ga_run.proofs.counting.count_logs.Given as goal
 
@@ -8,6 +9,6 @@ invariant-loop-place g l =
     let view = g.F.Files.view in
     record {
       within : l.place ≤ length l.names;
-      counted : CountsLogs l.setup (take l.place l.names) (view l.initial.files) (view l.files) l.summary;
+      counted : CountsLogs l.setup (generated_log l.fn.generated) (take l.place l.names) (view l.initial.files) (view l.files) l.summary;
       went : FilesWent (view l.initial.files) (view l.files);
     }
