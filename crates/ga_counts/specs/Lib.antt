@@ -1,0 +1,4 @@
+-- Sums and maxima that threads add to.
+pub mod Counts
+pub mod Events
+pub mod Running

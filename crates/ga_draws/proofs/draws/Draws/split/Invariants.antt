@@ -1,0 +1,4 @@
+use Rattle.ga_draws.proofs.draws.Draws.split.Given as goal
+
+abbrev pub ghosts-split_by : goal.ghosts-split_by
+ghosts-split_by a = record { share = a.share; allowance = a.allowance }

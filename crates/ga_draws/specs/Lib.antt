@@ -1,0 +1,4 @@
+-- Numbers that threads draw, each once.
+pub mod Draws
+pub mod Events
+pub mod Running

@@ -1,0 +1,17 @@
+//! Numbers that threads draw, each once: 0, 1, 2 and so on, in whatever order the threads come.
+//!
+//! `Draws` is shared by reference, and each thread draws by a `DrawSeat` of its own. A seat is split for another thread and
+//! joined afterwards. A seat that has all shares has drawn the numbers below the length of its list, each once.
+//! `specs/Draws.antt` has the state and its invariant, `specs/Events.antt` what can happen to it.
+#![tactic(auto)]
+
+mod draws;
+pub mod laws;
+mod rule;
+mod view;
+
+pub use draws::{DrawSeat, Draws};
+pub use view::{DrawView, Opening};
+
+#[cfg(test)]
+mod tests;

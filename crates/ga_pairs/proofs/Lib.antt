@@ -1,0 +1,5 @@
+pub mod Homes
+pub mod Rows
+pub mod Keeps
+pub mod Steps
+pub mod Closes

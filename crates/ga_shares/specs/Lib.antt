@@ -1,0 +1,2 @@
+-- What the tables that threads share have in common.
+pub mod Views
