@@ -1,0 +1,13 @@
+pub mod PartLaws
+pub mod Going
+pub mod Numbers
+pub mod Chars
+pub mod Texts
+pub mod Fields
+pub mod Looping
+pub mod Generations
+pub mod Wholes
+pub mod Entries
+pub mod Written
+pub mod Faults
+pub mod OneValue

@@ -1,0 +1,24 @@
+//! The bytes of a database: a `Snapshot` or a run record, a `Delta`, to bytes and back.
+//!
+//! Start with `write_snapshot` and `read_snapshot`, which meet `SpellSnapshot` of `specs/Shapes.antt`. Bytes that are no
+//! snapshot are refused with the place up to which they begin one.
+#![tactic(auto)]
+
+mod cursor;
+mod entry_shape;
+mod fault;
+pub mod laws;
+mod reading;
+mod snapshot;
+mod summary_reading;
+mod text_reading;
+mod utf8;
+mod writing;
+
+pub use fault::CodecFault;
+pub use reading::{read_delta, read_snapshot};
+pub use snapshot::{Delta, Snapshot};
+pub use writing::{write_delta, write_snapshot};
+
+#[cfg(test)]
+mod tests;
