@@ -1,0 +1,8 @@
+pub mod Crashed
+pub mod Images
+pub mod Kept
+pub mod Moments
+pub mod Only
+pub mod Picked
+pub mod Stretches
+pub mod Written
