@@ -123,6 +123,27 @@ fn each_target_has_its_printer(rt: HostRuntime) -> Result<(), Fail> {
     Ok(())
 }
 
+#[test]
+fn a_report_takes_the_place_of_an_older_one(rt: HostRuntime) -> Result<(), Fail> {
+    let alloc = rt.alloc();
+    let folder = env::temp_dir(&rt)?;
+    let id = process::id(rt.process());
+    let path = format!(in alloc; "{}/goaccess-report-{id}", folder.as_str())?;
+    fs::write(&rt, path.as_str(), b"an older report".as_slice())?;
+    let name = Text::of(alloc, &path)?;
+    let (output, errors) = (Paper::blank(alloc), Paper::blank(alloc));
+    let mut outs = RealOuts::new(&rt, &output, &errors);
+    if outs.create(&name).is_ok() {
+        assert_eq!(rt; outs.write(To::File, b"rows"), Ok(4));
+    }
+    assert_eq!(rt;
+        fs::read(&rt, path.as_str())?.as_slice(),
+        b"rows".as_slice()
+    );
+    fs::remove_file(&rt, path.as_str())?;
+    Ok(())
+}
+
 /// What `--help` shows.
 const HELP: &str = "\
 goaccess: web logs to one report of panels, as CSV or JSON
