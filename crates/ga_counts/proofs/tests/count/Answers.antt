@@ -1,4 +1,4 @@
-use Rattle.std.proofs.Common.{◌≡◌, ℕ, ◌+◌, ◌≤◌, List, [], ◌∷◌, get_or, set, ap, ◌∙◌, arith}
+use Rattle.std.proofs.Common.{ℕ, ◌+◌, ◌≤◌, List, [], ◌∷◌, get_or, set, ap, ◌∙◌, arith}
 use Rattle.ga_counts.specs.Counts.{SeatSeen, tally_at}
 use Rattle.ga_counts.proofs.tests.count.Goals as goal
 
