@@ -1,0 +1,7 @@
+pub mod AsTold
+pub mod CountSteps
+pub mod Ended
+pub mod Limits
+pub mod LogsSteps
+pub mod OneCourse
+pub mod ReadSteps

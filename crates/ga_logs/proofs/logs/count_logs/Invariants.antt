@@ -1,0 +1,13 @@
+use Rattle.std.proofs.Common.{◌≤◌, length, take}
+use Rattle.ga_ports.specs.Stretch.{FilesWent}
+use Rattle.ga_logs.specs.Logs.{CountsLogs}
+use Rattle.ga_logs.proofs.logs.count_logs.Given as goal
+
+abbrev pub invariant-loop-place : goal.invariant-loop-place
+invariant-loop-place g l =
+    let view = g.F.Files.view in
+    record {
+      within : l.place ≤ length l.names;
+      counted : CountsLogs l.setup l.start l.fn.generated (take l.place l.names) l.initial.entries l.entries (view l.initial.files) (view l.files) l.summary;
+      went : FilesWent (view l.initial.files) (view l.files);
+    }

@@ -1,0 +1,45 @@
+-- What it is to count logs, and why they aren't counted.
+use Rattle.std.specs.Prelude.{ℕ, ◌⊎◌, ⊤, Option, List}
+use Rattle.ga_base.specs.declared.counts.Counter.{Counter}
+use Rattle.ga_base.specs.declared.entry.Entry.{Entry}
+use Rattle.ga_ports.specs.Files.{FilesView}
+use Rattle.ga_resume.specs.declared.fault.PlaceFault.TheVariants.{FileFault, FileShort, NoMemory}
+use Rattle.ga_summary.specs.Rows.{SummaryValue}
+use Rattle.ga_logs.specs.Counting.{CountsLines, FillsAmong}
+use Rattle.ga_logs.specs.Following.{MissesAt, ReadsAll, ReadsSome}
+use Rattle.ga_logs.specs.Portions.{counted_lines}
+use Rattle.ga_logs.specs.declared.fault.CountFault.{CountFault}
+use Rattle.ga_logs.specs.declared.fault.CountFault.TheVariants.{Failed as LogFailed, Short as LogShort, Full, NoMemory as CountNoMemory}
+use Rattle.ga_logs.specs.declared.portion.Portion.{Portion}
+use Rattle.ga_logs.specs.declared.setup.Setup.{Setup}
+use Rattle.ga_logs.specs.declared.start.Start.{Start}
+
+-- the logs were read and the entries went with them, and the generator's lines and theirs have this sum
+pub record CountsLogs (setup : Setup) (start : Start) (generated : Option ℕ) (names : List (List ℕ)) (entries entries' : List Entry)
+    (files files' : FilesView) (sum : SummaryValue) : Type 0 where
+  pub portions : List Portion
+  pub read : ReadsAll start.follow names entries entries' files files' portions
+  pub counts : CountsLines setup start.totals (counted_lines generated start.follow portions) sum
+
+-- some logs were read, and the generator's lines and theirs, up to one of them, fill a counter
+pub record FillsLogs (setup : Setup) (start : Start) (generated : Option ℕ) (names : List (List ℕ)) (entries : List Entry)
+    (files files' : FilesView) (which : Counter) (total : ℕ) : Type 0 where
+  pub portions : List Portion
+  pub read : ReadsSome start.follow names entries files files' portions
+  pub fills : FillsAmong setup start.totals (counted_lines generated start.follow portions) which total
+
+-- why the logs weren't counted
+abbrev pub StopsLogs : Setup → Start → Option ℕ → List (List ℕ) → List Entry → FilesView → FilesView → CountFault → Type 0
+StopsLogs setup start generated names entries files files' (LogFailed place) = MissesAt start.follow names entries place files files' FileFault
+StopsLogs setup start generated names entries files files' (LogShort place at) =
+    MissesAt start.follow names entries place files files' (FileShort at)
+StopsLogs setup start generated names entries files files' (Full which total) =
+    FillsLogs setup start generated names entries files files' which total
+StopsLogs setup start generated names entries files files' CountNoMemory =
+    ((place : ℕ) × MissesAt start.follow names entries place files files' NoMemory)
+    ⊎ ((portions : List Portion) × ReadsSome start.follow names entries files files' portions)
+
+-- no call failed
+abbrev pub NoneFailed : CountFault → Type 0
+NoneFailed (LogFailed place) = ⊥
+NoneFailed _ = ⊤

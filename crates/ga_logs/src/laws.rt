@@ -1,0 +1,43 @@
+//! What holds of the logs of a run in general. Each function's contract is the law; what its body calls are the laws that it
+//! rests on.
+
+ghost use Rattle.std.specs.Prelude.{◌≡◌, ◌≢◌, ℕ, List, Option, None};
+ghost use Rattle.ga_base.specs.declared.entry.Entry.{Entry};
+ghost use Rattle.ga_ports.specs.Files.{Contents, FilesView};
+ghost use Rattle.ga_logs.specs.Following.{AreSomeTold, AreTold, ReadsAll, ReadsSome};
+ghost use Rattle.ga_logs.specs.Portions.{Follows, IsPortionOf};
+ghost use Rattle.ga_logs.specs.declared.follow.Follow.{Follow as TheFollow};
+ghost use Rattle.ga_logs.specs.declared.portion.Portion.{Portion as ThePortion};
+
+use ga_resume::laws::one_choice;
+
+/// A run reads one portion of a log.
+pub fn one_portion()
+    ensures { (follow : TheFollow) (entries : List Entry) (log : List ℕ) (a b : ThePortion)
+        → IsPortionOf follow entries log a → IsPortionOf follow entries log b → a ≡ b }
+{
+    one_choice();
+}
+
+/// A portion that is counted leaves one list of entries.
+pub fn one_following()
+    ensures { (follow : TheFollow) (portion : ThePortion) (old a b : List Entry)
+        → Follows follow portion old a → Follows follow portion old b → a ≡ b }
+{}
+
+/// Logs whose contents are told have one list of portions, and leave one list of entries.
+pub fn one_course()
+    ensures { (follow : TheFollow) (contents : Option Contents) (names : List (List ℕ)) (old new other : List Entry) (a b : List ThePortion)
+        → AreTold follow contents names old new a → AreTold follow contents names old other b → (a ≡ b) × (new ≡ other) }
+{
+    one_portion();
+    one_following();
+}
+
+/// Where contents are told, logs that were read are read as told.
+pub fn read_as_told()
+    ensures all { (follow : TheFollow) (names : List (List ℕ)) (old new : List Entry) (files after : FilesView) (portions : List ThePortion)
+        → ReadsAll follow names old new files after portions → files.contents ≢ None → AreTold follow files.contents names old new portions }
+    ensures some { (follow : TheFollow) (names : List (List ℕ)) (old : List Entry) (files after : FilesView) (portions : List ThePortion)
+        → ReadsSome follow names old files after portions → files.contents ≢ None → AreSomeTold follow files.contents names old portions }
+{}

@@ -1,0 +1,117 @@
+use crate::{Follow, Setup, Start, count_logs};
+use ga_agents::Rules;
+use ga_base::{Entries, FormatFault, PanelSet, Statuses, Text, Texts, Totals};
+use ga_dates::{DEFAULT_DATE, DEFAULT_TIME, compile_date, compile_time};
+use ga_format::{compile, format_text};
+use ga_hosts::Ranges;
+use ga_line::LineSetup;
+use ga_panels::PanelSetup;
+use ga_ports::MemFiles;
+use std::alloc::Global;
+use std::test::Fail;
+
+/// Nothing was counted before.
+const NONE: Totals = Totals {
+    lines: 0,
+    failed: 0,
+    excluded: 0,
+    hits: 0,
+    bytes: 0,
+    micros: 0,
+};
+
+/// How lines in the common format are read.
+fn common(alloc: Global) -> Result<LineSetup, FormatFault> {
+    Ok(LineSetup {
+        format: compile(alloc, &Text::of(alloc, format_text("COMMON"))?)?,
+        date: compile_date(alloc, &Text::of(alloc, DEFAULT_DATE)?)?,
+        time: compile_time(alloc, &Text::of(alloc, DEFAULT_TIME)?)?,
+        no_ip_validation: false,
+        strict_status: false,
+        double_decode: false,
+        no_query: false,
+    })
+}
+
+/// How these are counted without any option.
+fn setup(alloc: Global) -> Result<Setup, FormatFault> {
+    Ok(Setup {
+        line: common(alloc)?,
+        panels: PanelSetup {
+            rules: Rules::builtin(alloc),
+            ranges: Ranges::new(alloc),
+            statics: Texts::new(alloc),
+            all_static: false,
+            ignore_crawlers: false,
+            ignore_status: Statuses::new(alloc),
+            panels: PanelSet::none(),
+            count_4xx: false,
+            as_404: false,
+        },
+    })
+}
+
+/// Runs one after the other over a log: what is added to it before the run, how often the run names it, how the run follows it,
+/// and the lines and bytes that it counts. A line is `E`, or `U` where its line feed `N` isn't there yet; it has 10 bytes.
+const RUNS: [(&str, usize, Follow, u64, u64); 7] = [
+    ("EU", 1, Follow::ToLastLine, 1, 10),
+    // What wasn't ended is counted once it is.
+    ("N", 1, Follow::ToLastLine, 1, 10),
+    // A log that is named twice has nothing new the second time.
+    ("EE", 2, Follow::ToLastLine, 2, 20),
+    // To the end it is counted as it stands, and not again.
+    ("U", 1, Follow::ToEnd, 1, 10),
+    ("N", 1, Follow::ToEnd, 0, 0),
+    // Without a look at the entries all is counted, as often as it is named.
+    ("", 1, Follow::Whole, 5, 50),
+    ("", 2, Follow::Whole, 10, 100),
+];
+
+/// What a letter of the table adds to a log.
+fn piece_of(letter: u8) -> &'static [u8] {
+    match letter {
+        b'E' => b"192.0.2.1 - - [01/Jan/2024:00:00:00 +0000] \"GET /a HTTP/1.1\" 200 10\n",
+        b'U' => b"192.0.2.1 - - [01/Jan/2024:00:00:00 +0000] \"GET /a HTTP/1.1\" 200 10",
+        _ => b"\n",
+    }
+}
+
+#[test]
+fn follows_a_log(rt: HostRuntime) -> Result<(), Fail> {
+    let alloc = rt.alloc();
+    let Ok(setup) = setup(alloc) else {
+        return Err(Fail::from(FormatFault::NoMemory));
+    };
+    let name = Text::of(alloc, "a.log")?;
+    let mut files = MemFiles::new(alloc);
+    let mut entries = Entries::new(alloc);
+    for (letters, times, follow, lines, bytes) in RUNS {
+        for letter in letters.bytes() {
+            files.grow(&name, piece_of(letter))?;
+        }
+        let mut names = Texts::new(alloc);
+        for _ in 0..times {
+            names.push(name.clone()?)?;
+        }
+        let start = Start {
+            follow,
+            totals: NONE,
+        };
+        let counted = count_logs(
+            alloc,
+            &setup,
+            start,
+            None,
+            names.items(),
+            &mut entries,
+            &mut files,
+        );
+        let totals = counted.map(|sum| sum.totals());
+        assert_eq!(rt;
+            totals.map(|totals| (totals.lines, totals.bytes)),
+            Ok((lines, bytes))
+        );
+        assert_eq!(rt; entries.items().len(), 1);
+    }
+    Ok(())
+}
