@@ -1,4 +1,5 @@
 pub mod Answers
+pub mod Fresh
 pub mod Program
 pub mod Targets
 pub mod Words

@@ -1,9 +1,11 @@
 ghost use Rattle.std.specs.Prelude.{◌≡◌, ◌↔◌, IfOk, IsErr};
 ghost use Rattle.std.specs.Fs.{IsFile, file_type};
+ghost use Rattle.goaccess.specs.Fresh.{no_files_open};
 
 use ga_base::Text;
 use ga_ports::{Failed, FileCounts, Files, is_short};
 use std::fs::{self, File, Metadata};
+use std::marker::Model;
 use std::os::unix::fs::FileExt;
 use std::{io, rt};
 
@@ -22,9 +24,27 @@ pub struct RealFiles<'a, R: rt::Files<File = File>> {
     counts: FileCounts,
 }
 
+impl<'a, R: rt::Files<File = File>> Model for RealFiles<'a, R> {
+    ghost use Rattle.std.specs.Prelude.{None, is_some};
+    ghost use Rattle.ga_ports.specs.Files.{FilesView};
+
+    ghost Value = { FilesView };
+
+    ghost view = { λ f. record {
+      contents = None;
+      listed = None;
+      is_open = is_some f.file;
+      bytes = None;
+      measured = f.measured;
+      counts = f.counts;
+    } };
+}
+
 impl<'a, R: rt::Files<File = File>> RealFiles<'a, R> {
     /// The files of this runtime, none of them open.
-    pub fn new(rt: &'a R) -> RealFiles<'a, R> {
+    pub fn new(rt: &'a R) -> RealFiles<'a, R>
+        ensures { result ≡ no_files_open }
+    {
         RealFiles {
             rt,
             file: None,
@@ -35,16 +55,7 @@ impl<'a, R: rt::Files<File = File>> RealFiles<'a, R> {
 }
 
 impl<'a, R: rt::Files<File = File>> Files for RealFiles<'a, R> {
-    ghost use Rattle.std.specs.Prelude.{None, is_some};
-
-    ghost view = { λ f. record {
-      contents = None;
-      listed = None;
-      is_open = is_some f.file;
-      bytes = None;
-      measured = f.measured;
-      counts = f.counts;
-    } };
+    ghost view = { λ f. f };
 
     fn open(&mut self, name: &Text) -> Result<(), Failed> {
         self.file = None;

@@ -1,9 +1,11 @@
 ghost use Rattle.std.specs.Prelude.{◌≡◌, ◌≤◌, ◌<◌, ℕ, length, IfOk, OnErr};
 ghost use Rattle.ga_ports.specs.Counts.{raised};
+ghost use Rattle.goaccess.specs.Fresh.{nothing_taken};
 
 use ga_base::Text;
 use ga_ports::{Failed, Outs, TargetCounts, To};
 use std::io::{self, Write};
+use std::marker::Model;
 use std::{fs, rt};
 
 /// Standard output, standard error and the report's file. They tell no content; each failure is counted, and a write
@@ -30,9 +32,31 @@ pub struct RealOuts<'a, R: rt::Files, P: Print, E: Print> {
     calls: u64,
 }
 
+impl<'a, R: rt::Files, P: Print, E: Print> Model for RealOuts<'a, R, P, E> {
+    ghost use Rattle.std.specs.Prelude.{None, is_some};
+    ghost use Rattle.ga_ports.specs.Outs.{OutsView};
+    ghost use Rattle.goaccess.specs.Targets.{target_view};
+
+    ghost Value = { OutsView };
+
+    ghost view = { λ o. record {
+      stdout = target_view o.stdout;
+      stderr = target_view o.stderr;
+      file = target_view o.file;
+      is_made = is_some o.report;
+      made = o.made;
+      name = None;
+      listed = None;
+      calls = o.calls;
+      starved = 0;
+    } };
+}
+
 impl<'a, R: rt::Files, P: Print, E: Print> RealOuts<'a, R, P, E> {
     /// Targets that took nothing yet.
-    pub fn new(rt: &'a R, output: &'a P, errors: &'a E) -> RealOuts<'a, R, P, E> {
+    pub fn new(rt: &'a R, output: &'a P, errors: &'a E) -> RealOuts<'a, R, P, E>
+        ensures { result ≡ nothing_taken }
+    {
         RealOuts {
             rt,
             output,
@@ -48,20 +72,7 @@ impl<'a, R: rt::Files, P: Print, E: Print> RealOuts<'a, R, P, E> {
 }
 
 impl<'a, R: rt::Files, P: Print, E: Print> Outs for RealOuts<'a, R, P, E> {
-    ghost use Rattle.std.specs.Prelude.{None, is_some};
-    ghost use Rattle.goaccess.specs.Targets.{target_view};
-
-    ghost view = { λ o. record {
-      stdout = target_view o.stdout;
-      stderr = target_view o.stderr;
-      file = target_view o.file;
-      is_made = is_some o.report;
-      made = o.made;
-      name = None;
-      listed = None;
-      calls = o.calls;
-      starved = 0;
-    } };
+    ghost view = { λ o. o };
 
     fn create(&mut self, name: &Text) -> Result<(), Failed> {
         self.calls = self.calls.saturating_add(1);
