@@ -1,0 +1,218 @@
+-- Calls of a disk that change no side, one after the other, and what recovery says of them.
+use Rattle.std.proofs.Common.{◌≡◌, ℕ, ◌≤◌, Bool, true, false, List, ◌++◌, ◌+◌, length, take, drop, Option, Some, None, Result, Ok, Err, IfSome, inl, refl, sym, ap, ◌∙◌, subst, arith}
+use Rattle.std.proofs.Math.Seq.{take-add}
+use Rattle.std.proofs.lemmas.List.{take_all}
+use Rattle.std.proofs.lemmas.Slice.{take-put_mid}
+use borrow.Rule.Slice.PartMut.{put_mid}
+use Rattle.ga_ports.specs.Counts.{Rose}
+use Rattle.ga_disk.specs.Disk.{DiskView, calls_once, fails_once}
+use Rattle.ga_disk.specs.Images.{AddsNone, HasSide, Images, LeavesSame, LeavesSynced, OnlyImage}
+use Rattle.ga_disk.specs.Sides.{Sides, of_side}
+use Rattle.ga_disk.specs.Stretch.{DiskCall}
+use Rattle.ga_disk.specs.Stretch.DiskWent.{disk_then, no_disk_call, one_disk_call}
+use Rattle.ga_disk.specs.declared.disk_counts.DiskCounts.{DiskCounts}
+use Rattle.ga_disk.proofs.Only.{only-same, same-then}
+use Rattle.ga_store.specs.Database.{DbOf}
+use Rattle.ga_store.specs.Database.Reading.{damaged}
+use Rattle.ga_store.specs.Reading.{Answers, IsOutside, IsSide, Looks, is_disk_fault}
+use Rattle.ga_store.specs.Store.{Recovers}
+use Rattle.ga_store.specs.declared.db.Db.{Db}
+use Rattle.ga_store.specs.declared.fault.StoreFault.{StoreFault}
+use Rattle.ga_store.specs.declared.fault.StoreFault.TheVariants.{CounterFull, Damaged, DiskFault, NoMemory}
+
+-- this moment counts for earlier ones
+abbrev pub CountsNow : Images → Type 0
+CountsNow images = (t : ℕ) (image : Sides) → t ≤ images.moment → images.now image → images.since t image
+
+-- only the counts are others
+counts-alone : (old new : DiskView) (counts : DiskCounts) → new ≡ record old { counts = counts } → new ≡ record old { counts = new.counts }
+counts-alone old new counts is = is ∙ ap (λ (c : DiskCounts). record old { counts = c }) (sym (ap (λ (d : DiskView). d.counts) is))
+
+pub looks-ok : {old new : DiskView} {images images' : Images} → new ≡ record old { counts = calls_once old.counts } → DiskCall old new → LeavesSame images images'
+    → Looks false old new images images'
+looks-ok {old} {new} is call leaves = record {
+  view = counts-alone old new _ is;
+  opened = ap (λ (d : DiskView). d.counts.opened) is;
+  fault = λ e. cc;
+  no_fault = λ e. ap (λ (d : DiskView). d.counts.faults) is;
+  calls = one_disk_call call;
+  leaves = leaves;
+}
+
+pub looks-failed : {old new : DiskView} {images images' : Images} (starved : ℕ) → new ≡ record old { counts = fails_once starved old.counts } → DiskCall old new
+    → LeavesSame images images' → Looks true old new images images'
+looks-failed {old} {new} starved is call leaves = record {
+  view = counts-alone old new _ is;
+  opened = ap (λ (d : DiskView). d.counts.opened) is;
+  fault = λ e. omega (arith, ap (λ (d : DiskView). d.counts.faults) is);
+  no_fault = λ e. cc;
+  calls = one_disk_call call;
+  leaves = leaves;
+}
+
+same-still : {images : Images} → LeavesSame images images
+same-still = record {
+  none_added = λ image now. now;
+  time = record { later = omega arith; nothing_else = λ t image le since. inl since; keeps = λ t image le since. since };
+}
+
+-- no call
+pub looks-none : (view : DiskView) (images : Images) → Looks false view view images images
+looks-none view images = record {
+  view = refl;
+  opened = refl;
+  fault = λ e. cc;
+  no_fault = λ e. refl;
+  calls = no_disk_call;
+  leaves = same-still;
+}
+
+-- calls that succeeded, and then others
+pub looks-then : {failed : Bool} {old mid new : DiskView} {images images' images'' : Images} → CountsNow images → Looks false old mid images images'
+    → Looks failed mid new images' images'' → Looks failed old new images images''
+looks-then {failed} {old} {mid} {new} law first second =
+    let same = first.no_fault refl in
+    record {
+      view = second.view ∙ ap (λ (d : DiskView). record d { counts = new.counts }) first.view;
+      opened = second.opened ∙ first.opened;
+      fault = λ e. subst (λ (n : ℕ). Rose n new.counts.faults) same (second.fault e);
+      no_fault = λ e. second.no_fault e ∙ same;
+      calls = disk_then first.calls second.calls;
+      leaves = same-then law first.leaves second.leaves;
+    }
+
+pub seen-same : {failed : Bool} {old new : DiskView} {images images' : Images} → Looks failed old new images images' → new.seen ≡ old.seen
+seen-same looks = ap (λ (d : DiskView). d.seen) looks.view
+
+pub open-same : {failed : Bool} {old new : DiskView} {images images' : Images} → Looks failed old new images images' → new.is_open ≡ old.is_open
+open-same looks = ap (λ (d : DiskView). d.is_open) looks.view
+
+-- ---- both sides were synced
+
+same-sides : (a b : Sides) → a.side0 ≡ b.side0 → a.side1 ≡ b.side1 → a ≡ b
+same-sides a b e f = λ i. record { side0 = e i; side1 = f i }
+
+pub both-synced : (seen : Option Sides) (images images' : Images) → IfSome seen (HasSide 0 images) → IfSome seen (HasSide 1 images') → AddsNone images images'
+    → IfSome seen (OnlyImage images')
+both-synced None images images' first second none = tt
+both-synced (Some seen) images images' first second none = λ image now. same-sides image seen (first image (none image now)) (second image now)
+
+pub only-fewer : (seen : Option Sides) (images images' : Images) → AddsNone images images' → IfSome seen (OnlyImage images) → IfSome seen (OnlyImage images')
+only-fewer None images images' none only = tt
+only-fewer (Some seen) images images' none only = λ image now. only image (none image now)
+
+-- ---- a side is read piece by piece
+
+-- one more piece
+pub piece-more : (seen seen' : Option Sides) (side at n k : ℕ) (bytes piece : List ℕ) → seen' ≡ seen → at + n ≤ length bytes → length piece ≡ n
+    → IfSome seen (λ seen. take at bytes ≡ take at (of_side side seen)) → IfSome seen' (λ seen. piece ≡ take (length piece) (drop at (of_side side seen)))
+    → IfSome seen (λ seen. take (at + n) (put_mid at k bytes piece) ≡ take (at + n) (of_side side seen))
+piece-more None seen' side at n k bytes piece same fits long front more = tt
+piece-more (Some seen) seen' side at n k bytes piece same fits long front more =
+    let told : piece ≡ take (length piece) (drop at (of_side side seen)) =
+    subst (λ (o : Option Sides). IfSome o (λ seen. piece ≡ take (length piece) (drop at (of_side side seen)))) same more in
+    take-put_mid at k bytes piece (at + n) (omega arith) (omega arith) ∙ ap (λ (b : List ℕ). b ++ piece) front
+    ∙ ap (λ (b : List ℕ). take at (of_side side seen) ++ b) (told ∙ ap (λ (k : ℕ). take k (drop at (of_side side seen))) long)
+    ∙ sym (take-add at n (of_side side seen))
+
+-- all of them
+pub piece-all : (seen : Option Sides) (side at : ℕ) (bytes : List ℕ) → length bytes ≤ at → IfSome seen (λ seen. length bytes ≡ length (of_side side seen))
+    → IfSome seen (λ seen. take at bytes ≡ take at (of_side side seen)) → IfSome seen (λ seen. bytes ≡ of_side side seen)
+piece-all None side at bytes le long told = tt
+piece-all (Some seen) side at bytes le long told = sym (take_all at bytes le) ∙ told ∙ take_all at (of_side side seen) (omega arith)
+
+-- ---- what recovery answers
+
+-- both sides were read
+pub record BothRead (disk : DiskView) (images : Images) (side0 side1 : List ℕ) : Type 0 where
+  pub only : IfSome disk.seen (OnlyImage images)
+  pub first : IsSide 0 disk side0
+  pub second : IsSide 1 disk side1
+
+-- a side that was read is still so after calls that change none
+side-later : {disk disk' : DiskView} (side : ℕ) (bytes : List ℕ) → disk'.seen ≡ disk.seen → IsSide side disk bytes → IsSide side disk' bytes
+side-later side bytes same read = record {
+  told = subst (λ (o : Option Sides). IfSome o (λ seen. bytes ≡ of_side side seen)) (sym same) read.told;
+  size = read.size;
+}
+
+-- the sides are synced, then read one after the other
+pub read-both : {start synced mid end : DiskView} {i0 i1 i2 i3 : Images} (side0 side1 : List ℕ) → Looks false start synced i0 i1
+    → IfSome start.seen (OnlyImage i1) → Looks false synced mid i1 i2 → IsSide 0 synced side0 → Looks false mid end i2 i3 → IsSide 1 mid side1
+    → BothRead end i3 side0 side1
+read-both {start} {synced} {mid} {end} {i0} {i1} {i2} {i3} side0 side1 first only second read0 third read1 = record {
+  only = subst (λ (o : Option Sides). IfSome o (OnlyImage i3)) (sym (seen-same third ∙ seen-same second ∙ seen-same first))
+      (only-fewer start.seen i2 i3 third.leaves.none_added (only-fewer start.seen i1 i2 second.leaves.none_added only));
+  first = side-later 0 side0 (seen-same third ∙ seen-same second) read0;
+  second = side-later 1 side1 (seen-same third) read1;
+}
+
+both-told : (seen : Option Sides) (side0 side1 : List ℕ) → IfSome seen (λ seen. side0 ≡ seen.side0) → IfSome seen (λ seen. side1 ≡ seen.side1)
+    → IfSome seen (λ seen. seen ≡ record { side0 = side0; side1 = side1 })
+both-told None side0 side1 first second = tt
+both-told (Some seen) side0 side1 first second = same-sides seen _ (sym first) (sym second)
+
+pub recovers-not : {X : Type 0} {old new : DiskView} {images images' : Images} (result : Result X StoreFault) (fault : StoreFault) → result ≡ Err fault
+    → ((image : Sides) → images.since images.moment image → images.now image) → IsOutside fault
+    → Looks (is_disk_fault result) old new images images' → Recovers old new images images' (Err fault)
+recovers-not {X} {old} {new} {images} {images'} result DiskFault is law outside looks = record {
+  database = tt;
+  damage = λ side at e. cc;
+  counters = λ which total e. cc;
+  looks = subst (λ (r : Result X StoreFault). Looks (is_disk_fault r) old new images images') is looks;
+  moments = only-same law looks.leaves;
+}
+recovers-not {X} {old} {new} {images} {images'} result NoMemory is law outside looks = record {
+  database = tt;
+  damage = λ side at e. cc;
+  counters = λ which total e. cc;
+  looks = subst (λ (r : Result X StoreFault). Looks (is_disk_fault r) old new images images') is looks;
+  moments = only-same law looks.leaves;
+}
+recovers-not result (Damaged side at) is law outside looks = absurd outside
+recovers-not result (CounterFull which total) is law outside looks = absurd outside
+
+pub recovers : {old new : DiskView} {images images' : Images} (result : Result Db StoreFault) (side0 side1 : List ℕ)
+    → ((image : Sides) → images.since images.moment image → images.now image) → Looks false old new images images' → BothRead new images' side0 side1
+    → Answers (DbOf (record { side0 = side0; side1 = side1 })) result → Recovers old new images images' result
+recovers {old} {new} (Ok db) side0 side1 law looks read says = record {
+  database = record {
+    sides = record { side0 = side0; side1 = side1 };
+    told = both-told new.seen side0 side1 read.first.told read.second.told;
+    only = read.only;
+    size0 = read.first.size;
+    size1 = read.second.size;
+    has = says;
+  };
+  damage = λ side at e. cc;
+  counters = λ which total e. cc;
+  looks = looks;
+  moments = only-same law looks.leaves;
+}
+recovers {old} {new} (Err (Damaged side at)) side0 side1 law looks read says = record {
+  database = tt;
+  damage = λ other place e. let same = ap fault_side e in let place_same = ap fault_at e in record {
+    sides = record { side0 = side0; side1 = side1 };
+    told = both-told new.seen side0 side1 read.first.told read.second.told;
+    has = subst (λ (p : ℕ × ℕ). DbOf (record { side0 = side0; side1 = side1 }) (damaged p.0 p.1)) (λ i. (same i, place_same i)) says;
+  };
+  counters = λ which total e. cc;
+  looks = looks;
+  moments = only-same law looks.leaves;
+}
+  where
+    fault_side : Result Db StoreFault → ℕ
+    fault_side (Err (Damaged s p)) = s
+    fault_side r = 0
+
+    fault_at : Result Db StoreFault → ℕ
+    fault_at (Err (Damaged s p)) = p
+    fault_at r = 0
+recovers (Err NoMemory) side0 side1 law looks read says = recovers-not {X = Db} (Err NoMemory) NoMemory refl law tt looks
+recovers (Err DiskFault) side0 side1 law looks read says = absurd says
+recovers (Err (CounterFull which total)) side0 side1 law looks read says = absurd says
+
+-- a sync changes no side
+pub synced-same : {E : Type 0} {side : ℕ} {seen : Option Sides} {images images' : Images} {result : Result (Unit {0}) E}
+    → LeavesSynced side seen images images' result → LeavesSame images images'
+synced-same leaves = record { none_added = leaves.none_added; time = leaves.time }

@@ -1,0 +1,25 @@
+use Rattle.std.proofs.lemmas.Result.{err_from_is_err_and}
+use Rattle.ga_disk.specs.Stretch.DiskCall.{size_call}
+use Rattle.ga_store.proofs.RecoverDisk.{looks-failed, looks-ok, looks-then}
+use Rattle.ga_store.proofs.recovery.read_side.Goals as goal
+
+pub returns-in_err-size-clause-looks : goal.returns-in_err-size-clause-looks
+returns-in_err-size-clause-looks g c =
+    let p = err_from_is_err_and c.from_residual.result c.from_residual.ensures.1 in
+    rw (p.1, p.2) (looks-failed _ c.in_err-size.ensures.sizes.failed (size_call c.size.ensures.sizes) c.size.ensures.leaves)
+
+pub returns-in_err-bytes-clause-looks : goal.returns-in_err-bytes-clause-looks
+returns-in_err-bytes-clause-looks g c =
+    let p = err_from_is_err_and c.from_residual-in_err-bytes.result c.from_residual-in_err-bytes.ensures.1 in
+    rw (p.1, p.2) (looks-ok c.in_ok-size.ensures.sizes.ok.2 (size_call c.size.ensures.sizes) c.size.ensures.leaves)
+
+pub returns-in_err-fill-clause-looks : goal.returns-in_err-fill-clause-looks
+returns-in_err-fill-clause-looks g c =
+    let p = err_from_is_err_and c.from_residual-in_err-fill.result c.from_residual-in_err-fill.ensures.1 in
+    let first = looks-ok c.in_ok-size.ensures.sizes.ok.2 (size_call c.size.ensures.sizes) c.size.ensures.leaves in
+    rw (p.1, p.2) (looks-then (g.D.Disk.counts_now c.args.disk.now) first c.in_err-fill.ensures.looks)
+
+pub returns-clause-looks : goal.returns-clause-looks
+returns-clause-looks g c =
+    let first = looks-ok c.in_ok-size.ensures.sizes.ok.2 (size_call c.size.ensures.sizes) c.size.ensures.leaves in
+    looks-then (g.D.Disk.counts_now c.args.disk.now) first c.in_ok-fill.ensures.looks

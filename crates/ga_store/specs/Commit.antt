@@ -1,0 +1,125 @@
+-- What a commit writes, and the database that it makes.
+use Rattle.std.specs.Prelude.{◌≡◌, ◌⊎◌, ℕ, ◌+◌, ◌-◌, ◌<◌, ◌&&◌, ◌^◌, Bool, true, false, List, [], ◌∷◌, ◌++◌, length, take, drop, nat_lt, nat_le, slice_index, ◌==◌, ◌||◌, if◌then◌else◌, Option, Some, None, is_some}
+use Rattle.ga_base.specs.declared.counts.TheConstants.{LIMIT}
+use Rattle.ga_summary.specs.Limits.{passes}
+use Rattle.ga_summary.specs.Rows.{SummaryValue, totals_plus}
+use Rattle.ga_summary.specs.Sums.{IsMerged}
+use Rattle.ga_codec.specs.Shapes.{SpellDelta, SpellSnapshot}
+use Rattle.ga_codec.specs.Values.{EntryValue}
+use Rattle.ga_store.specs.Parts.{closed_gate, open_gate, part_bytes}
+use Rattle.ga_store.specs.Database.{DbValue, of_snapshot}
+use Rattle.ga_store.specs.declared.mode.Mode.{Mode}
+use Rattle.ga_store.specs.declared.mode.Mode.TheVariants.{Append, Overwrite}
+
+-- a side has room for so many run records behind its snapshot
+abbrev pub most_records : ℕ
+most_records = 64
+
+-- work that is prepared
+pub record Work : Type 0 where
+  -- the side that is written, and the place of the gate there
+  pub side : ℕ
+  pub gate : ℕ
+  -- what is written behind it: a part, and a closed gate
+  pub tail : List ℕ
+  -- it is a new generation, which the side ends behind, and not a run record
+  pub is_new : Bool
+
+-- a part with this body, and a closed gate behind it
+abbrev pub closed_part : List ℕ → List ℕ
+closed_part body = part_bytes body ++ closed_gate ∷ []
+
+-- the side after a whole commit: what stands in front of the gate, the open gate, the part, the next gate, and what stood
+-- behind that unless it was cut off
+abbrev pub committed : Work → List ℕ → List ℕ
+committed w side = take w.gate side ++ open_gate ∷ w.tail ++ (if w.is_new then [] else drop (w.gate + 1 + length w.tail) side)
+
+-- ---- the calls of a commit
+
+-- a gate is closed where no byte stands there, or that of an open gate
+abbrev pub must_close : ℕ → List ℕ → Bool
+must_close gate side = nat_le (length side) gate || (slice_index side gate == open_gate)
+
+-- the look at a gate: the size of its side, and its byte, if there is one
+abbrev pub look_calls : ℕ → List ℕ → ℕ
+look_calls gate side = if nat_le (length side) gate then 1 else 2
+
+-- the look, and where the gate must be closed a write and a sync
+abbrev pub closing_calls : ℕ → List ℕ → ℕ
+closing_calls gate side = look_calls gate side + (if must_close gate side then 2 else 0)
+
+-- a write and a sync of the tail, and of a new generation a cut between them
+abbrev pub tail_calls : Bool → ℕ
+tail_calls new = if new then 3 else 2
+
+-- these, and a write and a sync of the open gate
+abbrev pub commit_calls : Work → List ℕ → ℕ
+commit_calls w side = closing_calls w.gate side + tail_calls w.is_new + 2
+
+-- the side that a new generation goes to: the other than the chosen one, or side 0
+abbrev pub other_side : Option ℕ → ℕ
+other_side None = 0
+other_side (Some side) = 1 - side
+
+-- ---- what is prepared
+
+-- a run is added as a record where a side is there that has room for one
+abbrev pub adds_record : Mode → DbValue → Bool
+adds_record Overwrite db = false
+adds_record Append db = is_some db.side && nat_lt db.records most_records
+
+-- the generation that the work would make is above the limit
+abbrev pub passes_generations : Mode → DbValue → Bool
+passes_generations mode db = if adds_record mode db then false else nat_lt LIMIT (db.generation + 1)
+
+-- a run's own summary, and all entries after it
+pub record IsRecordOf (db : DbValue) (run : SummaryValue) (entries : List EntryValue) (work : Work) : Type 0 where
+  pub side : db.side ≡ Some work.side
+  pub gate : work.gate ≡ db.slot
+  pub kind : work.is_new ≡ false
+  pub body : List ℕ
+  pub size : length body < 2 ^ 64
+  pub tail : work.tail ≡ closed_part body
+  pub spells : SpellDelta body (record { summary = run; entries = entries })
+
+-- the whole summary after a run, and all entries
+pub record IsGenerationOf (db : DbValue) (merged : SummaryValue) (entries : List EntryValue) (work : Work) : Type 0 where
+  pub side : work.side ≡ other_side db.side
+  pub gate : work.gate ≡ 0
+  pub kind : work.is_new ≡ true
+  pub body : List ℕ
+  pub size : length body < 2 ^ 64
+  pub tail : work.tail ≡ closed_part body
+  pub spells : SpellSnapshot body (record { generation = db.generation + 1; summary = merged; entries = entries })
+
+-- the one or the other
+abbrev pub IsWorkBy : Bool → DbValue → SummaryValue → SummaryValue → List EntryValue → Work → Type 0
+IsWorkBy true db run merged entries work = IsRecordOf db run entries work
+IsWorkBy false db run merged entries work = IsGenerationOf db merged entries work
+
+abbrev pub IsWorkOf : Mode → DbValue → SummaryValue → SummaryValue → List EntryValue → Work → Type 0
+IsWorkOf mode db run merged entries work = IsWorkBy (adds_record mode db) db run merged entries work
+
+-- ---- what the work makes of a database
+
+pub data Makes (work : Work) (old : DbValue) : DbValue → Type 0 where
+  by_record : {run merged : SummaryValue} {entries : List EntryValue} → IsRecordOf old run entries work
+      → passes (totals_plus old.summary.totals run.totals) ≡ None → IsMerged old.summary run merged
+      → Makes work old (record old { summary = merged; entries = entries; records = old.records + 1; slot = old.slot + length work.tail })
+  by_generation : {merged : SummaryValue} {entries : List EntryValue} → IsGenerationOf old merged entries work
+      → Makes work old (of_snapshot work.side (length work.tail) (record { generation = old.generation + 1; summary = merged; entries = entries }))
+
+-- the database after a run: the whole summary and all entries, as a record more or as a new generation
+abbrev pub after_run : Mode → DbValue → SummaryValue → List EntryValue → Work → DbValue
+after_run mode db merged entries work = if adds_record mode db
+    then record db { summary = merged; entries = entries; records = db.records + 1; slot = db.slot + length work.tail }
+    else of_snapshot work.side (length work.tail) (record { generation = db.generation + 1; summary = merged; entries = entries })
+
+-- a later database: its generation is greater, or it has more records of the same
+abbrev pub IsLater : DbValue → DbValue → Type 0
+IsLater old new = (old.generation < new.generation) ⊎ ((new.generation ≡ old.generation) × (old.records < new.records))
+
+-- what the whole summary of a run is: merged with what is stored, or the run's own
+abbrev pub MergesBy : Mode → SummaryValue → SummaryValue → SummaryValue → Type 0
+MergesBy Overwrite stored run merged = merged ≡ run
+MergesBy Append stored run merged = IsMerged stored run merged

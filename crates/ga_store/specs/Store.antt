@@ -1,0 +1,30 @@
+-- What recovery says of the disk before and after it.
+use Rattle.std.specs.Prelude.{◌≡◌, ℕ, Result, IfOk, IfSome, IsErrOf}
+use Rattle.ga_base.specs.declared.counts.Counter.{Counter}
+use Rattle.ga_disk.specs.Disk.{DiskView}
+use Rattle.ga_disk.specs.Images.{Images, LeavesOnly}
+use Rattle.ga_disk.specs.Sides.{Sides}
+use Rattle.ga_store.specs.Database.{DbOf}
+use Rattle.ga_store.specs.Database.Reading.{damaged}
+use Rattle.ga_store.specs.Holding.{Holds}
+use Rattle.ga_store.specs.Reading.{Looks, db_value, is_disk_fault}
+use Rattle.ga_store.specs.declared.db.Db.{Db}
+use Rattle.ga_store.specs.declared.fault.StoreFault.{StoreFault}
+use Rattle.ga_store.specs.declared.fault.StoreFault.TheVariants.{CounterFull, Damaged}
+
+-- the disk as it reads has this damage
+pub record IsDamaged (disk : DiskView) (side at : ℕ) : Type 0 where
+  -- the bytes of the sides, also where the disk doesn't tell them
+  pub sides : Sides
+  pub told : IfSome disk.seen (λ seen. seen ≡ sides)
+  pub has : DbOf sides (damaged side at)
+
+-- recovery: it changes no side and adds no image
+pub record Recovers (disk disk' : DiskView) (images images' : Images) (result : Result Db StoreFault) : Type 0 where
+  pub database : IfOk result (λ db. Holds disk' images' (db_value db))
+  pub damage : (side at : ℕ) → IsErrOf result (Damaged side at) → IsDamaged disk' side at
+  pub counters : (which : Counter) (total : ℕ) → IsErrOf result (CounterFull which total) → ⊥
+  -- DiskFault is answered exactly where a call failed
+  pub looks : Looks (is_disk_fault result) disk disk' images images'
+  -- at each moment each image is one that the disk had at the start
+  pub moments : LeavesOnly images images' images.now

@@ -1,0 +1,29 @@
+//! A database on the two sides of a disk: what they say, how a run is prepared, and a commit that survives a crash at any
+//! moment.
+//!
+//! Start with `recover`, which answers the `Db` of the sides by `DbOf` of `specs/Database.antt`; `prepare` makes the work of
+//! a run from it, and `commit` writes that.
+#![tactic(auto)]
+
+mod committing;
+mod db;
+mod fault;
+mod found;
+pub mod laws;
+mod mode;
+mod parts;
+mod prepared;
+mod reading;
+mod recovery;
+
+pub use committing::commit;
+pub use db::Db;
+pub use fault::StoreFault;
+pub use mode::Mode;
+pub use prepared::{Prepared, prepare};
+pub use recovery::recover;
+
+#[cfg(test)]
+mod commit_tests;
+#[cfg(test)]
+mod tests;

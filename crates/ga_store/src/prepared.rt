@@ -1,0 +1,221 @@
+ghost use Rattle.std.specs.Prelude.{◌≡◌, ◌+◌, ◌<◌, ◌≤◌, ◌^◌, ◌↔◌, ◌⊎◌, false, true, length, map, Some, IfOk, IfErr, IsErrOf};
+ghost use Rattle.ga_base.specs.declared.counts.TheConstants.{LIMIT};
+ghost use Rattle.ga_base.specs.declared.counts.Counter.TheVariants.{Generations};
+ghost use Rattle.ga_summary.specs.Sound.{IsSummary};
+ghost use Rattle.ga_codec.specs.Values.{entry_value};
+ghost use Rattle.ga_store.specs.Commit.{IsGenerationOf, IsRecordOf, IsWorkOf, Makes, MergesBy, after_run, closed_part, other_side, passes_generations};
+ghost use Rattle.ga_store.specs.Reading.{db_value};
+
+use crate::parts::FRAME;
+use crate::{Db, Mode, StoreFault};
+use ga_base::{Bytes, Counter, Entries, LIMIT, NoMemory};
+use ga_codec::{Delta, Snapshot, write_delta, write_snapshot};
+use ga_summary::Summary;
+use sha2::{Digest, Sha256};
+use std::alloc::Global;
+use std::marker::Model;
+
+/// How many run records a side has room for behind its snapshot.
+const MOST_RECORDS: u64 = 64;
+
+/// The work of one run, ready to be written without memory.
+#[derive(Debug, Drop)]
+pub struct Prepared {
+    /// The side that is written.
+    side: u32,
+    /// The place of the gate there.
+    gate: u64,
+    /// What is written behind it: a part, and a closed gate.
+    tail: Bytes,
+    /// Whether it is a new generation, behind which the side ends.
+    is_new: bool,
+}
+
+impl Model for Prepared {
+    ghost use Rattle.ga_store.specs.Commit.{Work};
+
+    ghost Value = { Work };
+
+    ghost view = { λ w. record { side = w.side; gate = w.gate; tail = w.tail; is_new = w.is_new } };
+}
+
+/// The work of a run over a database, in a mode. It touches no disk.
+///
+/// A run is added as a record where a side is there that has room for one; else it becomes a new generation on the other
+/// side, and `CounterFull` is answered exactly where its number would be above `LIMIT`.
+pub fn prepare(
+    alloc: Global,
+    db: &Db,
+    run: &Summary,
+    merged: &Summary,
+    entries: &Entries,
+    mode: Mode,
+) -> Result<Prepared, StoreFault>
+    requires { MergesBy mode db.now.summary run.now merged.now }
+    ensures work { IfOk result (IsWorkOf mode (db_value db.now) run.now merged.now (map entry_value entries.now)) }
+    ensures makes { IfOk result (λ work. let entries' = map entry_value entries.now in
+        Makes work (db_value db.now) (after_run mode (db_value db.now) merged.now entries' work)) }
+    ensures full { IsErrOf result (StoreFault.CounterFull Generations (LIMIT + 1))
+        ↔ (passes_generations mode (db_value db.now) ≡ true) }
+    ensures causes { IfErr result (λ fault. (fault ≡ StoreFault.NoMemory) ⊎ (fault ≡ StoreFault.CounterFull Generations (LIMIT + 1))) }
+{
+    sound(merged);
+    work_of(alloc, db, run, merged, entries, mode)
+}
+
+/// A record where there is room for one, else a new generation.
+fn work_of(
+    alloc: Global,
+    db: &Db,
+    run: &Summary,
+    merged: &Summary,
+    entries: &Entries,
+    mode: Mode,
+) -> Result<Prepared, StoreFault>
+    ensures work { IfOk result (IsWorkOf mode (db_value db.now) run.now merged.now (map entry_value entries.now)) }
+    ensures full { IsErrOf result (StoreFault.CounterFull Generations (LIMIT + 1))
+        ↔ (passes_generations mode (db_value db.now) ≡ true) }
+    ensures causes { IfErr result (λ fault. (fault ≡ StoreFault.NoMemory) ⊎ (fault ≡ StoreFault.CounterFull Generations (LIMIT + 1))) }
+{
+    match (mode, db.side) {
+        (Mode::Append, Some(side)) if db.records < MOST_RECORDS => {
+            Ok(record(alloc, db, side, run, entries)?)
+        }
+        _ => generation(alloc, db, merged, entries),
+    }
+}
+
+/// Each summary is sound.
+fn sound(summary: &Summary)
+    ensures { IsSummary summary.now }
+{
+    summary.totals();
+}
+
+/// A run record behind the last one.
+fn record(
+    alloc: Global,
+    db: &Db,
+    side: u32,
+    run: &Summary,
+    entries: &Entries,
+) -> Result<Prepared, NoMemory>
+    requires { db.now.side ≡ Some side }
+    ensures { IfOk result (IsRecordOf (db_value db.now) run.now (map entry_value entries.now)) }
+{
+    let delta = Delta {
+        summary: run.copy()?,
+        entries: copy_of(entries)?,
+    };
+    let body = write_delta(alloc, &delta)?;
+    Ok(Prepared {
+        side,
+        gate: db.slot,
+        tail: closed_part(alloc, body.bytes())?,
+        is_new: false,
+    })
+}
+
+/// A copy of entries.
+fn copy_of(entries: &Entries) -> Result<Entries, NoMemory>
+    ensures { IfOk result (λ copy. copy ≡ entries.now) }
+{
+    Ok(entries.clone()?)
+}
+
+/// A new generation on the other side.
+fn generation(
+    alloc: Global,
+    db: &Db,
+    merged: &Summary,
+    entries: &Entries,
+) -> Result<Prepared, StoreFault>
+    ensures work { IfOk result (IsGenerationOf (db_value db.now) merged.now (map entry_value entries.now)) }
+    ensures full { IsErrOf result (StoreFault.CounterFull Generations (LIMIT + 1)) ↔ (LIMIT ≤ db.now.generation) }
+    ensures causes { IfErr result (λ fault. (fault ≡ StoreFault.NoMemory) ⊎ (fault ≡ StoreFault.CounterFull Generations (LIMIT + 1))) }
+{
+    if db.generation >= LIMIT {
+        return Err(StoreFault::CounterFull {
+            which: Counter::Generations,
+            total: LIMIT as u128 + 1,
+        });
+    }
+    Ok(next_generation(alloc, db, merged, entries)?)
+}
+
+/// A new generation, where its number isn't above `LIMIT`.
+fn next_generation(
+    alloc: Global,
+    db: &Db,
+    merged: &Summary,
+    entries: &Entries,
+) -> Result<Prepared, NoMemory>
+    requires { db.now.generation < LIMIT }
+    ensures { IfOk result (IsGenerationOf (db_value db.now) merged.now (map entry_value entries.now)) }
+{
+    let snapshot = Snapshot {
+        generation: db.generation + 1,
+        summary: merged.copy()?,
+        entries: copy_of(entries)?,
+    };
+    let body = write_snapshot(alloc, &snapshot)?;
+    Ok(Prepared {
+        side: other_side(db.side),
+        gate: 0,
+        tail: closed_part(alloc, body.bytes())?,
+        is_new: true,
+    })
+}
+
+/// The side that a new generation goes to: the other than the chosen one, or side 0.
+fn other_side(side: Option<u32>) -> u32
+    ensures { result ≡ other_side side }
+{
+    match side {
+        Some(0) => 1,
+        _ => 0,
+    }
+}
+
+/// A part with this body, and a closed gate behind it.
+fn closed_part(alloc: Global, body: &[u8]) -> Result<Bytes, NoMemory>
+    ensures part { IfOk result (λ tail. tail ≡ closed_part body.now) }
+    ensures size { length body.now < 2 ^ 64 }
+{
+    let mut tail = Vec::with_capacity(alloc, body.len() + FRAME + 1)?;
+    tail.extend_from_slice(&(body.len() as u64).to_be_bytes())?;
+    tail.extend_from_slice(body)?;
+    tail.extend_from_slice(&Sha256::digest(body))?;
+    tail.push(0)?;
+    Ok(Bytes::from(tail))
+}
+
+impl Prepared {
+    /// The side that is written.
+    pub fn side(&self) -> u32
+        ensures { result ≡ self.now.side }
+    {
+        self.side
+    }
+
+    /// The place of the gate there.
+    pub fn gate(&self) -> u64
+        ensures { result ≡ self.now.gate }
+    {
+        self.gate
+    }
+
+    /// What is written behind it: a part, and a closed gate.
+    pub fn tail(&self) -> &[u8]
+        ensures { result.now ≡ self.now.tail }
+    {
+        self.tail.bytes()
+    }
+
+    /// Whether it is a new generation.
+    pub fn is_new(&self) -> bool
+        ensures { result ≡ self.now.is_new }
+    {
+        self.is_new
+    }
+}
