@@ -24,6 +24,4 @@ pub use prepared::{Prepared, prepare};
 pub use recovery::recover;
 
 #[cfg(test)]
-mod commit_tests;
-#[cfg(test)]
 mod tests;

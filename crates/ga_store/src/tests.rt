@@ -1,3 +1,5 @@
+ghost use Rattle.std.specs.Prelude.{IfOk, IsTrue};
+
 use crate::recover;
 use ga_base::Text;
 use ga_disk::{Disk, MemDisk};
@@ -142,7 +144,9 @@ fn side_of(alloc: Global, text: &str) -> Result<Vec<u8>, Fail> {
 }
 
 /// An open disk whose sides are named so.
-fn disk_of(alloc: Global, sides: &str) -> Result<MemDisk, Fail> {
+fn disk_of(alloc: Global, sides: &str) -> Result<MemDisk, Fail>
+    ensures { IfOk result (λ disk. IsTrue disk.is_open) }
+{
     let (side0, side1) = sides.split_once(' ').ok_or("two sides")?;
     let mut disk = MemDisk::new(alloc);
     let path = Text::of(alloc, "d")?;
@@ -157,7 +161,9 @@ fn disk_of(alloc: Global, sides: &str) -> Result<MemDisk, Fail> {
 }
 
 /// What is recovered from a disk.
-fn said(alloc: Global, disk: &mut MemDisk) -> Result<String, Fail> {
+fn said(alloc: Global, disk: &mut MemDisk) -> Result<String, Fail>
+    requires { IsTrue disk.old.is_open }
+{
     match recover(alloc, disk) {
         Err(fault) => Ok(format!(in alloc; "{fault}")?),
         Ok(db) => Ok(format!(in alloc;
