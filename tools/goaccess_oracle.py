@@ -1,15 +1,19 @@
 #!/usr/bin/env python3
-"""An independent calculation of what the program does, without a database: words and files in; status, report and fault line out.
+"""An independent calculation of what the program does: words and files in; status, report and fault line out.
 
-    python3 goaccess_oracle.py WORDS..                as the program: standard output, standard error, exit status
+    python3 goaccess_oracle.py WORDS..                as the program where no database is stored yet: standard output, standard
+                                                      error, exit status
     python3 goaccess_oracle.py --oracle-self-test     worked examples and some checks against Python's own library
 
 As a module:
 
-    run(words: list[bytes], files: dict[bytes, bytes]) -> (status, stdout, stderr, made: dict[bytes, bytes])
+    run(words: list[bytes], files: dict[bytes, bytes], db: Database) -> (status, stdout, stderr, made: dict[bytes, bytes])
+
+`db` is what tracked runs leave from one to the next; without it nothing is stored.
 
 It was written from the product's rules alone, and not from its code. Texts are bytes everywhere.
 """
+import copy
 import hashlib
 import json
 import os
@@ -77,7 +81,6 @@ class Fault(Exception):
         self.text = text
 
 
-NOT_BUILT = Fault(1, b"not built")
 
 
 def num(n):
@@ -1009,8 +1012,44 @@ def json_text(report):
 # ------------------------------------------------------------------------------------------------ runs
 
 
-def text_of(s, read):
-    """The report's text. `read` gives the bytes of a name, or None where they can't be read."""
+class Database:
+    """What a tracked run leaves to the next one: the sum of all lines that were counted, and how far each log was."""
+
+    def __init__(self):
+        self.summary = Summary()
+        self.entries = []  # (number of first bytes, their SHA-256, offset)
+
+
+def lead_of(log, offset):
+    """How a log is known again that was counted up to this offset."""
+    lead = min(offset, 4096)
+    return lead, hashlib.sha256(log[:lead]).digest()
+
+
+def place_of(entries, log):
+    """The entry that a log continues, or None: of those that fit, the first with the greatest offset."""
+    fitting = [at for at, (lead, digest, offset) in enumerate(entries) if offset <= len(log) and lead_of(log, offset) == (lead, digest)]
+    return max(fitting, key=lambda at: (entries[at][2], -at), default=None)
+
+
+def follow(s, entries, log):
+    """The part of a log that a tracked run counts. The entries go with it."""
+    at = place_of(entries, log)
+    begin = 0 if at is None else entries[at][2]
+    end = log.rfind(b"\n", begin) + 1 if s.persist else len(log)
+    end = max(begin, end)
+    if end > 0:
+        entry = (*lead_of(log, end), end)
+        if at is None:
+            entries.append(entry)
+        else:
+            entries[at] = entry
+    return log[begin:end]
+
+
+def text_of(s, read, db):
+    """The report's text. `read` gives the bytes of a name, or None where they can't be read. A tracked run goes on from the
+    database and, where it persists, leaves it as it is afterwards."""
 
     def content(name):
         found = read(name)
@@ -1024,11 +1063,16 @@ def text_of(s, read):
         rules = read_rules(content(s.browsers_file))
         if isinstance(rules, int):
             raise Fault(1, b"browsers file, line %d: not a rule" % rules)
-    summary = Summary()
-    for log in [generated(s.generate)] if s.generate else map(content, s.logs):
+    begun = copy.deepcopy(db) if s.restore else Database()
+    logs = [generated(s.generate)] if s.generate else map(content, s.logs)
+    if s.persist or s.restore:
+        logs = (follow(s, begun.entries, log) for log in logs)
+    for log in logs:
         for line in lines_of(log):
-            summary.count(s, rules, setup, line)
-    report = report_of(s, summary)
+            begun.summary.count(s, rules, setup, line)
+    report = report_of(s, begun.summary)
+    if s.persist:
+        db.summary, db.entries = begun.summary, begun.entries
     if s.generate:
         return six_lines(s.generate, json_text(report))
     return csv_text(report) if s.kind == b"csv" else json_text(report)
@@ -1051,15 +1095,13 @@ def six_lines(lines, text):
         hashlib.sha256(text).hexdigest().encode())
 
 
-def run_words(words, read):
+def run_words(words, read, db):
     """Status, standard output, standard error, and the file to make, if any, as (name, bytes)."""
     try:
         if not all(is_utf8(word) for word in words):
             raise Fault(1, b"words are not UTF-8")
         s = read_words(words)
-        if s.persist or s.restore:
-            raise NOT_BUILT
-        text = text_of(s, read)
+        text = text_of(s, read, db)
     except Fault as fault:
         return fault.status, b"", b"goaccess: " + fault.text + b"\n", None
     if s.target and not s.generate:
@@ -1067,8 +1109,8 @@ def run_words(words, read):
     return 0, text, b"", None
 
 
-def run(words, files):
-    status, out, err, made = run_words(words, files.get)
+def run(words, files, db=None):
+    status, out, err, made = run_words(words, files.get, Database() if db is None else db)
     return status, out, err, dict([made]) if made else {}
 
 
@@ -1096,7 +1138,7 @@ def written(target, text):
 def main(words):
     if words == [b"--oracle-self-test"]:
         return self_test()
-    status, out, err, made = run_words(words, read_file)
+    status, out, err, made = run_words(words, read_file, Database())
     target, name, text = 1, b"standard output", out
     if made is not None:
         name, text = made
@@ -1224,7 +1266,7 @@ def self_test():
     refused("a bad format date", [b'--log-format=%h "%r"', b"a.log"], 1, b"log format: no date")
     for text, said in {"--bogus": "word 0: unknown option", "--jobs": "word 0: value missing", "--jobs=17 a": "word 0: bad value",
                        "--jobs 17 a": "word 1: bad value", "a": "no log format", "": "no input",
-                       "--generate=5 --persist": "word 0: conflict", "--restore": "not built"}.items():
+                       "--generate=5 --persist": "word 0: conflict"}.items():
         refused("words", words(text), 1, said.encode())
     for text in "192.0.2.1 ::1 ::ffff:192.0.2.1 1:2:3:4:5:6:7::".split():
         check("addresses " + text, is_address(text.encode()), True)
@@ -1253,6 +1295,26 @@ def self_test():
     quoted = b'192.0.2.1 - - [01/Jan/2024:00:00:00 +0000] "GET /a HTTP/1.1" 200 5 "-" "Foo \\"bar\\" Baz"\n'
     shows("a quoted agent", combined, {b"a.log": quoted}, b"0,,os,1,100.00,1,100.00,5,100.00,0,0,0,,,Unknown",
           b"1,0,browsers,1,100.00,1,100.00,5,100.00,0,0,0,,,Unknown")
+    db, log = Database(), {}
+    tracked = words("--log-format=COMMON -o csv --restore --persist")
+
+    def five(*urls):
+        return b"".join(line_of(b"/" + url, 200, b"10") for url in urls)
+
+    log[b"a.log"] = five(b"a", b"b")
+    check("tracked runs, first", general(run([*tracked, b"a.log"], log, db)[1]), [2, 2, 0, 0, 1, 20])
+    log[b"a.log.1"], log[b"a.log"] = log[b"a.log"] + five(b"c"), five(b"d")
+    check("tracked runs, second", general(run([*tracked, b"a.log.1", b"a.log"], log, db)[1]), [4, 4, 0, 0, 1, 40])
+    log[b"a.log"] += five(b"e")
+    out = run([*tracked, b"a.log.1", b"a.log"], log, db)[1]
+    check("tracked runs, third", (general(out), out), ([5, 5, 0, 0, 1, 50], run(common, {b"a.log": five(b"a", b"b", b"c", b"d", b"e")})[1]))
+    check("tracked runs, shown", run([*tracked[:-1]], log, db)[1], out)
+    check("tracked runs, anew", general(run([*words("--log-format=COMMON -o csv --persist a.log")], log, db)[1]), [2, 2, 0, 0, 1, 20])
+    check("one log twice", [general(run([*more, b"a.log", b"a.log"], {b"a.log": a}, Database())[1])[1] for more in (tracked, tracked[:3])], [1, 2])
+    db, begun = Database(), {b"a.log": a + a[:31]}
+    check("an unended line", (general(run([*tracked, b"a.log"], begun, db)[1])[0], db.entries[0][2]), (1, 68))
+    check("an unended line, untracked", general(run(common, begun)[1])[:3], [2, 1, 1])
+    check("an unended line, ended", general(run([*tracked, b"a.log"], {b"a.log": a + a}, db)[1])[0], 2)
     s = read_words(combined)
     check("a quoted agent agent", read_line(LineSetup(s), quoted[:-1]).agent, b'Foo \\"bar\\" Baz')
     check("decoding", [decode_url(b"/caf%C3%A9", 1), decode_url(b"/%2541", 1), decode_url(b"/%2541", 2), decode_url(b"/%FF", 1)],

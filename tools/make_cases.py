@@ -3,6 +3,7 @@
 
     make_cases.py lines FILE    runs over one log, in which the formats and the lines vary
     make_cases.py words FILE    runs in which the options vary, over up to three files
+    make_cases.py runs FILE     runs that keep what they counted, one after the other, over logs that grow and are renamed
 """
 import os
 import sys
@@ -124,7 +125,7 @@ FAULTS = [
     (["--ignore-status=600", "a.log"], {}), (["--ignore-panel=hosts", "a.log"], {}), (["--max-items=4294967296", "a.log"], {}),
     (["--chunk-size=0", "a.log"], {}), (["--static-file=", "a.log"], {}), (["--browsers-file=", "a.log"], {}),
     (["--", "--bogus", ""], {}), (["--generate=00000000007"], {}), (["--generate", "5", "a.log", COMMON], {}),
-    (["--persist", COMMON, "a.log"], {"a.log": A}), (["--generate=0000000007"], {}), (["--generate=2", "--log-format=%h"], {}),
+    (["--generate=0000000007"], {}), (["--generate=2", "--log-format=%h"], {}),
 ]
 
 
@@ -220,6 +221,64 @@ def write(name, doc, cases):
     return len(cases)
 
 
+TRACKED = [COMMON, "-o", "csv", "--restore", "--persist"]
+HIDDEN = [*TRACKED, "--ignore-panel=REQUESTS"]
+LONG = line("/" + "x" * 5000)
+HISTORIES = [
+    # rotated between the runs
+    [("a.log", line("/a") + line("/b")), [*TRACKED, "a.log"], ("a.log", line("/c")), ("a.log", "a.log.1"), ("a.log", line("/d")),
+     [*TRACKED, "a.log.1", "a.log"], ("a.log", line("/e")), [*TRACKED, "a.log.1", "a.log"], [COMMON, "-o", "csv", "--restore"],
+     [COMMON, "-o", "csv", "--persist", "a.log"], [COMMON, "-o", "csv", "--restore", "--db-path=elsewhere"]],
+    # one log named twice
+    [("a.log", A), [*TRACKED, "a.log", "a.log"], [COMMON, "-o", "csv", "a.log", "a.log"]],
+    # a line that isn't ended yet
+    [("a.log", A + A[:31]), [*TRACKED, "a.log"], [COMMON, "-o", "csv", "--restore", "a.log"], ("a.log", A[31:]), [*TRACKED, "a.log"], [*TRACKED, "a.log"],
+     [COMMON, "-o", "csv", "a.log"]],
+    # logs with one front of 4,096 bytes, and a log that is shorter than what was counted of another with its front
+    [("a.log", LONG + line(size="1")), ("b.log", LONG), [*HIDDEN, "a.log"], [*HIDDEN, "b.log"], ("b.log", line(size="3")), [*HIDDEN, "b.log", "a.log"]],
+    # a run that stops keeps nothing
+    [("a.log", A), [*TRACKED, "a.log", "gone.log"], [*TRACKED, "a.log"], ("a.log", line(size=BIG) * 5), [*TRACKED, "a.log"], [COMMON, "-o", "csv", "--restore"],
+     [COMMON, "--date-format=%d", "--restore"], [*TRACKED, "--browsers-file=gone.txt"]],
+    # nothing stored, and logs of which no line was ended
+    [[COMMON, "-o", "json", "--restore", "--ignore-panel=HOSTS"], ("a.log", "broken"), [*TRACKED, "a.log"], ("a.log", "\n"), [*TRACKED, "a.log"]],
+]
+
+
+DOC_RUNS = """\
+/// Histories, a line of `=` between two, of steps with a line of `~` between two. A step appends to a log, which begins with
+/// `+` and its name; renames one, which begins with `>` and both names; or is a run: its words with a bar between two, and
+/// what it answers, which is its exit status and then what standard output, standard error and the report's file took. The
+/// answers were worked out by a program in another language.
+"""
+
+
+def step_text(step, files, db):
+    """One step as text. It changes the files and the database."""
+    if isinstance(step, list):
+        assert not any("|" in word for word in step)
+        status, out, err, made = oracle.run([word.encode() for word in step], files, db)
+        return "|".join(step).encode() + b"\n-----\n%d\n" % status + out + err + b"".join(made.values())
+    name, more = step[0].encode(), step[1].encode()
+    if not more.endswith((b".log", b".1")):
+        files[name] = files.get(name, b"") + more
+        return b"+" + name + b"\n-----\n" + more
+    files[more] = files.pop(name)
+    return b">" + name + b"|" + more + b"\n-----\n"
+
+
+def write_runs(name):
+    texts = []
+    for history in HISTORIES:
+        files, db = {}, oracle.Database()
+        steps = [step_text(step, files, db) for step in history]
+        assert not any(b"\n~~~~~\n" in text or b"\n=====\n" in text or text.count(b"\n-----\n") != 1 for text in steps)
+        texts.append(b"\n~~~~~\n".join(steps))
+    table = b"\n=====\n".join(texts).decode("utf-8")
+    with open(name, "w", encoding="utf-8", newline="") as out:
+        out.write(DOC_RUNS + 'pub const HISTORIES: &str = "\\\n' + quoted(table) + '";\n')
+    return sum(isinstance(step, list) for history in HISTORIES for step in history)
+
+
 DOC_LINES = """\
 /// Runs, a line of `=` between two: the words with a bar between two, the log `a.log`, and what the run answers, which
 /// is its exit status and then what standard output, standard error and the report's file took. The answers were worked
@@ -233,8 +292,11 @@ DOC_WORDS = """\
 
 
 def main():
-    if len(sys.argv) != 3 or sys.argv[1] not in ("lines", "words"):
+    if len(sys.argv) != 3 or sys.argv[1] not in ("lines", "words", "runs"):
         sys.exit(__doc__)
+    if sys.argv[1] == "runs":
+        print(write_runs(sys.argv[2]), "runs")
+        return
     if sys.argv[1] == "lines":
         count = write(sys.argv[2], DOC_LINES, [(words, {"a.log": log}) for words, log in OVER_LINES])
     else:

@@ -1,39 +1,46 @@
--- Two runs with the same words over the same told contents end alike.
-use Rattle.std.proofs.Common.{◌≡◌, ◌≢◌, ◌⊎◌, ℕ, List, [], ◌∷◌, ◌++◌, refl, ap, sym, ◌∙◌, subst, inl, inr, Option, Some, None, IfSome, false}
+-- Two runs with the same words over the same told files and sides end alike.
+use Rattle.std.proofs.Common.{◌≡◌, ◌≢◌, ◌⊎◌, ℕ, List, [], ◌∷◌, ◌++◌, refl, ap, sym, ◌∙◌, subst, inl, inr, Option, Some, None, IfSome, false, true, map, Ok}
 use Rattle.std.proofs.lemmas.Bool.{false≢true}
 use Rattle.std.specs.List.{AllByRecursion}
-use Rattle.std.specs.Option.{is_none}
-use Rattle.ga_agents.specs.declared.row.Rule.{Rule}
-use Rattle.ga_agents.specs.RulesFile.{FileGives}
-use Rattle.ga_base.specs.declared.counts.Counter.{Counter}
-use Rattle.ga_base.specs.declared.formats.FormatFault.{FormatFault}
+use Rattle.ga_base.specs.declared.entry.Entry.{Entry}
+use Rattle.ga_codec.specs.Values.{entry_value}
+use Rattle.ga_disk.specs.Disk.{DiskView}
+use Rattle.ga_disk.specs.Sides.{Sides}
 use Rattle.ga_line.specs.declared.setup.LineSetup.{LineSetup}
+use Rattle.ga_logs.specs.Following.{AreSomeTold, AreTold}
+use Rattle.ga_logs.specs.Following.AreSomeTold.{told_last, told_none, told_on}
+use Rattle.ga_logs.specs.Following.AreTold.{told_all, told_then}
+use Rattle.ga_logs.specs.declared.follow.Follow.{Follow}
+use Rattle.ga_logs.specs.declared.portion.Portion.{Portion}
 use Rattle.ga_ports.specs.Counts.{Rose}
-use Rattle.ga_ports.specs.Files.{Contents, FilesView, content_of, told, is_absent}
+use Rattle.ga_ports.specs.Files.{FilesView, told}
 use Rattle.ga_ports.specs.Outs.{TargetView, takes, target}
-use Rattle.ga_ports.specs.declared.outs.To.{To}
-use Rattle.ga_words.specs.declared.fault.WordFault.{WordFault}
+use Rattle.ga_store.specs.Database.{DbOf, DbValue}
+use Rattle.ga_store.specs.Database.Reading.{stored as reads_as}
+use Rattle.ga_words.specs.WordsOf.{WordsOf}
 use Rattle.ga_words.specs.declared.settings.Settings.{Settings}
-use Rattle.ga_run.specs.Inputs.{AreTold, HasRules, ReadAll, RulesAreTold, inputs_of, rules_file}
-use Rattle.ga_run.specs.LogsRun.{FillsCounter, FillsTold, HasGoodInput, HasRead, IsReportOf, RunsLogs, WasServed}
-use Rattle.ga_run.specs.OneRun.{Alike, HaveSameInputs, IsUntroubled, RunView, Wrote}
+use Rattle.ga_agents.specs.declared.row.Rule.{Rule}
+use Rattle.ga_run.specs.Ends.{Ends, HasReport, SaysOnly}
+use Rattle.ga_run.specs.Inputs.{inputs_of, rules_file}
+use Rattle.ga_run.specs.Keeping.{IsKeptSince, KeepsSince, KeptSince}
+use Rattle.ga_run.specs.OneRun.{Alike, HasDatabase, HaveSameInputs, IsUntroubled, RunView, SameDatabase, Wrote}
 use Rattle.ga_run.specs.Printing.{TakesOrStops, but_errors, delivered, report_file, target_of}
-use Rattle.ga_run.specs.Reading.{ReadsLog}
-use Rattle.ga_run.specs.Run.{AreRefused, HaveSetup, SayRun}
+use Rattle.ga_run.specs.Run.{AreRefused, HasGoodInput, HaveSetup, IsTrouble, NothingWasRead, RunsOver}
 use Rattle.ga_run.specs.Setups.{IsLineSetup}
 use Rattle.ga_run.specs.Statuses.{fault_line, IsFaultLine, NamesFailed}
+use Rattle.ga_run.specs.Told.{Answers, CountsTold, HasBadLine, RulesAreTold, Yield}
+use Rattle.ga_run.specs.Told.Answers.{answers_rules, answers_damage, answers_full, answers_generation, answers_done}
 use Rattle.ga_run.specs.declared.status.Status.{Status}
-use Rattle.ga_run.specs.declared.status.Status.TheVariants.{Done, BadWords, Unbuilt, BadFormat, BadRules, FileFault, FileShort, OutFault, CounterFull, NoMemory}
-use Rattle.ga_run.specs.declared.status.Which.{Which}
-use Rattle.ga_run.proofs.Endings.{kept, kept-rules, stops-rose, told-later}
+use Rattle.ga_run.specs.declared.status.Status.TheVariants.{Done, BadWords, BadFormat, BadRules, FileFault, FileShort, DiskFault, DbDamaged, OutFault, CounterFull, NoMemory}
+use Rattle.ga_run.proofs.Endings.{stops-rose}
+use Rattle.ga_run.proofs.OneAnswer.{OneDatabase}
+use Rattle.ga_run.proofs.Telling.{ReadAsTold, answers, done-answers, found-there, seen-same, yield-of}
+
+-- ---- what is told of files with the same contents
 
 -- these files have the same contents in two views
 abbrev Same : FilesView → FilesView → List (List ℕ) → Type 0
 Same a b names = AllByRecursion (λ name. told name a.contents ≡ told name b.contents) names
-
-flipped : (a b : FilesView) (names : List (List ℕ)) → Same a b names → Same b a names
-flipped a b [] h = tt
-flipped a b (name ∷ names) h = (sym h.0, flipped a b names h.1)
 
 in-front : (a b : FilesView) (front back : List (List ℕ)) → Same a b (front ++ back) → Same a b front
 in-front a b [] back h = tt
@@ -43,79 +50,90 @@ behind : (a b : FilesView) (front back : List (List ℕ)) → Same a b (front ++
 behind a b [] back h = h
 behind a b (name ∷ front) back h = behind a b front back h.1
 
-same-rules-file : (a b : FilesView) (file : Option (List ℕ)) (name : List ℕ) → file ≡ Some name → Same a b (rules_file file) → told name a.contents ≡ told name b.contents
-same-rules-file a b None name e h = absurd (cc e)
-same-rules-file a b (Some other) name e h =
-    let same : other ≡ name = cc in
-    subst (λ (n : List ℕ). told n a.contents ≡ told n b.contents) same h.0
-
--- what was read of a told file is what is told of it
-told-is : (name : List ℕ) (files new : FilesView) (log : List ℕ) → files.contents ≢ None → ReadsLog name files new log → told name files.contents ≡ Some log
-told-is name files new log some h = go files.contents some h.present h.bytes
-  where
-    by : (found : Option (List ℕ)) → is_none found ≡ false → IfSome found (λ bytes. log ≡ bytes) → found ≡ Some log
-    by None there h = absurd (false≢true (sym there))
-    by (Some bytes) there h = ap Some (sym h)
-
-    go : (contents : Option Contents) → contents ≢ None → is_absent name contents ≡ false → IfSome (told name contents) (λ bytes. log ≡ bytes) → told name contents ≡ Some log
-    go None some there h = absurd (some refl)
-    go (Some c) some there h = by (content_of name c) there h
-
-all-told : (names : List (List ℕ)) (a b : FilesView) (texts : List (List ℕ)) → a.contents ≢ None → ReadAll names a b texts → AreTold names a texts
-all-told [] a b texts some h = h.1
-all-told (name ∷ names) a b texts some (mid, text, rest, one, more, is) =
-    let same : mid.contents ≡ a.contents = kept name a mid text one in
-    let later = all-told names mid b rest (λ none. some (sym same ∙ none)) more in
-    (text, rest, told-is name a mid text some one, told-later names mid a rest (sym same) later, is)
-
-rules-told : (file : Option (List ℕ)) (a b : FilesView) (rules : List Rule) → a.contents ≢ None → HasRules file a b rules → RulesAreTold file a rules
-rules-told None a b rules some h = h.1
-rules-told (Some name) a b rules some (text, reads, gives) = (text, told-is name a b text some reads, gives)
-
-read-told : (s : Settings) (names : List (List ℕ)) (files files' : FilesView) → files.contents ≢ None → (read : HasRead s names files files')
-    → RulesAreTold s.browsers_file files read.rules × AreTold names files read.logs
-read-told s names files files' some read =
-    let same : read.mid.contents ≡ files.contents = kept-rules s.browsers_file files read.mid read.rules read.has_rules in
-    let later = all-told names read.mid files' read.logs (λ none. some (sym same ∙ none)) read.has_logs in
-    (rules-told s.browsers_file files read.mid read.rules some read.has_rules, told-later names read.mid files read.logs (sym same) later)
-
--- the lines of told logs fill a counter
-pub fills-told : (line : LineSetup) (s : Settings) (files files' : FilesView) (which : Counter) (total : ℕ) → files.contents ≢ None → FillsCounter line s files files' which total
-    → FillsTold line s files which total
-fills-told line s files files' which total some h =
-    let known = read-told s h.front files files' some h.read in
-    record { front = h.front; back = h.back; split = h.split; rules = h.read.rules; rules_told = known.0; logs = h.read.logs; logs_told = known.1; fills = h.fills }
-
--- what is told of the same files
 rules-along : (file : Option (List ℕ)) (a b : FilesView) (rules : List Rule) → Same a b (rules_file file) → RulesAreTold file b rules → RulesAreTold file a rules
 rules-along None a b rules same h = h
 rules-along (Some name) a b rules same (text, is, gives) = (text, same.0 ∙ is, gives)
 
-logs-along : (names : List (List ℕ)) (a b : FilesView) (texts : List (List ℕ)) → Same a b names → AreTold names b texts → AreTold names a texts
-logs-along [] a b texts same h = h
-logs-along (name ∷ names) a b texts same (text, rest, is, more, e) = (text, rest, same.0 ∙ is, logs-along names a b rest same.1 more, e)
+told-along : (follow : Follow) (a b : FilesView) (names : List (List ℕ)) (old new : List Entry) (portions : List Portion) → Same a b names → AreTold follow b.contents names old new portions
+    → AreTold follow a.contents names old new portions
+told-along follow a b [] old new portions same told_all = told_all
+told-along follow a b (name ∷ names) old new portions same (told_then is portion goes more) = told_then (same.0 ∙ is) portion goes (told-along follow a b names _ new _ same.1 more)
 
-some-same : {A : Type 0} {a b : A} → Some a ≡ Some b → a ≡ b
-some-same e = cc
+some-along : (follow : Follow) (a b : FilesView) (names : List (List ℕ)) (old : List Entry) (portions : List Portion) → Same a b names → AreSomeTold follow b.contents names old portions
+    → AreSomeTold follow a.contents names old portions
+some-along follow a b names old portions same told_none = told_none
+some-along follow a b (name ∷ names) old portions same (told_last is portion) = told_last (same.0 ∙ is) portion
+some-along follow a b (name ∷ names) old portions same (told_on is portion goes more) = told_on (same.0 ∙ is) portion goes (some-along follow a b names _ _ same.1 more)
 
-abbrev OneRules : Type 0
-OneRules = (text : List ℕ) (one two : List Rule) → FileGives text one → FileGives text two → one ≡ two
+module _ (line : LineSetup) (s : Settings) (a b : FilesView) (same : Same a b (inputs_of s)) where
+  same-rules : Same a b (rules_file s.browsers_file)
+  same-rules = in-front a b (rules_file s.browsers_file) s.logs same
 
-one-rules : OneRules → (file : Option (List ℕ)) (files : FilesView) (rules other : List Rule) → RulesAreTold file files rules → RulesAreTold file files other → rules ≡ other
-one-rules one None files rules other h k = h ∙ sym k
-one-rules one (Some name) files rules other (text, is, gives) (text', is', gives') =
-    one text rules other gives (subst (λ (t : List ℕ). FileGives t other) (some-same (sym is' ∙ is)) gives')
+  same-logs : Same a b s.logs
+  same-logs = behind a b (rules_file s.browsers_file) s.logs same
 
-one-list : (names : List (List ℕ)) (files : FilesView) (texts others : List (List ℕ)) → AreTold names files texts → AreTold names files others → texts ≡ others
-one-list [] files texts others h k = h ∙ sym k
-one-list (name ∷ names) files texts others (text, rest, is, more, e) (text', rest', is', more', e') =
-    let heads : text ≡ text' = some-same (sym is ∙ is') in
-    let tails : rest ≡ rest' = one-list names files rest rest' more more' in
-    e ∙ ap (λ (t : List ℕ). t ∷ rest) heads ∙ ap (λ (ts : List (List ℕ)). text' ∷ ts) tails ∙ sym e'
+  told-rules : (rules : List Rule) → RulesAreTold s.browsers_file b rules → RulesAreTold s.browsers_file a rules
+  told-rules rules h = rules-along s.browsers_file a b rules same-rules h
 
--- a status whose fault line names no file and no target
+  bad-along : (at : ℕ) → HasBadLine s b at → HasBadLine s a at
+  bad-along at h = record {
+    name = h.name;
+    named = h.named;
+    text = h.text;
+    told = (subst (λ (file : Option (List ℕ)). Same a b (rules_file file)) h.named same-rules).0 ∙ h.told;
+    bad = h.bad;
+  }
+
+  counts-along : (yield : Yield) {rules : List Rule} {stored : DbValue} → CountsTold line s rules stored b yield.whole yield.entries → CountsTold line s rules stored a yield.whole yield.entries
+  counts-along yield h = record {
+    entries = h.entries;
+    begin = h.begin;
+    portions = h.portions;
+    told = told-along _ a b s.logs h.entries _ h.portions same-logs h.told;
+    run = h.run;
+    counts = h.counts;
+    is_whole = h.is_whole;
+  }
+
+  answers-along : (sides : Sides) (status : Status) (yield : Option Yield) → Answers line s b sides status yield → Answers line s a sides status yield
+  answers-along sides status yield (answers_rules h) = answers_rules (bad-along _ h)
+  answers-along sides status yield (answers_damage rules told uses h) = answers_damage rules (told-rules rules told) uses h
+  answers-along sides status yield (answers_full rules stored told has h) = answers_full rules stored (told-rules rules told) has (record {
+    entries = h.entries;
+    begin = h.begin;
+    portions = h.portions;
+    told = some-along _ a b s.logs h.entries h.portions same-logs h.told;
+    fills = h.fills;
+  })
+  answers-along sides status yield (answers_generation rules stored whole entries told has h lacks) = answers_generation rules stored whole entries (told-rules rules told) has (record {
+    entries = h.entries;
+    begin = h.begin;
+    portions = h.portions;
+    told = told-along _ a b s.logs h.entries _ h.portions same-logs h.told;
+    run = h.run;
+    counts = h.counts;
+    is_whole = h.is_whole;
+  }) lacks
+  answers-along sides status yield (answers_done rules stored {yield = own} told has h room is) = answers_done rules stored (told-rules rules told) has (counts-along own h) room is
+
+-- ---- how an untroubled run ended
+
+-- a fault line that names no file and no target
 abbrev Nameless : Status → Type 0
 Nameless status = (words : List (List ℕ)) (name : List ℕ) → NamesFailed words status name → name ≡ []
+
+nameless : (status : Status) → ¬ IsTrouble status → Nameless status
+nameless Done h = λ words name e. e
+nameless (BadWords fault) h = λ words name e. e
+nameless (BadFormat which fault) h = λ words name e. e
+nameless (BadRules at) h = λ words name e. e
+nameless (FileFault file) h = absurd (h tt)
+nameless (FileShort file at) h = absurd (h tt)
+nameless DiskFault h = absurd (h tt)
+nameless (DbDamaged side at) h = λ words name e. e
+nameless (OutFault to at) h = absurd (h tt)
+nameless (CounterFull which total) h = λ words name e. e
+nameless NoMemory h = absurd (h tt)
 
 one-line : (words : List (List ℕ)) (status : Status) (line other : List ℕ) → Nameless status → IsFaultLine words status line → IsFaultLine words status other → line ≡ other
 one-line words status line other none h k = h.is ∙ ap (λ (name : List ℕ). fault_line name status) (none words h.name h.names ∙ sym (none words k.name k.names)) ∙ sym k.is
@@ -125,170 +143,202 @@ taken : (text : List ℕ) (old new : TargetView) → ¬ Rose old.faults new.faul
 taken text old new still (inl all) = all
 taken text old new still (inr (at, stops)) = absurd (still (stops-rose at text old new stops))
 
--- a status of a refusal: no report was asked for
-record IsRefusal (status : Status) : Type 0 where
-  nameless : Nameless status
-  undone : status ≢ Done
-  unfailed : (to : To) (at : ℕ) → status ≢ OutFault to at
-
-words-refuse : (fault : WordFault) → IsRefusal (BadWords fault)
-words-refuse fault = record { nameless = λ words name h. h; undone = λ e. cc; unfailed = λ to at e. cc }
-
-unbuilt-refuses : IsRefusal Unbuilt
-unbuilt-refuses = record { nameless = λ words name h. h; undone = λ e. cc; unfailed = λ to at e. cc }
-
-format-refuses : (which : Which) (fault : FormatFault) → IsRefusal (BadFormat which fault)
-format-refuses which fault = record { nameless = λ words name h. h; undone = λ e. cc; unfailed = λ to at e. cc }
-
-rules-refuse : (at : ℕ) → IsRefusal (BadRules at)
-rules-refuse at = record { nameless = λ words name h. h; undone = λ e. cc; unfailed = λ to at e. cc }
-
-full-refuses : (which : Counter) (total : ℕ) → IsRefusal (CounterFull which total)
-full-refuses which total = record { nameless = λ words name h. h; undone = λ e. cc; unfailed = λ to at e. cc }
-
 -- no fault of the report's target rose
-output-still : (words : List (List ℕ)) (r : RunView) → IsUntroubled words r → (file : Option (List ℕ))
-    → ¬ Rose (target (target_of file) r.outs).faults (target (target_of file) r.outs').faults
-output-still words r u None = u.output
-output-still words r u (Some name) = u.file
+output-still : (words : List (List ℕ)) (sides : Sides) (r : RunView) → IsUntroubled words sides r → (file : Option (List ℕ))
+    → ¬ Rose (target (target_of file) r.old.outs).faults (target (target_of file) r.new.outs).faults
+output-still words sides r u None = u.output
+output-still words sides r u (Some name) = u.file
 
--- how an untroubled run over files ended
-abbrev IsEnding : Status → Type 0
-IsEnding status = (status ≡ Done) ⊎ ((at : ℕ) × (status ≡ BadRules at)) ⊎ ((which : Counter) × (total : ℕ) × (status ≡ CounterFull which total))
+-- the database that a run left, by what it yields
+abbrev LeftBy : Settings → RunView → Yield → Type 0
+LeftBy s r yield = (sides : Sides) → r.old.disk.seen ≡ Some sides → (db : DbValue) → HasDatabase r.new db → (db.summary ≡ yield.whole) × (db.entries ≡ map entry_value yield.entries)
 
-was-served : (status : Status) → IsEnding status → WasServed status
-was-served status (inl e) = record { file = λ file f. cc; memory = λ f. cc }
-was-served status (inr (inl (at, e))) = record { file = λ file f. cc; memory = λ f. cc }
-was-served status (inr (inr (which, total, e))) = record { file = λ file f. cc; memory = λ f. cc }
+abbrev Left : Settings → RunView → Yield → Type 0
+Left s r yield = ((s.persist ≡ true) × LeftBy s r yield) ⊎ ((s.persist ≡ false) × (r.new.disk.seen ≡ r.old.disk.seen))
 
-ended : (status : Status) → (HasGoodInput status → (status ≡ Done) ⊎ (status ≡ NoMemory)) → status ≢ NoMemory → IsEnding status
-ended status complete fed = go status refl
-  where
-    otherwise : HasGoodInput status → IsEnding status
-    otherwise good = by (complete good)
+-- what a run showed of its answer
+abbrev Shows : Settings → RunView → Option Yield → Type 0
+Shows s r None = SaysOnly r.old r.new × (r.new.disk.seen ≡ r.old.disk.seen)
+Shows s r (Some yield) = (r.new.outs ≡ but_errors r.new.outs (delivered (report_file s.generate s.output.name) yield.text r.old.outs)) × Left s r yield
+
+module _ (law : ReadAsTold) (database : OneDatabase) (words : List (List ℕ)) (sides : Sides) (s : Settings) (line : LineSetup) (says : WordsOf words (Ok s)) (is : IsLineSetup s line) where
+  module _ (r : RunView) (u : IsUntroubled words sides r) where
+    over : RunsOver line s r.old r.new r.status
+    over = u.is_run.runs s line says is
+
+    ends-as : HasGoodInput r.status → (r.status ≡ Done) ⊎ (r.status ≡ NoMemory)
+    ends-as good = over.complete (inr (u.faults, u.shorts)) u.disk (inr (output-still words sides r u (report_file s.generate s.output.name))) good
+
+    pub settled : (status : Status) → r.status ≡ status → ¬ IsTrouble status
+    settled Done e h = h
+    settled (BadWords fault) e h = h
+    settled (BadFormat which fault) e h = h
+    settled (BadRules at) e h = h
+    settled (FileFault file) e h = by (ends-as (record { rules = λ n f. cc; database = λ n m f. cc; counters = λ w n f. cc }))
       where
-        by : (status ≡ Done) ⊎ (status ≡ NoMemory) → IsEnding status
-        by (inl done) = inl done
-        by (inr starved) = absurd (fed starved)
+        by : (r.status ≡ Done) ⊎ (r.status ≡ NoMemory) → ⊥
+        by (inl f) = absurd (cc e)
+        by (inr f) = absurd (cc e)
+    settled (FileShort file at) e h = by (ends-as (record { rules = λ n f. cc; database = λ n m f. cc; counters = λ w n f. cc }))
+      where
+        by : (r.status ≡ Done) ⊎ (r.status ≡ NoMemory) → ⊥
+        by (inl f) = absurd (cc e)
+        by (inr f) = absurd (cc e)
+    settled DiskFault e h = by (ends-as (record { rules = λ n f. cc; database = λ n m f. cc; counters = λ w n f. cc }))
+      where
+        by : (r.status ≡ Done) ⊎ (r.status ≡ NoMemory) → ⊥
+        by (inl f) = absurd (cc e)
+        by (inr f) = absurd (cc e)
+    settled (DbDamaged side at) e h = h
+    settled (OutFault to at) e h = by (ends-as (record { rules = λ n f. cc; database = λ n m f. cc; counters = λ w n f. cc }))
+      where
+        by : (r.status ≡ Done) ⊎ (r.status ≡ NoMemory) → ⊥
+        by (inl f) = absurd (cc e)
+        by (inr f) = absurd (cc e)
+    settled (CounterFull which total) e h = h
+    settled NoMemory e h = u.fed e
 
-    go : (st : Status) → status ≡ st → IsEnding status
-    go Done e = inl e
-    go (BadRules at) e = inr (inl (at, e))
-    go (CounterFull which total) e = inr (inr (which, total, e))
-    go (BadWords fault) e = otherwise (record { rules = λ line f. cc; counters = λ which total f. cc })
-    go Unbuilt e = otherwise (record { rules = λ line f. cc; counters = λ which total f. cc })
-    go (BadFormat which fault) e = otherwise (record { rules = λ line f. cc; counters = λ which total f. cc })
-    go (FileFault file) e = otherwise (record { rules = λ line f. cc; counters = λ which total f. cc })
-    go (FileShort file at) e = otherwise (record { rules = λ line f. cc; counters = λ which total f. cc })
-    go (OutFault to at) e = otherwise (record { rules = λ line f. cc; counters = λ which total f. cc })
-    go NoMemory e = absurd (fed e)
+    left-by : (h : HasReport line s r.old r.new) → (yield : Yield) → yield.whole ≡ h.come.counted.whole → yield.entries ≡ h.come.counted.entries' → Left s r yield
+    left-by h yield whole entries = by h.kept
+      where
+        found-seen : h.found.seen ≡ r.old.disk.seen
+        found-seen = seen-same s r.old.disk h.found h.come.stored h.come.finds
 
--- a run over the files that settings name
-module _ (words : List (List ℕ)) (s : Settings) (line : LineSetup) (says : SayRun words s) (is : IsLineSetup s line) where
-  over : (r : RunView) → IsUntroubled words r → RunsLogs line s r.files r.files' r.outs r.outs' r.status
-  over r u = u.is_run.runs s line says is
+        kept-by : IsKeptSince s h.come.stored h.come.counted.whole h.come.counted.entries' h.found r.new.disk r.old.images r.new.images → LeftBy s r yield
+        kept-by k seen reads db (seen', is', has) =
+            let keeps : KeepsSince h.come.stored k.new r.new.disk r.old.images r.new.images =
+            subst (λ (o : Option Sides). IfSome o (λ x. KeepsSince h.come.stored k.new r.new.disk r.old.images r.new.images)) (found-seen ∙ reads) k.keeps in
+            let now : DbOf seen' (reads_as k.new) = subst (λ (o : Option Sides). IfSome o (λ x. DbOf x (reads_as k.new))) is' keeps.reads in
+            let same : db ≡ k.new = let e = database seen' (reads_as db) (reads_as k.new) has now in cc in (
+              ap (λ (v : DbValue). v.summary) same ∙ k.after.summary ∙ sym whole,
+              ap (λ (v : DbValue). v.entries) same ∙ k.after.entries ∙ ap (map entry_value) (sym entries),
+            )
 
-  ending : (r : RunView) → IsUntroubled words r → IsEnding r.status
-  ending r u = ended r.status (λ good. (over r u).complete (inr (u.faults, u.shorts)) (inr (output-still words r u (report_file s.generate s.output.name))) good) u.fed
+        by : KeptSince s h.come.stored h.come.counted.whole h.come.counted.entries' h.found r.new.disk r.old.images r.new.images → Left s r yield
+        by (inl (persists, k)) = inl (persists, kept-by k)
+        by (inr (not, left)) = inr (not, ap (λ (v : DiskView). v.seen) left.view ∙ found-seen)
 
-  -- where one ended for a bad rule or a full counter, so did the other
-  module _ (a b : RunView) (u : IsUntroubled words a) (v : IsUntroubled words b) (same : Same a.files b.files (inputs_of s)) where
-    same-rules : Same a.files b.files (rules_file s.browsers_file)
-    same-rules = in-front a.files b.files (rules_file s.browsers_file) s.logs same
+    abbrev Ending : Status → Type 0
+    Ending status = (yield : Option Yield) × Answers line s r.old.files sides status yield × Shows s r yield
 
-    same-logs : Same a.files b.files s.logs
-    same-logs = behind a.files b.files (rules_file s.browsers_file) s.logs same
+    -- an answer without a yield
+    by-refusal : (status : Status) → ((yield : Option Yield) × Answers line s r.old.files sides status yield) → status ≢ Done → SaysOnly r.old r.new → r.new.disk.seen ≡ r.old.disk.seen → Ending status
+    by-refusal status (None, h) undone quiet still = (None, h, (quiet, still))
+    by-refusal status (Some yield, answers_done rules stored told has h room is') undone quiet still = absurd (undone refl)
 
-    bad-too : (at : ℕ) → b.status ≡ BadRules at → a.status ≡ BadRules at
-    bad-too at e =
-        let k = (over b v).bad_rules at e in
-        let there : told k.name a.files.contents ≡ Some k.text =
-        same-rules-file a.files b.files s.browsers_file k.name k.named same-rules ∙ told-is k.name b.files b.files' k.text v.told_all k.read in
-        ((over a u).bad k.name k.text at k.named there).1 (k.bad, was-served a.status (ending a u))
+    untroubled : (status : Status) → ¬ IsTrouble status → IsTrouble status ⊎ ((yield : Option Yield) × Answers line s r.old.files sides status yield)
+        → (yield : Option Yield) × Answers line s r.old.files sides status yield
+    untroubled status h (inl trouble) = absurd (h trouble)
+    untroubled status h (inr found) = found
 
-    full-too : (which : Counter) (total : ℕ) → b.status ≡ CounterFull which total → a.status ≡ CounterFull which total
-    full-too which total e =
-        let k = (((over b v).full which total v.told_all).0 e).0 in
-        let fronts : Same a.files b.files k.front = in-front a.files b.files k.front k.back (subst (λ (names : List (List ℕ)). Same a.files b.files names) k.split same-logs) in
-        let told-too : FillsTold line s a.files which total = record {
-          front = k.front;
-          back = k.back;
-          split = k.split;
-          rules = k.rules;
-          rules_told = rules-along s.browsers_file a.files b.files k.rules same-rules k.rules_told;
-          logs = k.logs;
-          logs_told = logs-along k.front a.files b.files k.logs fronts k.logs_told;
-          fills = k.fills;
-        } in
-        ((over a u).full which total u.told_all).1 (told-too, was-served a.status (ending a u))
+    ending : (status : Status) → ¬ IsTrouble status → Ends line s r.old r.new status → Ending status
+    ending Done fine h =
+        (Some (yield-of law line s r.old r.new sides u.told_all (u.told_sides s says) h), done-answers law line s r.old r.new sides u.told_all (u.told_sides s says) h, (h.printed, left-by h.has (yield-of law line s r.old r.new sides u.told_all (u.told_sides s says) h) refl refl))
+    ending (BadWords fault) fine h = absurd h
+    ending (BadFormat which fault) fine h = absurd h
+    ending (BadRules at) fine h = by-refusal (BadRules at) (untroubled (BadRules at) fine (answers law line s r.old r.new sides u.told_all (u.told_sides s says) (BadRules at) h)) (λ e. cc) h.1
+        (ap (λ (v : DiskView). v.seen) h.0.disk.view)
+    ending (FileFault file) fine h = absurd (fine tt)
+    ending (FileShort file at) fine h = absurd (fine tt)
+    ending DiskFault fine h = absurd (fine tt)
+    ending (DbDamaged side at) fine h = by-refusal (DbDamaged side at) (untroubled (DbDamaged side at) fine (answers law line s r.old r.new sides u.told_all (u.told_sides s says) (DbDamaged side at) h)) (λ e. cc)
+        h.1 (ap (λ (v : DiskView). v.seen) h.0.misses.looks.view)
+    ending (OutFault to at) fine h = absurd (fine tt)
+    ending (CounterFull which total) fine (inl h, quiet) =
+        by-refusal (CounterFull which total) (untroubled (CounterFull which total) fine (answers law line s r.old r.new sides u.told_all (u.told_sides s says) (CounterFull which total) (inl h, quiet))) (λ e. cc)
+        quiet (seen-same s r.old.disk r.new.disk h.begun.stored (found-there s r.old.disk r.new.disk r.old.images r.new.images h.begun.stored h.begun.finds))
+    ending (CounterFull which total) fine (inr h, quiet) =
+        by-refusal (CounterFull which total) (untroubled (CounterFull which total) fine (answers law line s r.old r.new sides u.told_all (u.told_sides s says) (CounterFull which total) (inr h, quiet))) (λ e. cc)
+        quiet (seen-same s r.old.disk r.new.disk h.come.stored h.come.finds)
+    ending NoMemory fine h = absurd (fine tt)
 
-module _ (words : List (List ℕ)) (a b : RunView) (u : IsUntroubled words a) (v : IsUntroubled words b) where
+    pub ended : Ending r.status
+    ended = ending r.status (settled r.status refl) over.ends
+
+-- ---- two of them
+
+-- the same database is left where none was changed
+still-same : OneDatabase → (sides : Sides) (a b : RunView) → a.new.disk.seen ≡ a.old.disk.seen → b.new.disk.seen ≡ b.old.disk.seen → a.old.disk.seen ≡ Some sides → b.old.disk.seen ≡ Some sides
+    → SameDatabase a.new b.new
+still-same database sides a b h k reads reads' db db' (x, is, has) (y, is', has') =
+    let same-x : x ≡ sides = let e = sym is ∙ h ∙ reads in cc in
+    let same-y : y ≡ sides = let e = sym is' ∙ k ∙ reads' in cc in
+    let same : db ≡ db' = let e = database sides (reads_as db) (reads_as db') (subst (λ (z : Sides). DbOf z (reads_as db)) same-x has) (subst (λ (z : Sides). DbOf z (reads_as db')) same-y has') in cc in
+    (ap (λ (v : DbValue). v.summary) same, ap (λ (v : DbValue). v.entries) same)
+
+module _ (database : OneDatabase) (words : List (List ℕ)) (sides : Sides) (a b : RunView) (u : IsUntroubled words sides a) (v : IsUntroubled words sides b) where
   -- with one status and one report, all is alike
-  alike : (status : Status) → Nameless status → a.status ≡ status → b.status ≡ status → (report : Option (Option (List ℕ) × List ℕ)) → Wrote report a.outs a.outs' → Wrote report b.outs b.outs'
-      → Alike a b
-  alike status nameless e f report output output' =
-      let here = u.is_run.line in
-      let there = v.is_run.line in
+  alike : (status : Status) → Nameless status → a.status ≡ status → b.status ≡ status → (report : Option (Option (List ℕ) × List ℕ)) → Wrote report a.old.outs a.new.outs → Wrote report b.old.outs b.new.outs
+      → (a.old.disk.seen ≡ Some sides → b.old.disk.seen ≡ Some sides → SameDatabase a.new b.new) → Alike sides a b
+  alike status unnamed e f report output output' left =
+      let here = u.is_run.reports.line in
+      let there = v.is_run.reports.line in
       let lines : there.0 ≡ here.0 =
-      one-line words status there.0 here.0 nameless (subst (λ (st : Status). IsFaultLine words st there.0) f there.1) (subst (λ (st : Status). IsFaultLine words st here.0) e here.1) in
+      one-line words status there.0 here.0 unnamed (subst (λ (st : Status). IsFaultLine words st there.0) f there.1) (subst (λ (st : Status). IsFaultLine words st here.0) e here.1) in
       record {
         status = e ∙ sym f;
         report = report;
         line = here.0;
         output = output;
         output' = output';
-        errors = taken here.0 a.outs.stderr a.outs'.stderr u.errors here.2;
-        errors' = taken there.0 b.outs.stderr b.outs'.stderr v.errors there.2 ∙ ap (λ (text : List ℕ). takes text b.outs.stderr) lines;
+        errors = taken here.0 a.old.outs.stderr a.new.outs.stderr u.errors here.2;
+        errors' = taken there.0 b.old.outs.stderr b.new.outs.stderr v.errors there.2 ∙ ap (λ (text : List ℕ). takes text b.old.outs.stderr) lines;
+        database = left;
       }
 
-  -- both refuse alike
-  refused-alike : (status : Status) → IsRefusal status → a.status ≡ status → b.status ≡ status → Alike a b
-  refused-alike status refusal e f =
-      let unwritten : a.outs' ≡ but_errors a.outs' a.outs = u.is_run.refused (λ done. refusal.undone (sym e ∙ done)) (λ to at failed. refusal.unfailed to at (sym e ∙ failed)) in
-      let unwritten' : b.outs' ≡ but_errors b.outs' b.outs = v.is_run.refused (λ done. refusal.undone (sym f ∙ done)) (λ to at failed. refusal.unfailed to at (sym f ∙ failed)) in
-      alike status refusal.nameless e f None unwritten unwritten'
+  -- both refuse the words
+  refused-alike : (status : Status) → Nameless status → status ≢ Done → ((to : _) (at : ℕ) → status ≢ OutFault to at) → a.status ≡ status → b.status ≡ status → NothingWasRead a.old a.new → NothingWasRead b.old b.new
+      → Alike sides a b
+  refused-alike status unnamed undone unfailed e f still still' =
+      alike status unnamed e f None (u.is_run.reports.refused (λ done. undone (sym e ∙ done)) (λ to at failed. unfailed to at (sym e ∙ failed)))
+      (v.is_run.reports.refused (λ done. undone (sym f ∙ done)) (λ to at failed. unfailed to at (sym f ∙ failed)))
+      (still-same database sides a b (ap (λ (d : DiskView). d.seen) still.disk.view) (ap (λ (d : DiskView). d.seen) still'.disk.view))
 
-  -- both gave the report of the same logs
-  module _ (one : OneRules) (s : Settings) (line : LineSetup) (says : SayRun words s) (is : IsLineSetup s line) (same : Same a.files b.files (inputs_of s))
-      (report : (rules : List Rule) (logs : List (List ℕ)) (x y : List ℕ) → IsReportOf line s rules logs x → IsReportOf line s rules logs y → x ≡ y) where
-    done-alike : a.status ≡ Done → b.status ≡ Done → Alike a b
-    done-alike e f =
-        let h = (over words s line says is a u).done e in
-        let k = (over words s line says is b v).done f in
-        let here = read-told s s.logs a.files a.files' u.told_all h.read in
-        let there = read-told s s.logs b.files b.files' v.told_all k.read in
-        let rules : k.read.rules ≡ h.read.rules =
-        one-rules one s.browsers_file a.files k.read.rules h.read.rules
-        (rules-along s.browsers_file a.files b.files k.read.rules (in-front a.files b.files (rules_file s.browsers_file) s.logs same) there.0) here.0 in
-        let logs : k.read.logs ≡ h.read.logs =
-        one-list s.logs a.files k.read.logs h.read.logs (logs-along s.logs a.files b.files k.read.logs (behind a.files b.files (rules_file s.browsers_file) s.logs same) there.1) here.1 in
-        let told_report : IsReportOf line s h.read.rules h.read.logs k.text =
-        subst (λ (ls : List (List ℕ)). IsReportOf line s h.read.rules ls k.text) logs (subst (λ (rs : List Rule). IsReportOf line s rs k.read.logs k.text) rules k.report) in
-        let text : k.text ≡ h.text = report h.read.rules h.read.logs k.text h.text told_report h.report in
-        alike Done (λ ws name n. n) e f (Some (report_file s.generate s.output.name, h.text)) h.printed
-        (subst (λ (t : List ℕ). b.outs' ≡ but_errors b.outs' (delivered (report_file s.generate s.output.name) t b.outs)) text k.printed)
+-- what the law of answers says of settings
+abbrev pub OneAnswer : Type 0
+OneAnswer = (s : Settings) (line : LineSetup) → IsLineSetup s line → (files : FilesView) (sides : Sides) (a b : Status) (yielded other : Option Yield) → Answers line s files sides a yielded
+    → Answers line s files sides b other → (a ≡ b) × (yielded ≡ other)
 
-    logs-alike : Alike a b
-    logs-alike = go (ending words s line says is a u) (ending words s line says is b v)
+module _ (answer : OneAnswer) (law : ReadAsTold) (database : OneDatabase) (words : List (List ℕ)) (sides : Sides) (a b : RunView) (u : IsUntroubled words sides a) (v : IsUntroubled words sides b)
+    (same : HaveSameInputs words a b) where
+  -- both ran over their inputs
+  module _ (s : Settings) (line : LineSetup) (says : WordsOf words (Ok s)) (is : IsLineSetup s line) where
+    shown-alike : (yield : Option Yield) → a.status ≡ b.status → Shows s a yield → Shows s b yield → Alike sides a b
+    shown-alike None e (quiet, still) (quiet', still') =
+        alike database words sides a b u v b.status (nameless b.status (settled law database words sides s line says is b v b.status refl)) e refl None quiet quiet'
+        (still-same database sides a b still still')
+    shown-alike (Some yield) e (printed, left) (printed', left') =
+        alike database words sides a b u v b.status (nameless b.status (settled law database words sides s line says is b v b.status refl)) e refl
+        (Some (report_file s.generate s.output.name, yield.text)) printed printed' (by left left')
       where
-        back : Same b.files a.files (inputs_of s)
-        back = flipped a.files b.files (inputs_of s) same
+        by : Left s a yield → Left s b yield → a.old.disk.seen ≡ Some sides → b.old.disk.seen ≡ Some sides → SameDatabase a.new b.new
+        by (inl (persists, h)) (inl (persists', k)) reads reads' db db' has has' =
+            let x = h sides reads db has in
+            let y = k sides reads' db' has' in
+            (x.0 ∙ sym y.0, x.1 ∙ sym y.1)
+        by (inl (persists, h)) (inr (not, k)) reads reads' db db' has has' = absurd (false≢true (sym not ∙ persists))
+        by (inr (not, h)) (inl (persists, k)) reads reads' db db' has has' = absurd (false≢true (sym not ∙ persists))
+        by (inr (not, h)) (inr (not', k)) reads reads' db db' has has' = still-same database sides a b h k reads reads' db db' has has'
 
-        go : IsEnding a.status → IsEnding b.status → Alike a b
-        go (inl e) (inl f) = done-alike e f
-        go (inr (inl (at, e))) ending' = refused-alike (BadRules at) (rules-refuse at) e (bad-too words s line says is b a v u back at e)
-        go (inr (inr (which, total, e))) ending' = refused-alike (CounterFull which total) (full-refuses which total) e (full-too words s line says is b a v u back which total e)
-        go (inl e) (inr (inl (at, f))) = refused-alike (BadRules at) (rules-refuse at) (bad-too words s line says is a b u v same at f) f
-        go (inl e) (inr (inr (which, total, f))) = refused-alike (CounterFull which total) (full-refuses which total) (full-too words s line says is a b u v same which total f) f
+    both-alike : Alike sides a b
+    both-alike =
+        let (yield, answers-a, shows-a) = ended law database words sides s line says is a u in
+        let (other, answers-b, shows-b) = ended law database words sides s line says is b v in
+        let one = answer s line is a.old.files sides a.status b.status yield other answers-a (answers-along line s a.old.files b.old.files (same s says) sides b.status other answers-b) in
+        shown-alike yield one.0 shows-a (subst (λ (y : Option Yield). Shows s b y) (sym one.1) shows-b)
 
-pub one-run : OneRules → ((s : Settings) (line : LineSetup) → IsLineSetup s line → (rules : List Rule) (logs : List (List ℕ)) (x y : List ℕ) → IsReportOf line s rules logs x
-    → IsReportOf line s rules logs y → x ≡ y) → (words : List (List ℕ)) (a b : RunView) → IsUntroubled words a → IsUntroubled words b → HaveSameInputs words a b → Alike a b
-one-run one report words a b u v same = go u.is_run.decided
-  where
-    go : AreRefused words ⊎ HaveSetup words ⊎ (a.status ≡ NoMemory) → Alike a b
-    go (inl (inl (fault, h))) = refused-alike words a b u v (BadWords fault) (words-refuse fault) ((u.is_run.bad_words fault).1 (h, u.fed)) ((v.is_run.bad_words fault).1 (h, v.fed))
-    go (inl (inr (inl h))) = refused-alike words a b u v Unbuilt unbuilt-refuses (u.is_run.unbuilt.1 (h, u.fed)) (v.is_run.unbuilt.1 (h, v.fed))
-    go (inl (inr (inr (which, fault, h)))) =
-        refused-alike words a b u v (BadFormat which fault) (format-refuses which fault) ((u.is_run.bad_format which fault).1 (h, u.fed)) ((v.is_run.bad_format which fault).1 (h, v.fed))
-    go (inr (inl (s, says, (line, is)))) = logs-alike words a b u v one s line says is (same s says.0) (report s line is)
-    go (inr (inr starved)) = absurd (u.fed starved)
+  pub one-run : Alike sides a b
+  one-run = by u.is_run.reads.decided
+    where
+      refused : AreRefused words → Alike sides a b
+      refused (inl (fault, bad)) =
+          refused-alike database words sides a b u v (BadWords fault) (λ ws name e. e) (λ e. cc) (λ to at e. cc) ((u.is_run.reads.bad_words fault).1 (bad, u.fed)) ((v.is_run.reads.bad_words fault).1 (bad, v.fed))
+          (u.is_run.reads.untouched (inl (fault, bad))) (v.is_run.reads.untouched (inl (fault, bad)))
+      refused (inr (which, fault, bad)) =
+          refused-alike database words sides a b u v (BadFormat which fault) (λ ws name e. e) (λ e. cc) (λ to at e. cc) ((u.is_run.reads.bad_format which fault).1 (bad, u.fed))
+          ((v.is_run.reads.bad_format which fault).1 (bad, v.fed)) (u.is_run.reads.untouched (inr (which, fault, bad))) (v.is_run.reads.untouched (inr (which, fault, bad)))
+
+      by : AreRefused words ⊎ HaveSetup words ⊎ (a.status ≡ NoMemory) → Alike sides a b
+      by (inl h) = refused h
+      by (inr (inl (s, says, (line, is)))) = both-alike s line says is
+      by (inr (inr e)) = absurd (u.fed e)

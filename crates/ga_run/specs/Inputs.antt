@@ -1,38 +1,20 @@
--- The files that a run reads, one after the other: the browsers file, where one is named, and then the logs in their order.
-use Rattle.std.specs.Prelude.{◌≡◌, ◌≢◌, ℕ, ◌≤◌, List, [], ◌∷◌, ◌++◌, length, Option, Some, None}
-use Rattle.std.specs.List.{AllByRecursion}
-use Rattle.ga_agents.specs.declared.row.Rule.{Rule}
-use Rattle.ga_agents.specs.RulesFile.{FileGives}
-use Rattle.ga_ports.specs.Counts.{raised, NoneDue}
-use Rattle.ga_ports.specs.Files.{FilesView, told}
+-- The files that a run reads, in their order: the browsers file, where one is named, and then the logs.
+use Rattle.std.specs.Prelude.{◌≡◌, ℕ, ◌+◌, List, [], ◌∷◌, ◌++◌, length, Option, Some, None, IfSome}
+use Rattle.ga_base.specs.declared.entry.Entry.{Entry}
+use Rattle.ga_disk.specs.Disk.{DiskView}
+use Rattle.ga_keep.specs.Database.{AreBase, SidesHave, follow_of}
+use Rattle.ga_logs.specs.Following.{AsksFor, ReadsPortion}
+use Rattle.ga_logs.specs.Portions.{Follows}
+use Rattle.ga_logs.specs.declared.follow.Follow.{Follow}
+use Rattle.ga_logs.specs.declared.follow.Follow.TheVariants.{Whole}
+use Rattle.ga_logs.specs.declared.portion.Portion.{Portion}
+use Rattle.ga_ports.specs.Files.{FilesView}
+use Rattle.ga_store.specs.Database.{DbValue}
 use Rattle.ga_words.specs.declared.settings.Settings.{Settings}
-use Rattle.ga_run.specs.Reading.{ReadsLog, MissesLog}
-use Rattle.ga_run.specs.declared.reading.LogFault.{LogFault}
+use Rattle.ga_run.specs.declared.status.Input.{Input}
+use Rattle.ga_run.specs.declared.status.Input.TheVariants.{Rules, Log}
 
--- these files were read whole, one after the other, and these are their contents
-abbrev pub ReadAll : List (List ℕ) → FilesView → FilesView → List (List ℕ) → Type 0
-ReadAll [] old new texts = (new ≡ old) × (texts ≡ [])
-ReadAll (name ∷ names) old new texts = (mid : FilesView) × (text : List ℕ) × (rest : List (List ℕ))
-    × ReadsLog name old mid text × ReadAll names mid new rest × (texts ≡ text ∷ rest)
-
--- the files before the one at this place were read whole, and it was not
-pub record MissesAt (names : List (List ℕ)) (place : ℕ) (old new : FilesView) (fault : LogFault) : Type 0 where
-  pub front : List (List ℕ)
-  pub name : List ℕ
-  pub back : List (List ℕ)
-  pub split : names ≡ front ++ name ∷ back
-  pub at_place : place ≡ length front
-  pub mid : FilesView
-  pub texts : List (List ℕ)
-  pub read : ReadAll front old mid texts
-  pub misses : MissesLog name mid new fault
-
--- the rules of the browsers file, which was read whole; there are none, and nothing was read, where none is named
-abbrev pub HasRules : Option (List ℕ) → FilesView → FilesView → List Rule → Type 0
-HasRules None old new rules = (new ≡ old) × (rules ≡ [])
-HasRules (Some name) old new rules = (text : List ℕ) × ReadsLog name old new text × FileGives text rules
-
--- the names of a run's files, in their order
+-- the names of a run's files
 abbrev pub rules_file : Option (List ℕ) → List (List ℕ)
 rules_file None = []
 rules_file (Some name) = name ∷ []
@@ -40,26 +22,33 @@ rules_file (Some name) = name ∷ []
 abbrev pub inputs_of : Settings → List (List ℕ)
 inputs_of s = rules_file s.browsers_file ++ s.logs
 
--- so many files were asked for, each once, and no more bytes were handed out than the sizes that were answered
-pub record Asks (count : ℕ) (old new : FilesView) : Type 0 where
-  pub asked : new.counts.asked ≡ raised old.counts.asked count
-  pub handed : (sizes given : ℕ) × (given ≤ sizes) × (new.counts.sizes ≡ raised old.counts.sizes sizes)
-      × (new.counts.given ≡ raised old.counts.given given)
-  -- nothing else changed but which file is open and the counts
-  pub others : new ≡ record old { is_open = new.is_open; bytes = new.bytes; measured = new.measured; counts = new.counts }
+-- how many files stand before this one
+abbrev pub place_of : Settings → Input → ℕ
+place_of s Rules = 0
+place_of s (Log place) = length (rules_file s.browsers_file) + place
 
--- it is told that no call on these files can fail: none from now on is listed, and they are all there
-pub record CanServe (names : List (List ℕ)) (files : FilesView) : Type 0 where
-  pub none_due : NoneDue files.listed files.counts.calls
-  pub present : AllByRecursion (λ name. told name files.contents ≢ None) names
+-- so many of these logs were asked for, each once, and handed out no more than a run reads of them
+pub data Walks (follow : Follow) : List (List ℕ) → List Entry → FilesView → FilesView → ℕ → Type 0 where
+  walks_none : {names : List (List ℕ)} {entries : List Entry} {files : FilesView} → Walks follow names entries files files 0
+  walks_last : {name : List ℕ} {names : List (List ℕ)} {entries : List Entry} {files files' : FilesView}
+      → AsksFor follow entries name files files' → Walks follow (name ∷ names) entries files files' 1
+  walks_on : {name : List ℕ} {names : List (List ℕ)} {old mid : List Entry} {files between files' : FilesView} {portion : Portion} {count : ℕ}
+      → ReadsPortion follow old name files between portion → Follows follow portion old mid
+      → Walks follow names mid between files' count → Walks follow (name ∷ names) old files files' (1 + count)
 
--- the contents of these files are told, and they are these
-abbrev pub AreTold : List (List ℕ) → FilesView → List (List ℕ) → Type 0
-AreTold [] files texts = texts ≡ []
-AreTold (name ∷ names) files texts = (text : List ℕ) × (rest : List (List ℕ)) × (told name files.contents ≡ Some text)
-    × AreTold names files rest × (texts ≡ text ∷ rest)
+-- what a run counts on from is what the sides have, where they are told
+abbrev pub IsStored : Settings → DiskView → DbValue → Type 0
+IsStored s disk stored = IfSome disk.seen (λ sides. SidesHave s sides stored)
 
--- the content of the browsers file is told, where one is named, and gives these rules
-abbrev pub RulesAreTold : Option (List ℕ) → FilesView → List Rule → Type 0
-RulesAreTold None files rules = rules ≡ []
-RulesAreTold (Some name) files rules = (text : List ℕ) × (told name files.contents ≡ Some text) × FileGives text rules
+-- the same of a run's files: the browsers file is read whole, and the logs from where the entries lead that are stored
+pub data WalksInputs (s : Settings) (disk : DiskView) : FilesView → FilesView → ℕ → Type 0 where
+  asks_none : {files : FilesView} → WalksInputs s disk files files 0
+  asks_rules : (name : List ℕ) {files files' : FilesView} → s.browsers_file ≡ Some name → AsksFor Whole [] name files files'
+      → WalksInputs s disk files files' 1
+  asks_logs : (stored : DbValue) (entries : List Entry) {files files' : FilesView} {count : ℕ} → s.browsers_file ≡ None
+      → IsStored s disk stored → AreBase s stored entries → Walks (follow_of s) s.logs entries files files' count
+      → WalksInputs s disk files files' count
+  asks_both : (name : List ℕ) (stored : DbValue) (entries : List Entry) (mid : FilesView) (text : Portion) {files files' : FilesView} {count : ℕ}
+      → s.browsers_file ≡ Some name → ReadsPortion Whole [] name files mid text
+      → IsStored s disk stored → AreBase s stored entries → Walks (follow_of s) s.logs entries mid files' count
+      → WalksInputs s disk files files' (1 + count)

@@ -1,10 +1,13 @@
-pub mod Counting
+pub mod Course
+pub mod Ends
 pub mod Inputs
-pub mod LogsRun
+pub mod Keeping
 pub mod OneRun
 pub mod Printing
-pub mod Reading
+pub mod Reports
 pub mod Run
+pub mod Setups
 pub mod Statuses
 pub mod Steps
-pub mod Setups
+pub mod Told
+pub mod World

@@ -1,43 +1,150 @@
--- What one run of goaccess is: over the words, plain views of the files and the targets before and after, and the status.
-use Rattle.std.specs.Prelude.{◌≡◌, ◌≢◌, ℕ, ◌⊎◌, ◌↔◌, true, false, List, Ok, Err}
+-- What one run of goaccess is: over the words, plain views of the files, the disk and the targets before and after, and the
+-- status.
+use Rattle.std.specs.Prelude.{◌≡◌, ◌≢◌, ℕ, ◌⊎◌, ◌↔◌, ◌≤◌, true, List, length, Some, None, Ok, Err, Option, slice_get}
+use Rattle.ga_base.specs.declared.counts.Counter.{Counter}
 use Rattle.ga_base.specs.declared.formats.FormatFault.{FormatFault}
+use Rattle.ga_disk.specs.Disk.{DiskView}
+use Rattle.ga_disk.specs.Images.{LeavesOnly}
+use Rattle.ga_disk.specs.Sides.{Sides}
+use Rattle.ga_disk.specs.Stretch.{DiskWent}
+use Rattle.ga_keep.specs.Database.{IsUntouched, uses_database}
 use Rattle.ga_line.specs.declared.setup.LineSetup.{LineSetup}
-use Rattle.ga_ports.specs.Counts.{raised}
-use Rattle.ga_ports.specs.Files.{FilesView}
-use Rattle.ga_ports.specs.Outs.{OutsView}
+use Rattle.ga_logs.specs.Following.{CanServe}
+use Rattle.ga_ports.specs.Counts.{raised, Rose}
+use Rattle.ga_ports.specs.Files.{is_absent}
+use Rattle.ga_ports.specs.Outs.{OutsView, target}
 use Rattle.ga_ports.specs.Stretch.{FilesWent, OutsWent}
 use Rattle.ga_ports.specs.declared.file_counts.FileCounts.{FileCounts}
 use Rattle.ga_ports.specs.declared.outs.To.{To}
+use Rattle.ga_store.specs.Commit.{IsLater}
+use Rattle.ga_store.specs.Commits.{HasEither}
+use Rattle.ga_store.specs.Database.{DbOf, DbValue}
+use Rattle.ga_store.specs.Database.Reading.{stored as reads_as}
+use Rattle.ga_summary.specs.Rows.{SummaryValue}
 use Rattle.ga_words.specs.WordsOf.{WordsOf}
 use Rattle.ga_words.specs.declared.fault.WordFault.{WordFault}
 use Rattle.ga_words.specs.declared.settings.Settings.{Settings}
-use Rattle.ga_run.specs.LogsRun.{RunsLogs}
-use Rattle.ga_run.specs.Printing.{TakesOrStops, but_errors}
-use Rattle.ga_run.specs.Setups.{IsLineSetup, IsRefused, is_unbuilt}
+use Rattle.ga_run.specs.Ends.{Ends}
+use Rattle.ga_run.specs.Inputs.{WalksInputs, inputs_of, place_of}
+use Rattle.ga_run.specs.Printing.{OutputCanTake, TakesOrStops, but_errors, report_file, target_of}
+use Rattle.ga_run.specs.Reports.{IsTextOf}
+use Rattle.ga_run.specs.Setups.{IsLineSetup, IsRefused}
 use Rattle.ga_run.specs.Statuses.{IsFaultLine}
+use Rattle.ga_run.specs.Told.{Answers, Yield}
+use Rattle.ga_run.specs.World.{World}
 use Rattle.ga_run.specs.declared.status.Status.{Status}
-use Rattle.ga_run.specs.declared.status.Status.TheVariants.{Done, BadWords, Unbuilt, BadFormat, FileFault, FileShort, OutFault, NoMemory}
+use Rattle.ga_run.specs.declared.status.Status.TheVariants.{Done, BadWords, BadFormat, BadRules, FileFault, FileShort, DiskFault, DbDamaged, OutFault, CounterFull, NoMemory}
 use Rattle.ga_run.specs.declared.status.Which.{Which}
 
--- the words say settings that are built, or such as aren't
-abbrev pub SayRun : List (List ℕ) → Settings → Type 0
-SayRun words s = WordsOf words (Ok s) × (is_unbuilt s ≡ false)
+-- ---- the words
 
-abbrev pub AreUnbuilt : List (List ℕ) → Type 0
-AreUnbuilt words = (s : Settings) × WordsOf words (Ok s) × (is_unbuilt s ≡ true)
-
--- the words say a run, and this of its formats is the first that is refused
+-- this of the formats that the words say is the first that is refused
 abbrev pub HaveRefused : List (List ℕ) → Which → FormatFault → Type 0
-HaveRefused words which fault = (s : Settings) × SayRun words s × IsRefused s which fault
+HaveRefused words which fault = (s : Settings) × WordsOf words (Ok s) × IsRefused s which fault
 
--- the words are refused, or what they say isn't built, or one of their formats is refused
+-- the words are refused, or one of their formats is
 abbrev pub AreRefused : List (List ℕ) → Type 0
-AreRefused words = ((fault : WordFault) × WordsOf words (Err fault)) ⊎ AreUnbuilt words
-    ⊎ ((which : Which) × (fault : FormatFault) × HaveRefused words which fault)
+AreRefused words = ((fault : WordFault) × WordsOf words (Err fault)) ⊎ ((which : Which) × (fault : FormatFault) × HaveRefused words which fault)
 
--- the words say a run whose formats are good
+-- the words say settings whose formats are good
 abbrev pub HaveSetup : List (List ℕ) → Type 0
-HaveSetup words = (s : Settings) × SayRun words s × ((line : LineSetup) × IsLineSetup s line)
+HaveSetup words = (s : Settings) × WordsOf words (Ok s) × ((line : LineSetup) × IsLineSetup s line)
+
+-- no file was asked for, and the disk wasn't touched
+pub record NothingWasRead (old new : World) : Type 0 where
+  pub files : new.files ≡ old.files
+  pub disk : IsUntouched old.disk new.disk old.images new.images
+
+pub record ReadsWords (words : List (List ℕ)) (old new : World) (status : Status) : Type 0 where
+  -- words are refused exactly where they say no settings, with the fault that they have, unless memory runs out
+  pub bad_words : (fault : WordFault) → (status ≡ BadWords fault) ↔ (WordsOf words (Err fault) × (status ≢ NoMemory))
+  -- a format is refused exactly where it is the first bad one
+  pub bad_format : (which : Which) (fault : FormatFault)
+      → (status ≡ BadFormat which fault) ↔ (HaveRefused words which fault × (status ≢ NoMemory))
+  pub untouched : AreRefused words → NothingWasRead old new
+  -- all other words say a run whose formats are good, unless memory runs out
+  pub decided : AreRefused words ⊎ HaveSetup words ⊎ (status ≡ NoMemory)
+
+-- ---- what served
+
+-- the files served: it was told that they can, or no count of their failed or short calls rose
+abbrev pub FilesServed : Settings → World → World → Type 0
+FilesServed s old new = CanServe (inputs_of s) old.files
+    ⊎ (¬ Rose old.files.counts.faults new.files.counts.faults × ¬ Rose old.files.counts.shorts new.files.counts.shorts)
+
+abbrev pub DiskServed : World → World → Type 0
+DiskServed old new = ¬ Rose old.disk.counts.faults new.disk.counts.faults
+
+-- the report's target served: it was told that it can take the report, whichever that may be, and no call wanted memory, or
+-- no count of its faults rose
+abbrev pub OutputServed : Settings → World → World → Type 0
+OutputServed s old new = let to = target_of (report_file s.generate s.output.name) in
+    (((sum : SummaryValue) (text : List ℕ) → IsTextOf s sum text → OutputCanTake to (length text) old.outs)
+    × ¬ Rose old.outs.starved new.outs.starved)
+    ⊎ (¬ Rose (target to old.outs).faults (target to new.outs).faults)
+
+-- the run ended neither for a bad rule, nor for damage, nor for a full counter
+pub record HasGoodInput (status : Status) : Type 0 where
+  pub rules : (line : ℕ) → status ≢ BadRules line
+  pub database : (side at : ℕ) → status ≢ DbDamaged side at
+  pub counters : (which : Counter) (total : ℕ) → status ≢ CounterFull which total
+
+-- the run ended for a fault of the outside, or for want of memory
+abbrev pub IsTrouble : Status → Type 0
+IsTrouble (FileFault file) = Unit {0}
+IsTrouble (FileShort file at) = Unit {0}
+IsTrouble DiskFault = Unit {0}
+IsTrouble (OutFault to at) = Unit {0}
+IsTrouble NoMemory = Unit {0}
+IsTrouble _ = ⊥
+
+-- a run that ended so didn't pass the file at this place
+abbrev pub EndsBefore : Settings → ℕ → Status → Type 0
+EndsBefore s place Done = ⊥
+EndsBefore s place (OutFault to at) = ⊥
+EndsBefore s place (FileShort file at) = ⊥
+EndsBefore s place (FileFault file) = place_of s file ≤ place
+EndsBefore s place _ = Unit {0}
+
+-- a disk that the run uses reads so
+abbrev pub TellsSides : Settings → DiskView → Sides → Type 0
+TellsSides s disk sides = uses_database s ≡ true → disk.seen ≡ Some sides
+
+-- ---- the database at each moment
+
+-- each image is one that the disk had at the start
+abbrev pub LeavesDisk : World → World → Type 0
+LeavesDisk old new = LeavesOnly old.images new.images old.images.now
+
+-- or has what was stored or the database after the run, which is a later one
+pub record LeavesEither (sides : Sides) (old new : World) : Type 0 where
+  pub stored : DbValue
+  pub later : DbValue
+  pub had : DbOf sides (reads_as stored)
+  pub rises : IsLater stored later
+  pub moments : LeavesOnly old.images new.images (λ image. old.images.now image ⊎ HasEither stored later image)
+
+-- ---- the run over its inputs
+
+pub record RunsOver (line : LineSetup) (s : Settings) (old new : World) (status : Status) : Type 0 where
+  -- the files are asked for in their order, each once, and no more of them is handed out than is read from where they are
+  -- begun
+  pub asks : (count : ℕ) × WalksInputs s old.disk old.files new.files count
+  -- what each status shows
+  pub ends : Ends line s old new status
+  -- over told files, and told sides where it uses them, it is their answer, or the outside failed, or memory ran out
+  pub told : (sides : Sides) → old.files.contents ≢ None → TellsSides s old.disk sides
+      → IsTrouble status ⊎ ((yield : Option Yield) × Answers line s old.files sides status yield)
+  -- a file that is told to be absent isn't passed
+  pub absent : (place : ℕ) (name : List ℕ) → slice_get (inputs_of s) place ≡ Some name
+      → is_absent name old.files.contents ≡ true → EndsBefore s place status
+  -- where all served and the input is good, the run is done, or memory ran out
+  pub complete : FilesServed s old new → DiskServed old new → OutputServed s old new → HasGoodInput status
+      → (status ≡ Done) ⊎ (status ≡ NoMemory)
+  -- what a crash may have left since the start
+  pub moments : (sides : Sides) → old.disk.seen ≡ Some sides → LeavesDisk old new ⊎ LeavesEither sides old new
+
+-- ---- one run
 
 -- the counts of the files' failed and short calls after a run with this status
 abbrev pub faults_after : Status → FileCounts → FileCounts
@@ -51,29 +158,23 @@ pub record SameFaults (old new : FileCounts) : Type 0 where
   pub shorts : new.shorts ≡ old.shorts
   pub short_at : new.short_at ≡ old.short_at
 
-pub record IsRun (words : List (List ℕ)) (files files' : FilesView) (outs outs' : OutsView) (status : Status) : Type 0 where
-  -- words are refused exactly where they say no settings, with the fault that they have, unless memory runs out
-  pub bad_words : (fault : WordFault) → (status ≡ BadWords fault) ↔ (WordsOf words (Err fault) × (status ≢ NoMemory))
-  -- what isn't built is refused, and nothing else is
-  pub unbuilt : (status ≡ Unbuilt) ↔ (AreUnbuilt words × (status ≢ NoMemory))
-  -- a format is refused exactly where it is the first bad one
-  pub bad_format : (which : Which) (fault : FormatFault)
-      → (status ≡ BadFormat which fault) ↔ (HaveRefused words which fault × (status ≢ NoMemory))
-  -- then no file is asked for
-  pub untouched : AreRefused words → files' ≡ files
-  -- all other words say a run whose formats are good, unless memory runs out
-  pub decided : AreRefused words ⊎ HaveSetup words ⊎ (status ≡ NoMemory)
-  -- and the run is over the files that they name
-  pub runs : (s : Settings) (line : LineSetup) → SayRun words s → IsLineSetup s line
-      → RunsLogs line s files files' outs outs' status
+-- what is said of the run
+pub record Reports (words : List (List ℕ)) (old new : OutsView) (status : Status) : Type 0 where
   -- after a refusal no file was made, and no target but standard error took a byte
-  pub refused : status ≢ Done → ((to : To) (at : ℕ) → status ≢ OutFault to at) → outs' ≡ but_errors outs' outs
+  pub refused : status ≢ Done → ((to : To) (at : ℕ) → status ≢ OutFault to at) → new ≡ but_errors new old
   -- the fault line, or a proper front of it where standard error failed
-  pub line : (text : List ℕ) × IsFaultLine words status text × TakesOrStops text outs.stderr outs'.stderr
+  pub line : (text : List ℕ) × IsFaultLine words status text × TakesOrStops text old.stderr new.stderr
   -- nothing is said where the run is done
-  pub quiet : status ≡ Done → outs'.stderr ≡ outs.stderr
+  pub quiet : status ≡ Done → new.stderr ≡ old.stderr
+
+pub record IsRun (words : List (List ℕ)) (old new : World) (status : Status) : Type 0 where
+  pub reads : ReadsWords words old new status
+  -- the run is over what the words name
+  pub runs : (s : Settings) (line : LineSetup) → WordsOf words (Ok s) → IsLineSetup s line → RunsOver line s old new status
+  pub reports : Reports words old.outs new.outs status
   -- the files' faults are counted as the status says
-  pub faults : SameFaults (faults_after status files.counts) files'.counts
-  -- calls of the files and of the targets led from the views before to those after, each by its own clauses
-  pub files_went : FilesWent files files'
-  pub outs_went : OutsWent outs outs'
+  pub faults : SameFaults (faults_after status old.files.counts) new.files.counts
+  -- calls led from the views before to those after, each by its own clauses
+  pub files_went : FilesWent old.files new.files
+  pub disk_went : DiskWent old.disk new.disk
+  pub outs_went : OutsWent old.outs new.outs

@@ -1,6 +1,6 @@
 -- What the settings of a run come to: the setup with which lines are read and counted, or the first format that is
 -- refused.
-use Rattle.std.specs.Prelude.{◌≡◌, ℕ, Bool, ◌||◌, List, unwrap_or, Result, Ok, Err, codes}
+use Rattle.std.specs.Prelude.{◌≡◌, ℕ, List, unwrap_or, Result, Ok, Err, codes}
 use Rattle.ga_agents.specs.declared.row.Rule.{Rule}
 use Rattle.ga_base.specs.declared.formats.FormatItem.{FormatItem}
 use Rattle.ga_base.specs.declared.formats.FormatFault.{FormatFault}
@@ -12,13 +12,9 @@ use Rattle.ga_format.specs.Named.{StandsFor}
 use Rattle.ga_line.specs.declared.setup.LineSetup.{LineSetup}
 use Rattle.ga_panels.specs.declared.setup.PanelSetup.{PanelSetup}
 use Rattle.ga_words.specs.declared.settings.Settings.{Settings}
-use Rattle.ga_run.specs.declared.setup.Setup.{Setup}
+use Rattle.ga_logs.specs.declared.setup.Setup.{Setup}
 use Rattle.ga_run.specs.declared.status.Which.{Which}
 use Rattle.ga_run.specs.declared.status.Which.TheVariants.{Log, Date, Time}
-
--- the settings ask for the database, which isn't built
-abbrev pub is_unbuilt : Settings → Bool
-is_unbuilt s = s.persist || s.restore
 
 -- the log format, by its text or its name; where none is given it is the combined one, which the generator's lines have
 abbrev pub format_word : Settings → List ℕ

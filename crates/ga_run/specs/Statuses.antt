@@ -13,22 +13,23 @@ use Rattle.ga_run.specs.Printing.{report_file, target_of}
 use Rattle.ga_run.specs.declared.status.Input.{Input}
 use Rattle.ga_run.specs.declared.status.Input.TheVariants.{Rules as RulesInput, Log as LogInput}
 use Rattle.ga_run.specs.declared.status.Status.{Status}
-use Rattle.ga_run.specs.declared.status.Status.TheVariants.{Done, BadWords, Unbuilt, BadFormat, BadRules, FileFault, FileShort, OutFault, CounterFull, NoMemory}
+use Rattle.ga_run.specs.declared.status.Status.TheVariants.{Done, BadWords, BadFormat, BadRules, FileFault, FileShort, DiskFault, DbDamaged, OutFault, CounterFull, NoMemory}
 use Rattle.ga_run.specs.declared.status.Which.{Which}
 use Rattle.ga_run.specs.declared.status.Which.TheVariants.{Log, Date, Time}
 
--- 0 where all is done, 1 for the words, their formats and the rules, 2 for the files, 4 for the report's target, 5 for a full
--- counter, 7 for want of memory
+-- 0 where all is done, 1 for the words, their formats and the rules, 2 for the files, 3 for the disk, 4 for the report's target,
+-- 5 for a full counter, 6 for a damaged database, 7 for want of memory
 abbrev pub code_of : Status → ℕ
 code_of Done = 0
 code_of (BadWords fault) = 1
-code_of Unbuilt = 1
 code_of (BadFormat which fault) = 1
 code_of (BadRules line) = 1
 code_of (FileFault file) = 2
 code_of (FileShort file at) = 2
+code_of DiskFault = 3
 code_of (OutFault to at) = 4
 code_of (CounterFull which total) = 5
+code_of (DbDamaged side at) = 6
 code_of NoMemory = 7
 
 -- pieces one after the other
@@ -66,12 +67,14 @@ word_pieces WordNoMemory = codes "goaccess: no memory\n" ∷ []
 abbrev pub fault_pieces : List ℕ → Status → List (List ℕ)
 fault_pieces name Done = []
 fault_pieces name (BadWords fault) = word_pieces fault
-fault_pieces name Unbuilt = codes "goaccess: not built\n" ∷ []
 fault_pieces name (BadFormat which fault) =
     codes "goaccess: " ∷ format_name which ∷ (place_pieces (fault_place fault) ++ codes ": " ∷ fault_text fault ∷ codes "\n" ∷ [])
 fault_pieces name (BadRules line) = codes "goaccess: browsers file, line " ∷ decimal line ∷ codes ": not a rule\n" ∷ []
 fault_pieces name (FileFault file) = codes "goaccess: " ∷ name ∷ codes ": read failed\n" ∷ []
 fault_pieces name (FileShort file at) = codes "goaccess: " ∷ name ∷ codes ": short at " ∷ decimal at ∷ codes "\n" ∷ []
+fault_pieces name DiskFault = codes "goaccess: database: device failed\n" ∷ []
+fault_pieces name (DbDamaged side at) =
+    codes "goaccess: database: side " ∷ decimal side ∷ codes " damaged at " ∷ decimal at ∷ codes "\n" ∷ []
 fault_pieces name (OutFault to at) =
     codes "goaccess: " ∷ name ∷ codes ": write failed after " ∷ decimal at ∷ codes " bytes\n" ∷ []
 fault_pieces name (CounterFull which total) =

@@ -23,7 +23,6 @@ pub fn tell<O: Outs>(outs: &mut O, name: &[u8], status: &Status)
     match status {
         Status::Done => say(outs, &[]),
         Status::BadWords(fault) => tell_words(outs, fault),
-        Status::Unbuilt => say(outs, &[b"goaccess: not built\n"]),
         Status::BadFormat { which, fault } => {
             let format = format_name(*which);
             let text = fault.text().as_bytes();
@@ -48,6 +47,8 @@ pub fn tell<O: Outs>(outs: &mut O, name: &[u8], status: &Status)
             let at = digits.format(*at).as_bytes();
             say(outs, &[b"goaccess: ", name, b": short at ", at, b"\n"])
         }
+        Status::DiskFault => say(outs, &[b"goaccess: database: device failed\n"]),
+        Status::DbDamaged { side, at } => tell_damage(outs, *side, *at),
         Status::OutFault { at, .. } => {
             let at = digits.format(*at).as_bytes();
             let taken = b": write failed after ";
@@ -60,6 +61,21 @@ pub fn tell<O: Outs>(outs: &mut O, name: &[u8], status: &Status)
         }
         Status::NoMemory => say(outs, &[b"goaccess: no memory\n"]),
     }
+}
+
+/// Writes the fault line of a damaged database.
+fn tell_damage<O: Outs>(outs: &mut O, side: u32, at: u64)
+    ensures line { TakesOrStops (joined (codes "goaccess: database: side " ∷ decimal side ∷ codes " damaged at " ∷ decimal at ∷ codes "\n" ∷ [])) (O.view outs.old).stderr (O.view outs.new).stderr }
+    ensures others { ChangesOnly Stderr (O.view outs.old) (O.view outs.new) }
+    ensures starved { (O.view outs.old).starved ≤ (O.view outs.new).starved }
+    ensures calls { OutsWent (O.view outs.old) (O.view outs.new) }
+{
+    let mut places = Buffer::new();
+    let mut sides = Buffer::new();
+    let at = places.format(at).as_bytes();
+    let side = sides.format(side).as_bytes();
+    let text = b"goaccess: database: side ";
+    say(outs, &[text, side, b" damaged at ", at, b"\n"])
 }
 
 /// Writes the fault line of words.

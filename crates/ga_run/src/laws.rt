@@ -1,27 +1,36 @@
 //! What holds of all runs and reports. Each function's contract is the law; what its body calls are the laws that it
 //! rests on.
 
-ghost use Rattle.std.specs.Prelude.{◌≡◌, ℕ, List, Result, Ok};
+ghost use Rattle.std.specs.Prelude.{◌≡◌, ℕ, List, Option, Result, Ok};
 ghost use Rattle.ga_agents.specs.declared.row.Rule.{Rule};
 ghost use Rattle.ga_base.specs.declared.counts.Counter.{Counter};
 ghost use Rattle.ga_base.specs.declared.counts.Totals.{Totals};
+ghost use Rattle.ga_disk.specs.Sides.{Sides};
 ghost use Rattle.ga_line.specs.declared.setup.LineSetup.{LineSetup as TheSetup};
+ghost use Rattle.ga_logs.specs.Counting.{CountsLines, FillsAmong};
+ghost use Rattle.ga_ports.specs.Files.{FilesView};
+ghost use Rattle.ga_ports.specs.Outs.{OutsView};
 ghost use Rattle.ga_summary.specs.Rows.{SummaryValue};
 ghost use Rattle.ga_words.specs.WordsOf.{WordsOf};
 ghost use Rattle.ga_words.specs.declared.settings.Settings.{Settings as TheSettings};
-ghost use Rattle.ga_run.specs.Counting.{CountsLines, FillsAmong};
-ghost use Rattle.ga_run.specs.LogsRun.{IsReportOf};
-ghost use Rattle.ga_run.specs.OneRun.{Alike, HaveSameInputs, IsUntroubled, RunView};
+ghost use Rattle.ga_run.specs.OneRun.{Alike, HaveSameInputs, IsUntroubled, RunView, run_of};
+ghost use Rattle.ga_run.specs.Reports.{IsTextOf};
 ghost use Rattle.ga_run.specs.Setups.{IsLineSetup, setup_of};
 ghost use Rattle.ga_run.specs.Steps.Setups.{ComeTo};
+ghost use Rattle.ga_run.specs.Told.{Answers, Yield};
+ghost use Rattle.ga_run.specs.World.{world_of};
 ghost use Rattle.ga_run.specs.declared.setups.SetupFault.{SetupFault as TheFault};
+ghost use Rattle.ga_run.specs.declared.status.Status.{Status as TheStatus};
 
 use ga_agents::laws::one_reading;
 use ga_dates::laws::one_format;
-use ga_format::laws::one_answer;
+use ga_disk::Disk;
+use ga_format::laws::one_answer as one_answer_of_formats;
 use ga_line::laws::one_meaning;
+use ga_logs::laws::{one_course, one_following, one_portion, read_as_told};
 use ga_panels::laws::one_list_of_keys;
 use ga_report::laws::one_report as one_report_of_rows;
+use ga_store::laws::one_database;
 use ga_summary::laws::one_sum;
 use ga_words::laws::one_reading as one_reading_of_words;
 
@@ -30,7 +39,7 @@ pub(crate) fn one_outcome()
     ensures { (s : TheSettings) (a b : Result TheSetup TheFault) → ComeTo s a → ComeTo s b → a ≡ b }
 {
     one_format();
-    one_answer();
+    one_answer_of_formats();
 }
 
 /// Words say settings once at the most, and the formats of these are read in one way.
@@ -60,22 +69,40 @@ pub fn one_count()
     one_sum();
 }
 
-/// Logs that are read as settings say have one report.
-pub fn one_report()
-    ensures { (s : TheSettings) (line : TheSetup) → IsLineSetup s line → (rules : List Rule) (logs : List (List ℕ))
-        (a b : List ℕ) → IsReportOf line s rules logs a → IsReportOf line s rules logs b → a ≡ b }
+/// A summary is printed as one text.
+pub fn one_text()
+    ensures { (s : TheSettings) (sum : SummaryValue) (a b : List ℕ) → IsTextOf s sum a → IsTextOf s sum b → a ≡ b }
 {
     one_report_of_rows();
-    one_count();
 }
 
-/// Two runs with the same words, over told contents that are the same for the files that the words name, end alike
-/// where no count of a fault rose and no memory was wanted: with one status, the same report in the same place, and the
-/// same bytes written to standard error.
-pub fn one_run()
-    ensures { (words : List (List ℕ)) (a b : RunView) → IsUntroubled words a → IsUntroubled words b
-        → HaveSameInputs words a b → Alike a b }
+/// Over told files and sides a run that the settings say has one answer: one status, and where it is done one text, one sum and
+/// one list of entries.
+pub fn one_answer()
+    ensures { (s : TheSettings) (line : TheSetup) → IsLineSetup s line → (files : FilesView) (sides : Sides) (a b : TheStatus)
+        (yielded other : Option Yield) → Answers line s files sides a yielded → Answers line s files sides b other
+        → (a ≡ b) × (yielded ≡ other) }
 {
     one_reading();
-    one_report();
+    one_count();
+    one_course();
+    one_database();
+    one_portion();
+    one_following();
+    one_text();
+}
+
+/// Two runs with the same words, over told files with the same contents and the same told sides, end alike where no count of a
+/// fault rose and no memory was wanted: with one status, the same report in the same place, the same bytes written to standard
+/// error, and the same database.
+pub fn one_run<D: Disk, E: Disk>()
+    ensures { (words : List (List ℕ)) (sides : Sides) (files files' others others' : FilesView) (disk disk' : D) (other other' : E)
+        (outs outs' targets targets' : OutsView) (status end : TheStatus)
+        → let a : RunView = run_of (world_of files (D.view disk) (D.images disk) outs) (world_of files' (D.view disk') (D.images disk') outs') status in
+        let b : RunView = run_of (world_of others (E.view other) (E.images other) targets) (world_of others' (E.view other') (E.images other') targets') end in
+        IsUntroubled words sides a → IsUntroubled words sides b → HaveSameInputs words a b → Alike sides a b }
+{
+    one_answer();
+    one_database();
+    read_as_told();
 }

@@ -1,19 +1,16 @@
 //! One run of goaccess: from the words of the command line, with the formats that they say, to the report.
 //!
-//! Start with `goaccess_run`, the call that the program makes. What it does is one record, `IsRun` of `specs/Run.antt`,
-//! over plain views of the files and the targets; `specs/LogsRun.antt` has the run over the files that the words name, and
-//! `specs/Setups.antt` how lines are read and counted then. `laws` says what holds of all runs, `one_run` first: words and
-//! told contents fix what a run does.
+//! Start with `goaccess_run`, the call that the program makes. What it does is one record, `IsRun` of `specs/Run.antt`, over
+//! plain views of what the run stands in (`specs/World.antt`): the files, the disk of its database and the targets. What each
+//! status shows stands in `specs/Ends.antt`, and in `specs/Told.antt` the one answer of a run over told files and sides. `laws`
+//! says what holds of all runs, `one_run` first: words, told files and told sides fix what a run does.
 #![tactic(auto)]
 
-mod counting;
 mod faults;
 pub mod laws;
 mod printing;
-mod reading;
 mod rules;
 mod run;
-mod setup;
 mod setups;
 mod status;
 #[cfg(test)]
@@ -21,5 +18,4 @@ mod tests;
 
 pub use printing::{deliver, print};
 pub use run::goaccess_run;
-pub use setup::Setup;
 pub use status::{Input, Status, Which};

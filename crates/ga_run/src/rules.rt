@@ -1,23 +1,25 @@
 ghost use Rattle.std.specs.Prelude.{◌≢◌, Some, IfOk, IfErr};
 ghost use Rattle.ga_ports.specs.Stretch.{FilesWent};
 ghost use Rattle.std.specs.Option.{option_copied};
-ghost use Rattle.ga_run.specs.Inputs.{CanServe, HasRules, rules_file};
-ghost use Rattle.ga_run.specs.Reading.{FilesCanServe};
-ghost use Rattle.ga_run.specs.Steps.Logs.{StopsNamed, StopsRules};
-ghost use Rattle.ga_run.specs.declared.reading.LogFault.TheVariants.{Failed};
+ghost use Rattle.ga_logs.specs.Following.{CanServe, CanServeOne};
+ghost use Rattle.ga_run.specs.Course.{HasRules};
+ghost use Rattle.ga_run.specs.Inputs.{rules_file};
+ghost use Rattle.ga_run.specs.Steps.Rules.{StopsNamed, StopsRules};
+ghost use Rattle.ga_resume.specs.declared.fault.PlaceFault.TheVariants.{FileFault};
 ghost use Rattle.ga_run.specs.declared.rules.RulesFault.TheVariants.{Unread};
 
-use crate::reading::{LogFault, read_log};
 use ga_agents::{RuleFault, Rules};
 use ga_base::Text;
+use ga_logs::{Follow, read_portion};
 use ga_ports::Files;
+use ga_resume::PlaceFault;
 use std::alloc::Global;
 
 /// Why the rules of a browsers file weren't read.
 #[derive(Clone, Copy, Debug, PartialEq, Eq)]
 pub enum RulesFault {
     /// The file wasn't read whole, or there was no memory for its rules.
-    Unread(LogFault),
+    Unread(PlaceFault),
     /// The line with this number, from 1, is the first that is no rule.
     Bad { line: u64 },
 }
@@ -31,7 +33,7 @@ pub fn rules_of<F: Files>(
     ensures ok { IfOk result (HasRules (option_copied name.entry) (F.view files.old) (F.view files.new)) }
     ensures stops { IfErr result (StopsNamed (option_copied name.entry) (F.view files.old) (F.view files.new)) }
     ensures calls { FilesWent (F.view files.old) (F.view files.new) }
-    ensures sure { CanServe (rules_file (option_copied name.entry)) (F.view files.old) → IfErr result (λ fault. fault ≢ Unread Failed) }
+    ensures sure { CanServe (rules_file (option_copied name.entry)) (F.view files.old) → IfErr result (λ fault. fault ≢ Unread FileFault) }
 {
     match name {
         Some(name) => read_rules(alloc, name, files),
@@ -44,15 +46,15 @@ fn read_rules<F: Files>(alloc: Global, name: &Text, files: &mut F) -> Result<Rul
     ensures ok { IfOk result (λ rules. HasRules (Some name.now) (F.view files.old) (F.view files.new) rules) }
     ensures stops { IfErr result (StopsRules name.now (F.view files.old) (F.view files.new)) }
     ensures calls { FilesWent (F.view files.old) (F.view files.new) }
-    ensures sure { FilesCanServe name.now (F.view files.old) → IfErr result (λ fault. fault ≢ Unread Failed) }
+    ensures sure { CanServeOne name.now (F.view files.old) → IfErr result (λ fault. fault ≢ Unread FileFault) }
 {
-    let text = match read_log(alloc, files, name) {
+    let text = match read_portion(alloc, Follow::Whole, &[], name, files) {
         Ok(text) => text,
         Err(fault) => return Err(RulesFault::Unread(fault)),
     };
-    match Rules::read(alloc, &text) {
+    match Rules::read(alloc, text.bytes.bytes()) {
         Ok(rules) => Ok(rules),
         Err(RuleFault::RuleFault { line }) => Err(RulesFault::Bad { line }),
-        Err(RuleFault::NoMemory) => Err(RulesFault::Unread(LogFault::NoMemory)),
+        Err(RuleFault::NoMemory) => Err(RulesFault::Unread(PlaceFault::NoMemory)),
     }
 }

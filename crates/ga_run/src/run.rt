@@ -1,73 +1,88 @@
-ghost use Rattle.std.specs.Prelude.{◌≡◌, IfOk, option_map};
+ghost use Rattle.std.specs.Prelude.{◌≡◌, IfOk, IfErr, IsTrue, option_map};
 ghost use Rattle.std.specs.Option.{option_copied};
-ghost use Rattle.ga_ports.specs.Stretch.{OutsWent};
+ghost use Rattle.ga_disk.specs.Stretch.{DiskWent};
+ghost use Rattle.ga_ports.specs.Stretch.{FilesWent, OutsWent};
 ghost use Rattle.ga_generate.specs.Summary.{summary_text};
+ghost use Rattle.ga_keep.specs.Database.{IsWhole};
+ghost use Rattle.ga_logs.specs.Following.{CanServe};
 ghost use Rattle.ga_print.specs.Json.{json_text};
 ghost use Rattle.ga_report.specs.Printable.{IsPrintable};
-ghost use Rattle.ga_run.specs.LogsRun.{IsTextOf, text_as};
+ghost use Rattle.ga_store.specs.Reading.{db_value};
+ghost use Rattle.ga_summary.specs.Sound.{IsSummary};
+ghost use Rattle.ga_run.specs.Course.{HasCounted};
 ghost use Rattle.ga_run.specs.Printing.{report_file, target_of};
+ghost use Rattle.ga_run.specs.Reports.{IsTextOf, text_as};
 ghost use Rattle.ga_run.specs.Run.{IsRun};
 ghost use Rattle.ga_run.specs.Statuses.{target_name};
-ghost use Rattle.ga_run.specs.Steps.Run.{EndsLogs, EndsReport, EndsRun, KeepsNames, failed_name, input_name, status_of_count, status_of_rules, status_of_words};
+ghost use Rattle.ga_run.specs.World.{world_of};
+ghost use Rattle.ga_run.specs.Steps.Run.{CountedValue, EndsInputs, EndsLast, EndsReport, EndsRun, IsReady, NoFileFailed, StopsCounting, failed_name, input_name};
 
-use crate::counting::{CountFault, count_logs};
 use crate::faults::tell;
 use crate::printing::deliver;
-use crate::reading::LogFault;
-use crate::rules::{RulesFault, rules_of};
-use crate::setups::{SetupFault, is_unbuilt, line_setup, panel_setup};
-use crate::{Input, Setup, Status, laws};
-use ga_agents::laws::one_reading;
-use ga_base::{Bytes, NoMemory, Text};
+use crate::rules::rules_of;
+use crate::setups::{SetupFault, line_setup, panel_setup};
+use crate::{Input, Status, laws};
+use ga_base::{Bytes, Entries, NoMemory, Text};
+use ga_disk::Disk;
 use ga_generate::summary;
+use ga_keep::{base_entries, find, keep, start, whole};
 use ga_line::LineSetup;
+use ga_logs::laws::read_as_told;
+use ga_logs::{Setup, count_logs};
 use ga_ports::laws::files_stay;
 use ga_ports::{Files, Outs, To};
 use ga_print::{csv, json};
 use ga_report::{Report, rows};
+use ga_store::Db;
 use ga_summary::Summary;
-use ga_words::laws::one_reading as one_reading_of_words;
-use ga_words::{Kind, Settings, WordFault, read_words};
+use ga_words::laws::one_reading;
+use ga_words::{Kind, Settings, read_words};
 use std::alloc::Global;
+
+/// What a run counted, and what it began with.
+#[derive(Debug, Drop)]
+struct Counted {
+    /// The database that was found.
+    stored: Db,
+    /// The sum of the run's own lines.
+    run: Summary,
+    /// What is shown and kept of it.
+    whole: Summary,
+    /// How far each log was counted.
+    entries: Entries,
+}
 
 /// Runs goaccess over the words of a command line, without the program's name.
 ///
-/// The browsers file is read first, where one is named, and then the logs in their order, each opened once; the report goes
-/// where `-o` says once all else has succeeded. With any status but `Done` a fault line goes to standard error.
-pub fn goaccess_run<F: Files, O: Outs>(
+/// The browsers file is read first, where one is named; then the database is recovered, where it is used, and the logs are
+/// counted in their order, each opened once. With `--persist` the run is kept; then the report goes where `-o` says. With any
+/// status but `Done` a fault line goes to standard error.
+pub fn goaccess_run<F: Files, D: Disk, O: Outs>(
     alloc: Global,
     words: &[Text],
     files: &mut F,
+    disk: &mut D,
     outs: &mut O,
 ) -> Status
-    ensures { IsRun words.now (F.view files.old) (F.view files.new) (O.view outs.old) (O.view outs.new) result }
+    ensures { IsRun words.now
+        (world_of (F.view files.old) (D.view disk.old) (D.images disk.old) (O.view outs.old))
+        (world_of (F.view files.new) (D.view disk.new) (D.images disk.new) (O.view outs.new)) result }
 {
     // What is known of words, formats and lines, for the proof alone: the calls do nothing.
     laws::one_outcome();
-    laws::one_count();
+    read_as_told();
     one_reading();
-    one_reading_of_words();
     match read_words(alloc, words) {
         Err(fault) => {
-            let status = refusal(fault);
+            let status = Status::from(fault);
             tell(outs, b"", &status);
             status
         }
-        Ok(mut settings) => {
-            let status = run_settings(alloc, &mut settings, files, outs);
+        Ok(settings) => {
+            let status = run_settings(alloc, &settings, files, disk, outs);
             tell(outs, failed_name(&settings, &status), &status);
             status
         }
-    }
-}
-
-/// The status of words that say no settings.
-fn refusal(fault: WordFault) -> Status
-    ensures { result ≡ status_of_words fault }
-{
-    match fault {
-        WordFault::NoMemory => Status::NoMemory,
-        _ => Status::BadWords(fault),
     }
 }
 
@@ -118,71 +133,136 @@ fn report_file(settings: &Settings) -> Option<&Text>
     }
 }
 
-/// Runs as the settings say: their formats first, then the files. The names that they have stay.
-fn run_settings<F: Files, O: Outs>(
+/// Runs as the settings say: their formats first, then the inputs.
+fn run_settings<F: Files, D: Disk, O: Outs>(
     alloc: Global,
-    settings: &mut Settings,
+    settings: &Settings,
     files: &mut F,
+    disk: &mut D,
     outs: &mut O,
 ) -> Status
-    ensures ends { EndsRun settings.old (F.view files.old) (F.view files.new) (O.view outs.old) (O.view outs.new) result }
-    ensures names { KeepsNames settings.old settings.new }
+    ensures { EndsRun settings.now
+        (world_of (F.view files.old) (D.view disk.old) (D.images disk.old) (O.view outs.old))
+        (world_of (F.view files.new) (D.view disk.new) (D.images disk.new) (O.view outs.new)) result }
 {
-    if is_unbuilt(settings) {
-        return Status::Unbuilt;
-    }
     match line_setup(alloc, settings) {
-        Ok(line) => run_files(alloc, line, settings, files, outs),
+        Ok(line) => run_inputs(alloc, line, settings, files, disk, outs),
         Err(SetupFault::Refused { which, fault }) => Status::BadFormat { which, fault },
         Err(SetupFault::NoMemory) => Status::NoMemory,
     }
 }
 
-/// Reads the files that the settings name, and delivers the report.
-fn run_files<F: Files, O: Outs>(
+/// Reads the inputs that the settings name, keeps the run and delivers the report.
+fn run_inputs<F: Files, D: Disk, O: Outs>(
     alloc: Global,
     line: LineSetup,
-    settings: &mut Settings,
+    settings: &Settings,
     files: &mut F,
+    disk: &mut D,
     outs: &mut O,
 ) -> Status
-    ensures ends { EndsLogs line settings.old (F.view files.old) (F.view files.new) (O.view outs.old) (O.view outs.new) result }
-    ensures names { KeepsNames settings.old settings.new }
+    ensures { EndsInputs line settings.now
+        (world_of (F.view files.old) (D.view disk.old) (D.images disk.old) (O.view outs.old))
+        (world_of (F.view files.new) (D.view disk.new) (D.images disk.new) (O.view outs.new)) result }
 {
     // What is known of calls of the files, for the proof alone: the call does nothing.
     files_stay();
     let rules = match rules_of(alloc, settings.browsers_file.as_ref(), files) {
         Ok(rules) => rules,
-        Err(fault) => return status_of_rules(fault),
+        Err(fault) => return Status::from(fault),
     };
-    let setup = Setup {
-        line,
-        panels: panel_setup(alloc, settings, rules),
+    let Ok(panels) = panel_setup(alloc, settings, rules) else {
+        return Status::NoMemory;
     };
-    match count_logs(
-        alloc,
-        &setup,
-        settings.generate,
-        settings.logs.items(),
-        files,
-    ) {
-        Ok(summary) => report(alloc, settings, &summary, outs),
-        Err(fault) => status_of_count(fault),
+    let setup = Setup { line, panels };
+    match count(alloc, &setup, settings, files, disk) {
+        Ok(counted) => finish(alloc, settings, &counted, disk, outs),
+        Err(status) => status,
     }
 }
 
-/// Delivers the report on a summary.
-fn report<O: Outs>(alloc: Global, settings: &Settings, summary: &Summary, outs: &mut O) -> Status
-    ensures ends { EndsReport settings.now summary.now (O.view outs.old) (O.view outs.new) result }
+/// Finds the database, where it is used, and counts the logs from there on.
+fn count<F: Files, D: Disk>(
+    alloc: Global,
+    setup: &Setup,
+    settings: &Settings,
+    files: &mut F,
+    disk: &mut D,
+) -> Result<Counted, Status>
+    ensures ok { IfOk result (λ counted. CountedValue setup.now settings.now counted (F.view files.old) (F.view files.new) (D.view disk.old) (D.view disk.new) (D.images disk.old) (D.images disk.new)) }
+    ensures stops { IfErr result (StopsCounting setup.now settings.now (F.view files.old) (F.view files.new) (D.view disk.old) (D.view disk.new) (D.images disk.old) (D.images disk.new)) }
+    ensures sure { CanServe settings.now.logs (F.view files.old) → IfErr result NoFileFailed }
+    ensures files_went { FilesWent (F.view files.old) (F.view files.new) }
+    ensures disk_went { DiskWent (D.view disk.old) (D.view disk.new) }
+{
+    let stored = find(alloc, settings, disk)?;
+    let mut entries = base_entries(alloc, settings, &stored)?;
+    let start = start(alloc, settings, &stored);
+    sound(&stored.summary);
+    let names = settings.logs.items();
+    let run = count_logs(
+        alloc,
+        setup,
+        start,
+        settings.generate,
+        names,
+        &mut entries,
+        files,
+    )?;
+    let whole = whole(settings, &stored, &run)?;
+    Ok(Counted {
+        stored,
+        run,
+        whole,
+        entries,
+    })
+}
+
+/// Each summary is sound.
+fn sound(summary: &Summary)
+    ensures { IsSummary summary.now }
+{
+    summary.totals();
+}
+
+/// Keeps the run, where it persists, and delivers the report. All memory is taken before the disk is written.
+fn finish<D: Disk, O: Outs>(
+    alloc: Global,
+    settings: &Settings,
+    counted: &Counted,
+    disk: &mut D,
+    outs: &mut O,
+) -> Status
+    requires ready { IsTrue settings.now.persist → IsReady (D.view disk.old) (D.images disk.old) counted.now.stored }
+    requires whole { IsWhole settings.now (db_value counted.now.stored) counted.now.run counted.now.whole }
+    ensures { EndsLast settings.now counted.now (D.view disk.old) (D.view disk.new) (D.images disk.old) (D.images disk.new) (O.view outs.old) (O.view outs.new) result }
+{
+    let Ok(text) = text_of(alloc, settings, &counted.whole) else {
+        return Status::NoMemory;
+    };
+    if settings.persist {
+        let Counted {
+            stored,
+            run,
+            whole,
+            entries,
+        } = counted;
+        if let Err(fault) = keep(alloc, settings, stored, run, whole, entries, disk) {
+            return Status::from(fault);
+        }
+    }
+    report(settings, text.bytes(), outs)
+}
+
+/// Delivers a report.
+fn report<O: Outs>(settings: &Settings, text: &[u8], outs: &mut O) -> Status
+    ensures ends { EndsReport settings.now text.now (O.view outs.old) (O.view outs.new) result }
     ensures errors { (O.view outs.new).stderr ≡ (O.view outs.old).stderr }
     ensures calls { OutsWent (O.view outs.old) (O.view outs.new) }
 {
-    let Ok(text) = text_of(alloc, settings, summary) else {
-        return Status::NoMemory;
-    };
     let file = report_file(settings);
     let to = target_of(file);
-    match deliver(outs, file, text.bytes()) {
+    match deliver(outs, file, text) {
         Ok(()) => Status::Done,
         Err(at) => Status::OutFault { to, at },
     }
@@ -195,36 +275,6 @@ fn target_of(file: Option<&Text>) -> To
     match file {
         None => To::Stdout,
         Some(_) => To::File,
-    }
-}
-
-/// How a run ends whose rules weren't read.
-fn status_of_rules(fault: RulesFault) -> Status
-    ensures { result ≡ status_of_rules fault }
-{
-    let file = Input::Rules;
-    match fault {
-        RulesFault::Bad { line } => Status::BadRules { line },
-        RulesFault::Unread(LogFault::Failed) => Status::FileFault { file },
-        RulesFault::Unread(LogFault::Short { at }) => Status::FileShort { file, at },
-        RulesFault::Unread(LogFault::NoMemory) => Status::NoMemory,
-    }
-}
-
-/// How a run ends whose logs weren't counted.
-fn status_of_count(fault: CountFault) -> Status
-    ensures { result ≡ status_of_count fault }
-{
-    match fault {
-        CountFault::Failed { place } => Status::FileFault {
-            file: Input::Log(place),
-        },
-        CountFault::Short { place, at } => Status::FileShort {
-            file: Input::Log(place),
-            at,
-        },
-        CountFault::Full { which, total } => Status::CounterFull { which, total },
-        CountFault::NoMemory => Status::NoMemory,
     }
 }
 

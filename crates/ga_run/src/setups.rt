@@ -1,16 +1,16 @@
-ghost use Rattle.std.specs.Prelude.{◌≡◌, ◌≢◌, [], IfOk, IfErr, Ok, Err};
+ghost use Rattle.std.specs.Prelude.{◌≡◌, ◌≢◌, IfOk, IfErr, Ok, Err};
 ghost use Rattle.ga_base.specs.declared.formats.FormatFault.TheVariants.{NoMemory as FormatNoMemory};
 ghost use Rattle.ga_dates.specs.Grammar.{IsAnswer};
 ghost use Rattle.ga_dates.specs.declared.kind.Kind.TheVariants.{Date as DateKind, Time as TimeKind};
 ghost use Rattle.ga_run.specs.Setups as spec;
-ghost use Rattle.ga_run.specs.Setups.{IsLineSetup, LogMeans, is_unbuilt, panels_of};
+ghost use Rattle.ga_run.specs.Setups.{IsLineSetup, LogMeans, panels_of};
 ghost use Rattle.ga_run.specs.Steps.Setups.{IsRefusal, IsSetupFault};
 ghost use Rattle.ga_run.specs.declared.setups.SetupFault.TheVariants.{NoMemory as SetupNoMemory};
 ghost use Rattle.ga_run.specs.declared.status.Which.TheVariants.{Date as WhichDate, Log as WhichLog, Time as WhichTime};
 
 use crate::Which;
 use ga_agents::Rules;
-use ga_base::{FormatFault, Listing, NoMemory, Text, Texts};
+use ga_base::{FormatFault, NoMemory, Text};
 use ga_dates::{DateFormat, TimeFormat, compile_date, compile_time};
 use ga_format::{Format, compile, format_text};
 use ga_hosts::Ranges;
@@ -18,7 +18,6 @@ use ga_line::LineSetup;
 use ga_panels::PanelSetup;
 use ga_words::Settings;
 use std::alloc::Global;
-use std::mem::replace;
 
 /// The name of the format of the lines that are read where no format is given.
 const NO_FORMAT: &str = "COMBINED";
@@ -40,13 +39,6 @@ impl From<NoMemory> for SetupFault {
     }
 }
 
-/// Whether the settings ask for the database, which isn't built.
-pub fn is_unbuilt(settings: &Settings) -> bool
-    ensures { result ≡ is_unbuilt settings.now }
-{
-    settings.persist || settings.restore
-}
-
 /// How the lines of the logs are read, as the settings say.
 pub fn line_setup(alloc: Global, settings: &Settings) -> Result<LineSetup, SetupFault>
     ensures ok { IfOk result (IsLineSetup settings.now) }
@@ -66,22 +58,32 @@ pub fn line_setup(alloc: Global, settings: &Settings) -> Result<LineSetup, Setup
     })
 }
 
-/// How records are counted, as the settings say and by these rules. The settings give their lists for it.
-pub fn panel_setup(alloc: Global, settings: &mut Settings, rules: Rules) -> PanelSetup
-    ensures panels { result ≡ panels_of settings.old rules }
-    ensures rest { settings.new ≡ record settings.old { ranges = []; statics = []; ignore_status = [] } }
+/// How records are counted, as the settings say and by these rules.
+pub fn panel_setup(alloc: Global, settings: &Settings, rules: Rules) -> Result<PanelSetup, NoMemory>
+    ensures { IfOk result (λ setup. setup ≡ panels_of settings.now rules) }
 {
-    PanelSetup {
+    Ok(PanelSetup {
         rules,
-        ranges: replace(&mut settings.ranges, Ranges::new(alloc)),
-        statics: replace(&mut settings.statics, Texts::new(alloc)),
+        ranges: copy_of(alloc, &settings.ranges)?,
+        statics: settings.statics.clone()?,
         all_static: settings.all_static,
         ignore_crawlers: settings.ignore_crawlers,
-        ignore_status: replace(&mut settings.ignore_status, Listing::new(alloc)),
+        ignore_status: settings.ignore_status.clone()?,
         panels: settings.panels,
         count_4xx: settings.count_4xx,
         as_404: settings.as_404,
+    })
+}
+
+/// The same ranges once more.
+fn copy_of(alloc: Global, ranges: &Ranges) -> Result<Ranges, NoMemory>
+    ensures { IfOk result (λ copy. copy ≡ ranges.now) }
+{
+    let mut copy = Ranges::new(alloc);
+    for range in ranges.items() {
+        copy.push(*range)?;
     }
+    Ok(copy)
 }
 
 /// The log format, by its text or its name.

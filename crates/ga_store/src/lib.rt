@@ -24,4 +24,6 @@ pub use prepared::{Prepared, prepare};
 pub use recovery::recover;
 
 #[cfg(test)]
+mod commit_tests;
+#[cfg(test)]
 mod tests;

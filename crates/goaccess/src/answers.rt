@@ -82,11 +82,13 @@ Generator:
                       1000000, that prints six lines in place of its report;
                       default none
 
-Database, not built yet; but for --db-path each ends with status 1 and the line
-'goaccess: not built':
-  --persist           keeps the run in the database; default off
-  --restore           reports on the runs in the database too; default off
-  --db-path FOLDER    where the database is; default /tmp
+Database, by which each line is counted once over all runs, also where logs
+grow and are renamed between them:
+  --persist           keeps the run; without --restore it begins anew. A line
+                      that isn't ended yet is left to the next run; default off
+  --restore           goes on from the runs that were kept, and reports on them
+                      too; needs no log and no format; default off
+  --db-path FOLDER    the folder of the database's two files; default /tmp
 
 About itself, as the only word:
   --help              shows this text
@@ -94,10 +96,12 @@ About itself, as the only word:
 
 Exit status:
   0  done
-  1  the words, a format or the browsers file is refused, or not built
+  1  the words, a format or the browsers file is refused
   2  a log or the browsers file can't be read
-  4  the report can't be written
+  3  the database can't be read or written, or another program uses it
+  4  the report can't be written; a run with --persist is kept all the same
   5  a counter is full
+  6  the database is damaged
   7  no memory
 Where a run ends with any but 0, one line on standard error says why. It counts
 words and bytes from 0, and lines of the browsers file from 1.
@@ -109,6 +113,9 @@ Examples:
     goaccess --log-format=COMBINED --exclude-ip=10.0.0.0-10.255.255.255 \\
       --exclude-ip=fd00::-fdff:ffff:ffff:ffff:ffff:ffff:ffff:ffff \\
       -o report.csv access.log.1 access.log
+  Each night, over the day's log and the one before, each line once:
+    goaccess --log-format=COMBINED --restore --persist \\
+      --db-path=/var/lib/goaccess -o report.json access.log.1 access.log
   A format of one's own, with the seconds that each answer took:
     goaccess --log-format='%h [%d %t] \"%r\" %s %b %T' \\
       --date-format=%Y-%m-%d -o csv timed.log

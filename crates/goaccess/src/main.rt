@@ -1,8 +1,9 @@
-//! The program goaccess: real files and targets behind the traits of the outside, and `program`, which runs over them.
+//! The program goaccess: real files, a real disk and real targets behind the traits of the outside, and `program`, which runs over them.
 #![tactic(auto)]
 
 mod answers;
 mod program;
+mod real_disk;
 mod real_files;
 mod real_outs;
 #[cfg(test)]
@@ -10,6 +11,7 @@ mod tests;
 mod words;
 
 use program::program;
+use real_disk::RealDisk;
 use real_files::RealFiles;
 use real_outs::RealOuts;
 use std::env;
@@ -18,6 +20,7 @@ use std::process::ExitCode;
 fn main(rt: HostRuntime) -> ExitCode {
     let (stdout, stderr) = (rt.stdout(), rt.stderr());
     let mut files = RealFiles::new(&rt);
+    let mut disk = RealDisk::new(&rt, rt.alloc());
     let mut outs = RealOuts::new(&rt, &stdout, &stderr);
-    program(rt.alloc(), env::args(&rt), &mut files, &mut outs)
+    program(rt.alloc(), env::args(&rt), &mut files, &mut disk, &mut outs)
 }

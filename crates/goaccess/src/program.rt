@@ -1,16 +1,16 @@
-ghost use Rattle.std.specs.Prelude.{◌≡◌, ◌⊎◌, IfOk, IfErr};
-ghost use Rattle.std.specs.Process.{exit_status};
+ghost use Rattle.std.specs.Prelude.{◌≡◌, IfOk, IfErr};
 ghost use Rattle.std.specs.Vec.Iter.{into_iter_items};
-ghost use Rattle.goaccess.specs.Program.{EndsOver, LacksWords, words_in};
-ghost use Rattle.goaccess.specs.Words.{IsFaultOf, words_line, words_code};
+ghost use Rattle.std.specs.Process.{exit_status};
+ghost use Rattle.goaccess.specs.Program.{EndsOver, EndsWith, Lacks, words_in};
+ghost use Rattle.goaccess.specs.Words.{words_line, words_code};
 ghost use Rattle.ga_ports.specs.declared.outs.To.TheVariants.{Stderr};
+ghost use Rattle.ga_run.specs.World.{world_of};
 ghost use Rattle.ga_run.specs.Printing.{ChangesOnly, TakesOrStops};
-ghost use Rattle.goaccess.specs.declared.words.WordsFault.{WordsFault as WordsFaultSpec};
-ghost use Rattle.goaccess.specs.declared.words.WordsFault.TheVariants.{NoMemory as WordsNoMemory};
 
 use crate::answers::{answer_to, show};
 use crate::words::{WordsFault, words};
 use ga_base::Texts;
+use ga_disk::Disk;
 use ga_ports::{Files, Outs, To};
 use ga_run::{goaccess_run, print};
 use std::alloc::Global;
@@ -18,23 +18,25 @@ use std::env::Args;
 use std::io;
 use std::process::ExitCode;
 
-/// The program over the arguments of its command line, if they can be had, and over these files and targets. The exit
-/// status is that of the answer or the run.
-pub fn program<F: Files, O: Outs>(
+/// The program over the arguments of its command line, if they can be had, and over these files, this disk and these
+/// targets. The exit status is that of the answer or the run.
+pub fn program<F: Files, D: Disk, O: Outs>(
     alloc: Global,
     arguments: io::Result<Args>,
     files: &mut F,
+    disk: &mut D,
     outs: &mut O,
 ) -> ExitCode
-    ensures over { IfOk arguments (λ given.
-        EndsOver (words_in (into_iter_items given)) (F.view files.old) (F.view files.new) (O.view outs.old) (O.view outs.new) (exit_status result)
-        ⊎ LacksWords WordsNoMemory (F.view files.old) (F.view files.new) (O.view outs.old) (O.view outs.new) (exit_status result)) }
-    ensures lacking { IfErr arguments (λ error. (fault : WordsFaultSpec) × IsFaultOf error fault
-        × LacksWords fault (F.view files.old) (F.view files.new) (O.view outs.old) (O.view outs.new) (exit_status result)) }
+    ensures over { IfOk arguments (λ given. EndsWith (words_in (into_iter_items given))
+        (world_of (F.view files.old) (D.view disk.old) (D.images disk.old) (O.view outs.old))
+        (world_of (F.view files.new) (D.view disk.new) (D.images disk.new) (O.view outs.new)) (exit_status result)) }
+    ensures lacking { IfErr arguments (λ error. Lacks error
+        (world_of (F.view files.old) (D.view disk.old) (D.images disk.old) (O.view outs.old))
+        (world_of (F.view files.new) (D.view disk.new) (D.images disk.new) (O.view outs.new)) (exit_status result)) }
 {
     let code = match arguments {
         Ok(given) => match words(alloc, given) {
-            Ok(words) => over_words(alloc, &words, files, outs),
+            Ok(words) => over_words(alloc, &words, files, disk, outs),
             Err(_) => without_words(outs, WordsFault::NoMemory),
         },
         Err(error) => without_words(outs, WordsFault::from(error)),
@@ -43,12 +45,20 @@ pub fn program<F: Files, O: Outs>(
 }
 
 /// Answers of itself, or runs, as the words say.
-fn over_words<F: Files, O: Outs>(alloc: Global, words: &Texts, files: &mut F, outs: &mut O) -> u8
-    ensures { EndsOver words.now (F.view files.old) (F.view files.new) (O.view outs.old) (O.view outs.new) result }
+fn over_words<F: Files, D: Disk, O: Outs>(
+    alloc: Global,
+    words: &Texts,
+    files: &mut F,
+    disk: &mut D,
+    outs: &mut O,
+) -> u8
+    ensures { EndsOver words.now
+        (world_of (F.view files.old) (D.view disk.old) (D.images disk.old) (O.view outs.old))
+        (world_of (F.view files.new) (D.view disk.new) (D.images disk.new) (O.view outs.new)) result }
 {
     match answer_to(words.items()) {
         Some(answer) => show(outs, answer),
-        None => goaccess_run(alloc, words.items(), files, outs).code(),
+        None => goaccess_run(alloc, words.items(), files, disk, outs).code(),
     }
 }
 

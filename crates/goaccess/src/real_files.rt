@@ -122,7 +122,7 @@ fn open_regular<R: rt::Files<File = File>>(rt: &R, path: &str) -> io::Result<(Fi
 }
 
 /// What the system says of a file, where that is a regular one: a folder, a pipe or a device is none.
-fn regular(metadata: Metadata) -> io::Result<Metadata>
+pub fn regular(metadata: Metadata) -> io::Result<Metadata>
     ensures regular { IfOk result (λ same. (same ≡ metadata) × IsFile (file_type same)) }
     ensures other { IsErr result ↔ ¬ IsFile (file_type metadata) }
 {

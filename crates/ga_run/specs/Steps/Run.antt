@@ -1,66 +1,58 @@
 -- How the parts of a run ended, before its fault line is written.
-use Rattle.std.specs.Prelude.{◌≡◌, ℕ, ◌≤◌, ◌⊎◌, true, false, List, [], length, unwrap_or, slice_get}
+use Rattle.std.specs.Prelude.{◌≡◌, ℕ, ◌+◌, ◌⊎◌, true, List, [], length, unwrap_or, slice_get, IsTrue}
+use Rattle.ga_base.specs.declared.counts.Counter.{Counter}
+use Rattle.ga_base.specs.declared.counts.Counter.TheVariants.{Generations}
+use Rattle.ga_base.specs.declared.counts.TheConstants.{LIMIT}
+use Rattle.ga_base.specs.declared.entry.Entry.{Entry}
+use Rattle.ga_disk.specs.Disk.{DiskView}
+use Rattle.ga_disk.specs.Images.{Images}
+use Rattle.ga_disk.specs.Stretch.{DiskWent}
+use Rattle.ga_keep.specs.Database.{AreBase, FailsKeeping, Finds, IsUntouched, KeptIf, LooksAtMost, follow_of, mode_of, start_of}
+use Rattle.ga_keep.specs.Steps.{Misses}
 use Rattle.ga_line.specs.declared.setup.LineSetup.{LineSetup}
+use Rattle.ga_logs.specs.Counting.{FillsAmong}
+use Rattle.ga_logs.specs.Following.{MissesAt, ReadsSome}
+use Rattle.ga_logs.specs.Portions.{counted_lines}
+use Rattle.ga_logs.specs.declared.fault.CountFault.{CountFault}
+use Rattle.ga_logs.specs.declared.fault.CountFault.TheVariants.{Failed as LogFailed, Short as LogShort, Full, NoMemory as CountNoMemory}
+use Rattle.ga_logs.specs.declared.portion.Portion.{Portion}
+use Rattle.ga_logs.specs.declared.setup.Setup.{Setup}
+use Rattle.ga_ports.specs.Counts.{Rose}
 use Rattle.ga_ports.specs.Files.{FilesView}
 use Rattle.ga_ports.specs.Outs.{OutsView}
 use Rattle.ga_ports.specs.Stretch.{FilesWent, OutsWent}
-use Rattle.ga_ports.specs.Counts.{Rose}
 use Rattle.ga_ports.specs.declared.outs.To.{To}
-use Rattle.ga_summary.specs.Rows.{SummaryValue}
+use Rattle.ga_resume.specs.declared.fault.PlaceFault.{PlaceFault}
+use Rattle.ga_resume.specs.declared.fault.PlaceFault.TheVariants.{FileFault as PlaceFailed, FileShort as PlaceShort, NoMemory as PlaceNoMemory}
+use Rattle.ga_store.specs.Commit.{passes_generations}
+use Rattle.ga_store.specs.Database.{DbValue}
+use Rattle.ga_store.specs.Holding.{Holds}
+use Rattle.ga_store.specs.Reading.{db_value}
+use Rattle.ga_store.specs.declared.db.Db.{Db}
+use Rattle.ga_store.specs.declared.fault.StoreFault.{StoreFault}
+use Rattle.ga_store.specs.declared.fault.StoreFault.TheVariants.{CounterFull as StoreFull, Damaged, DiskFault as StoreFailed, NoMemory as StoreNoMemory}
 use Rattle.ga_words.specs.declared.fault.WordFault.{WordFault}
 use Rattle.ga_words.specs.declared.fault.WordFault.TheVariants.{NoMemory as WordNoMemory}
 use Rattle.ga_words.specs.declared.settings.Settings.{Settings}
-use Rattle.ga_run.specs.Inputs.{Asks, inputs_of}
-use Rattle.ga_run.specs.LogsRun.{IsTextOf, Finishes, StopsPrinting, FailsInput, Misses, HasBadRule, FillsCounter}
+use Rattle.ga_run.specs.Course.{HasCounted}
+use Rattle.ga_run.specs.Ends.{Ends}
+use Rattle.ga_run.specs.Inputs.{IsStored, Walks, WalksInputs}
 use Rattle.ga_run.specs.Printing.{FailsWriting, OutputCanTake, but_errors, delivered, report_file, target_of}
-use Rattle.ga_run.specs.Run.{SameFaults, faults_after}
-use Rattle.ga_run.specs.Setups.{IsLineSetup, IsRefused, is_unbuilt}
+use Rattle.ga_run.specs.Reports.{IsTextOf}
+use Rattle.ga_run.specs.Run.{NothingWasRead, SameFaults, faults_after}
+use Rattle.ga_run.specs.Setups.{IsLineSetup, IsRefused}
 use Rattle.ga_run.specs.Statuses.{target_name}
-use Rattle.ga_run.specs.declared.counting.CountFault.{CountFault}
-use Rattle.ga_run.specs.declared.counting.CountFault.TheVariants.{Failed as LogFailed, Short as LogShort, Full, NoMemory as CountNoMemory}
-use Rattle.ga_run.specs.declared.reading.LogFault.TheVariants.{Failed, Short, NoMemory as ReadNoMemory}
+use Rattle.ga_run.specs.World.{World}
 use Rattle.ga_run.specs.declared.rules.RulesFault.{RulesFault}
 use Rattle.ga_run.specs.declared.rules.RulesFault.TheVariants.{Unread, Bad}
+use Rattle.ga_run.specs.declared.run.Counted.{Counted}
 use Rattle.ga_run.specs.declared.status.Input.{Input}
 use Rattle.ga_run.specs.declared.status.Input.TheVariants.{Rules, Log}
 use Rattle.ga_run.specs.declared.status.Status.{Status}
-use Rattle.ga_run.specs.declared.status.Status.TheVariants.{Done, BadWords, Unbuilt, BadFormat, BadRules, FileFault, FileShort, OutFault, CounterFull, NoMemory}
+use Rattle.ga_run.specs.declared.status.Status.TheVariants.{Done, BadWords, BadFormat, BadRules, FileFault, FileShort, DiskFault, DbDamaged, OutFault, CounterFull, NoMemory}
 
--- how the run over the files ended
-abbrev pub Ends : LineSetup → Settings → FilesView → FilesView → OutsView → OutsView → Status → Type 0
-Ends line s files files' outs outs' Done = Finishes line s files files' outs outs'
-Ends line s files files' outs outs' (BadWords fault) = ⊥
-Ends line s files files' outs outs' Unbuilt = ⊥
-Ends line s files files' outs outs' (BadFormat which fault) = ⊥
-Ends line s files files' outs outs' (BadRules at) = HasBadRule s files files' at × (outs' ≡ outs)
-Ends line s files files' outs outs' (FileFault file) = FailsInput s files files' file × (outs' ≡ outs)
-Ends line s files files' outs outs' (FileShort file at) = Misses s files files' file (Short at) × (outs' ≡ outs)
-Ends line s files files' outs outs' (OutFault to at) = StopsPrinting line s files files' outs outs' to at
-Ends line s files files' outs outs' (CounterFull which total) = FillsCounter line s files files' which total × (outs' ≡ outs)
-Ends line s files files' outs outs' NoMemory = outs' ≡ outs
+-- ---- the names that a fault line has
 
-pub record EndsLogs (line : LineSetup) (s : Settings) (files files' : FilesView) (outs outs' : OutsView) (status : Status) : Type 0 where
-  pub asks : (count : ℕ) × (count ≤ length (inputs_of s)) × Asks count files files'
-  pub ends : Ends line s files files' outs outs' status
-  pub faults : SameFaults (faults_after status files.counts) files'.counts
-  pub errors : outs'.stderr ≡ outs.stderr
-  pub files_went : FilesWent files files'
-  pub outs_went : OutsWent outs outs'
-
--- how a run ended that asked for no file
-abbrev pub EndsEarly : Settings → Status → Type 0
-EndsEarly s Unbuilt = is_unbuilt s ≡ true
-EndsEarly s (BadFormat which fault) = (is_unbuilt s ≡ false) × IsRefused s which fault
-EndsEarly s NoMemory = Unit {0}
-EndsEarly s _ = ⊥
-
--- how a run ended that the words say: early, or over the files
-abbrev pub EndsRun : Settings → FilesView → FilesView → OutsView → OutsView → Status → Type 0
-EndsRun s files files' outs outs' status =
-    (EndsEarly s status × (files' ≡ files) × (outs' ≡ outs))
-    ⊎ ((is_unbuilt s ≡ false) × ((line : LineSetup) × IsLineSetup s line × EndsLogs line s files files' outs outs' status))
-
--- what the fault line of a status calls what failed
 abbrev pub input_name : Settings → Input → List ℕ
 input_name s Rules = unwrap_or s.browsers_file []
 input_name s (Log place) = unwrap_or (slice_get s.logs place) []
@@ -71,22 +63,16 @@ failed_name s (FileShort file at) = input_name s file
 failed_name s (OutFault to at) = target_name (report_file s.generate s.output.name)
 failed_name s _ = []
 
--- the names that settings have are the same
-pub record KeepsNames (old new : Settings) : Type 0 where
-  pub browsers_file : new.browsers_file ≡ old.browsers_file
-  pub output : new.output ≡ old.output
-  pub generate : new.generate ≡ old.generate
-  pub logs : new.logs ≡ old.logs
+-- ---- statuses of faults
 
--- the status of words that say no settings, of rules that weren't read, and of logs that weren't counted
 abbrev pub status_of_words : WordFault → Status
 status_of_words WordNoMemory = NoMemory
 status_of_words fault = BadWords fault
 
 abbrev pub status_of_rules : RulesFault → Status
-status_of_rules (Unread Failed) = FileFault Rules
-status_of_rules (Unread (Short at)) = FileShort Rules at
-status_of_rules (Unread ReadNoMemory) = NoMemory
+status_of_rules (Unread PlaceFailed) = FileFault Rules
+status_of_rules (Unread (PlaceShort at)) = FileShort Rules at
+status_of_rules (Unread PlaceNoMemory) = NoMemory
 status_of_rules (Bad line) = BadRules line
 
 abbrev pub status_of_count : CountFault → Status
@@ -95,18 +81,137 @@ status_of_count (LogShort place at) = FileShort (Log place) at
 status_of_count (Full which total) = CounterFull which total
 status_of_count CountNoMemory = NoMemory
 
--- the report on a summary wasn't delivered
-pub record StopsReport (s : Settings) (sum : SummaryValue) (outs outs' : OutsView) (to : To) (at : ℕ) : Type 0 where
-  pub target_is : to ≡ target_of (report_file s.generate s.output.name)
-  pub text : List ℕ
-  pub written : IsTextOf s sum text
-  pub stops : FailsWriting (report_file s.generate s.output.name) text at outs outs'
-  pub unsure : OutputCanTake (target_of (report_file s.generate s.output.name)) (length text) outs → Rose outs.starved outs'.starved
+abbrev pub status_of_store : StoreFault → Status
+status_of_store StoreFailed = DiskFault
+status_of_store (Damaged side at) = DbDamaged side at
+status_of_store (StoreFull which total) = CounterFull which total
+status_of_store StoreNoMemory = NoMemory
 
--- how the delivery of the report on a summary ended
-abbrev pub EndsReport : Settings → SummaryValue → OutsView → OutsView → Status → Type 0
-EndsReport s sum outs outs' Done = (text : List ℕ) × IsTextOf s sum text
-    × (outs' ≡ but_errors outs' (delivered (report_file s.generate s.output.name) text outs))
-EndsReport s sum outs outs' (OutFault to at) = StopsReport s sum outs outs' to at
-EndsReport s sum outs outs' NoMemory = outs' ≡ outs
-EndsReport s sum outs outs' _ = ⊥
+-- ---- counting
+
+-- the database was found, and the entries that the run begins with
+pub record HasFound (s : Settings) (disk disk' : DiskView) (images images' : Images) : Type 0 where
+  pub stored : DbValue
+  pub finds : Finds s disk disk' images images' stored
+  pub entries : List Entry
+  pub begin : AreBase s stored entries
+
+-- what was counted, and what the run began with
+pub record CountedValue (setup : Setup) (s : Settings) (counted : Counted) (files files' : FilesView) (disk disk' : DiskView)
+    (images images' : Images) : Type 0 where
+  pub finds : Finds s disk disk' images images' (db_value counted.stored)
+  pub has : HasCounted setup s (db_value counted.stored) files files'
+  pub run : has.run ≡ counted.run
+  pub whole : has.whole ≡ counted.whole
+  pub entries : has.entries' ≡ counted.entries
+
+-- a log wasn't read
+pub record StopsAtLog (s : Settings) (files files' : FilesView) (disk disk' : DiskView) (images images' : Images) (place : ℕ)
+    (fault : PlaceFault) : Type 0 where
+  pub found : HasFound s disk disk' images images'
+  pub misses : MissesAt (start_of s found.stored).follow s.logs found.entries place files files' fault
+
+-- a counter is full
+pub record StopsFull (setup : Setup) (s : Settings) (files files' : FilesView) (disk disk' : DiskView) (images images' : Images)
+    (which : Counter) (total : ℕ) : Type 0 where
+  pub found : HasFound s disk disk' images images'
+  pub portions : List Portion
+  pub read : ReadsSome (start_of s found.stored).follow s.logs found.entries files files' portions
+  pub fills : FillsAmong setup (start_of s found.stored).totals (counted_lines s.generate (start_of s found.stored).follow portions) which total
+
+-- some of the logs were asked for
+pub record WalksLogs (s : Settings) (disk : DiskView) (files files' : FilesView) : Type 0 where
+  pub stored : DbValue
+  pub is_stored : IsStored s disk stored
+  pub entries : List Entry
+  pub begin : AreBase s stored entries
+  pub count : ℕ
+  pub walks : Walks (follow_of s) s.logs entries files files' count
+
+-- memory ran out
+pub record StopsHungry (s : Settings) (files files' : FilesView) (disk disk' : DiskView) (images images' : Images) : Type 0 where
+  pub looks : LooksAtMost s disk disk' images images'
+  pub asks : (files' ≡ files) ⊎ WalksLogs s disk files files'
+  pub faults : SameFaults files.counts files'.counts
+
+abbrev pub StopsCounting : Setup → Settings → FilesView → FilesView → DiskView → DiskView → Images → Images → Status → Type 0
+StopsCounting setup s files files' disk disk' images images' (FileFault (Log place)) = StopsAtLog s files files' disk disk' images images' place PlaceFailed
+StopsCounting setup s files files' disk disk' images images' (FileShort (Log place) at) = StopsAtLog s files files' disk disk' images images' place (PlaceShort at)
+StopsCounting setup s files files' disk disk' images images' DiskFault = Misses s disk disk' images images' StoreFailed × (files' ≡ files)
+StopsCounting setup s files files' disk disk' images images' (DbDamaged side at) = Misses s disk disk' images images' (Damaged side at) × (files' ≡ files)
+StopsCounting setup s files files' disk disk' images images' (CounterFull which total) = StopsFull setup s files files' disk disk' images images' which total
+StopsCounting setup s files files' disk disk' images images' NoMemory = StopsHungry s files files' disk disk' images images'
+StopsCounting setup s files files' disk disk' images images' _ = ⊥
+
+-- no call on a file failed
+abbrev pub NoFileFailed : Status → Type 0
+NoFileFailed (FileFault file) = ⊥
+NoFileFailed _ = Unit {0}
+
+-- ---- the report
+
+-- it wasn't delivered
+pub record StopsReport (s : Settings) (text : List ℕ) (outs outs' : OutsView) (to : To) (at : ℕ) : Type 0 where
+  pub target_is : to ≡ target_of (report_file s.generate s.output.name)
+  pub stops : FailsWriting (report_file s.generate s.output.name) text at outs outs'
+  pub unsure : OutputCanTake to (length text) outs → Rose outs.starved outs'.starved
+
+abbrev pub EndsReport : Settings → List ℕ → OutsView → OutsView → Status → Type 0
+EndsReport s text outs outs' Done = outs' ≡ but_errors outs' (delivered (report_file s.generate s.output.name) text outs)
+EndsReport s text outs outs' (OutFault to at) = StopsReport s text outs outs' to at
+EndsReport s text outs outs' _ = ⊥
+
+-- ---- keeping and delivering
+
+-- a run that persists can be kept
+pub record IsReady (disk : DiskView) (images : Images) (stored : Db) : Type 0 where
+  pub is_open : IsTrue disk.is_open
+  pub holds : Holds disk images (db_value stored)
+
+pub record Delivers (s : Settings) (counted : Counted) (disk disk' : DiskView) (images images' : Images) (outs outs' : OutsView)
+    (status : Status) : Type 0 where
+  pub text : List ℕ
+  pub is_text : IsTextOf s counted.whole text
+  pub kept : KeptIf s (db_value counted.stored) counted.whole counted.entries disk disk' images images'
+  pub report : EndsReport s text outs outs' status
+
+abbrev pub EndsKeeping : Settings → Counted → DiskView → DiskView → Images → Images → OutsView → OutsView → Status → Type 0
+EndsKeeping s counted disk disk' images images' outs outs' Done = Delivers s counted disk disk' images images' outs outs' Done
+EndsKeeping s counted disk disk' images images' outs outs' (OutFault to at) = Delivers s counted disk disk' images images' outs outs' (OutFault to at)
+EndsKeeping s counted disk disk' images images' outs outs' DiskFault =
+    (s.persist ≡ true) × FailsKeeping (db_value counted.stored) counted.whole counted.entries disk disk' images images' × (outs' ≡ outs)
+EndsKeeping s counted disk disk' images images' outs outs' (CounterFull which total) =
+    (s.persist ≡ true) × (which ≡ Generations) × (total ≡ LIMIT + 1) × (passes_generations (mode_of s) (db_value counted.stored) ≡ true)
+    × IsUntouched disk disk' images images' × (outs' ≡ outs)
+EndsKeeping s counted disk disk' images images' outs outs' NoMemory = IsUntouched disk disk' images images' × (outs' ≡ outs)
+EndsKeeping s counted disk disk' images images' outs outs' _ = ⊥
+
+pub record EndsLast (s : Settings) (counted : Counted) (disk disk' : DiskView) (images images' : Images) (outs outs' : OutsView)
+    (status : Status) : Type 0 where
+  pub ends : EndsKeeping s counted disk disk' images images' outs outs' status
+  pub errors : outs'.stderr ≡ outs.stderr
+  pub disk_went : DiskWent disk disk'
+  pub outs_went : OutsWent outs outs'
+
+-- ---- the run over its inputs
+
+pub record EndsInputs (line : LineSetup) (s : Settings) (old new : World) (status : Status) : Type 0 where
+  pub asks : (count : ℕ) × WalksInputs s old.disk old.files new.files count
+  pub ends : Ends line s old new status
+  pub faults : SameFaults (faults_after status old.files.counts) new.files.counts
+  pub errors : new.outs.stderr ≡ old.outs.stderr
+  pub files_went : FilesWent old.files new.files
+  pub disk_went : DiskWent old.disk new.disk
+  pub outs_went : OutsWent old.outs new.outs
+
+-- how a run ended that read nothing
+abbrev pub EndsEarly : Settings → Status → Type 0
+EndsEarly s (BadFormat which fault) = IsRefused s which fault
+EndsEarly s NoMemory = Unit {0}
+EndsEarly s _ = ⊥
+
+-- how a run ended that the words say: early, or over its inputs
+abbrev pub EndsRun : Settings → World → World → Status → Type 0
+EndsRun s old new status =
+    (EndsEarly s status × NothingWasRead old new × (new.outs ≡ old.outs))
+    ⊎ ((line : LineSetup) × IsLineSetup s line × EndsInputs line s old new status)

@@ -762,8 +762,8 @@ goaccess: word 0: conflict
 -----
 
 -----
-1
-goaccess: not built
+0
+{\"browsers\":{\"data\":[]},\"cache_status\":{\"data\":[]},\"general\":{\"bandwidth\":0,\"excluded_hits\":0,\"failed_requests\":0,\"total_requests\":0,\"unique_visitors\":0,\"valid_requests\":0},\"hosts\":{\"data\":[]},\"keyphrases\":{\"data\":[]},\"mime_type\":{\"data\":[]},\"not_found\":{\"data\":[]},\"os\":{\"data\":[]},\"referrers\":{\"data\":[]},\"referring_sites\":{\"data\":[]},\"remote_user\":{\"data\":[]},\"requests\":{\"data\":[]},\"requests_static\":{\"data\":[]},\"status_codes\":{\"data\":[]},\"tls_type\":{\"data\":[]},\"virtual_hosts\":{\"data\":[]},\"visit_times\":{\"data\":[]},\"visitors\":{\"data\":[]}}
 
 =====
 -o|csv
@@ -884,15 +884,6 @@ goaccess: word 0: bad value
 -----
 1
 goaccess: word 0: conflict
-
-=====
---persist|--log-format=COMMON|a.log
------
-192.0.2.1 - - [01/Jan/2024:00:00:00 +0000] \"GET /a HTTP/1.1\" 200 10
-
------
-1
-goaccess: not built
 
 =====
 --generate=0000000007

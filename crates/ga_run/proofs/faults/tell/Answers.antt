@@ -30,3 +30,6 @@ returns-in-Some-clause-line g c =
 
 pub returns-in-BadRules-clause-line : goal.returns-in-BadRules-clause-line
 returns-in-BadRules-clause-line g c = rw (c.in-BadRules.is, ← c.format-in-BadRules.ensures.text, ← c.as_bytes-line.ensures.value) c.say-in-BadRules.ensures.line
+
+pub returns-in-DbDamaged-clause-line : goal.returns-in-DbDamaged-clause-line
+returns-in-DbDamaged-clause-line g c = rw c.in-DbDamaged.is c.tell_damage.ensures.line

@@ -2,4 +2,5 @@ use Rattle.ga_run.proofs.OneRun.{one-run}
 use Rattle.ga_run.proofs.laws.one_run.Goals as goal
 
 pub returns : goal.returns
-returns c = one-run c.one_reading.ensures.rules c.one_report.ensures
+returns g c = λ words sides files files' others others' disk disk' other other' outs outs' targets targets' status end u v same.
+    one-run c.one_answer.ensures (record { all = c.read_as_told.ensures.all; some = c.read_as_told.ensures.some }) c.one_database.ensures words sides _ _ u v same

@@ -1,0 +1,4 @@
+pub mod Cutting
+pub mod Feeding
+pub mod LineSteps
+pub mod GoingOn

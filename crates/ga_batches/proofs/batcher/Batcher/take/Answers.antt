@@ -1,0 +1,8 @@
+use Rattle.std.proofs.Common.{◌++◌, sym, subst}
+use Rattle.ga_batches.specs.Batches.{Holds}
+use Rattle.ga_batches.proofs.Feeding.{holds-taken}
+use Rattle.ga_batches.proofs.batcher.Batcher.take.Goals as goal
+
+pub returns-clause-stream : goal.returns-clause-stream
+returns-clause-stream c stream taken holds =
+    subst (λ v. Holds stream (taken ++ c.args.self.now.batch) v) (sym c.drop_batch.ensures.value) (holds-taken c.args.self.now c.known.ensures stream taken holds)

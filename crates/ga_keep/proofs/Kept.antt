@@ -1,0 +1,97 @@
+-- What a commit of prepared work says of a run.
+use Rattle.std.proofs.Common.{◌≡◌, ◌+◌, Bool, true, false, List, refl, ap, sym, ◌∙◌, subst, Option, Some, None, IfSome, Result, Ok, Err, OnOk, IfErr, map, length}
+use Rattle.std.specs.Prelude.{if◌then◌else◌}
+use Rattle.ga_base.specs.declared.entry.Entry.{Entry}
+use Rattle.ga_codec.specs.Values.{entry_value}
+use Rattle.ga_disk.specs.Disk.{DiskView}
+use Rattle.ga_disk.specs.Images.{Images}
+use Rattle.ga_disk.specs.Sides.{Sides}
+use Rattle.ga_keep.specs.Database.{IsAfter, IsKept, Keeps, MayKeep, mode_of}
+use Rattle.ga_keep.specs.Steps.{IsUnkept}
+use Rattle.ga_store.specs.Commit.{Makes, Work, adds_record, after_run, passes_generations}
+use Rattle.ga_store.specs.Commits.{AllHave, Commits, CommitsFrom, HasEither}
+use Rattle.ga_store.specs.Database.{DbOf, DbValue, of_snapshot}
+use Rattle.ga_store.specs.Database.Reading.{stored as reads_as}
+use Rattle.ga_store.specs.Holding.{Holds}
+use Rattle.ga_store.specs.declared.fault.StoreFault.{StoreFault}
+use Rattle.ga_store.specs.declared.mode.Mode.{Mode}
+use Rattle.ga_summary.specs.Rows.{SummaryValue}
+use Rattle.ga_words.specs.declared.settings.Settings.{Settings}
+
+if_some-map : {A : Type 0} (P Q : A → Type 0) → (o : Option A) → ((x : A) → P x → Q x) → IfSome o P → IfSome o Q
+if_some-map P Q None step p = tt
+if_some-map P Q (Some x) step p = step x p
+
+module _ (work : Work) (old : DbValue) (mode : Mode) (whole : SummaryValue) (entries : List Entry) (d d' : DiskView) (i i' : Images)
+    (holds : Holds d i old) (makes : Makes work old (after_run mode old whole (map entry_value entries) work)) where
+  after : IsAfter whole entries (after_run mode old whole (map entry_value entries) work)
+  after = by-kind (adds_record mode old)
+    where
+      by-kind : (adds : Bool) → IsAfter whole entries (if adds
+          then record old { summary = whole; entries = map entry_value entries; records = old.records + 1; slot = old.slot + length work.tail }
+          else of_snapshot work.side (length work.tail) (record { generation = old.generation + 1; summary = whole; entries = map entry_value entries }))
+      by-kind true = record { summary = refl; entries = refl }
+      by-kind false = record { summary = refl; entries = refl }
+
+  has-old : (seen : Sides) → d.seen ≡ Some seen → DbOf seen (reads_as old)
+  has-old seen e =
+      let same : seen ≡ holds.sides = subst (λ (o : Option Sides). IfSome o (λ s. s ≡ holds.sides)) e holds.told in
+      subst (λ (s : Sides). DbOf s (reads_as old)) (sym same) holds.has
+
+  pub kept : (s : Settings) → mode_of s ≡ mode → passes_generations mode old ≡ false → (r : Result (Unit {0}) StoreFault) → Commits work d d' i i' r → IfSome d'.seen i'.now
+      → OnOk r (IsKept s old whole entries d d' i i')
+  kept s is room (Err e) commits image = tt
+  kept s is room (Ok unit) commits image = record {
+    new = after_run mode old whole (map entry_value entries) work;
+    after = after;
+    room = ap (λ (m : Mode). passes_generations m old) is ∙ room;
+    keeps = by-seen d.seen refl;
+    frames = commits.frames;
+  }
+    where
+      by-seen : (o : Option Sides) → d.seen ≡ o → IfSome o (λ seen. Keeps old (after_run mode old whole (map entry_value entries) work) d d' i i')
+      by-seen None e = tt
+      by-seen (Some seen) e =
+          let from = commits.told seen e old (after_run mode old whole (map entry_value entries) work) (has-old seen e) makes in
+          record {
+            later = from.later;
+            moments = from.moments;
+            all = from.done;
+            reads = if_some-map i'.now (λ s. DbOf s (reads_as (after_run mode old whole (map entry_value entries) work))) d'.seen from.done image;
+          }
+
+  pub unkept : (s : Settings) (r : Result (Unit {0}) StoreFault) → Commits work d d' i i' r → IfErr r (IsUnkept s old whole entries d d' i i')
+  unkept s (Ok unit) commits = tt
+  unkept s (Err fault) commits = subst (λ (f : StoreFault). IsUnkept s old whole entries d d' i i' f) (sym commits.cause) (record {
+    new = after_run mode old whole (map entry_value entries) work;
+    after = after;
+    may = by-seen d.seen refl;
+    fault = commits.fault;
+    frames = commits.frames;
+  })
+    where
+      by-seen : (o : Option Sides) → d.seen ≡ o → IfSome o (λ seen. MayKeep old (after_run mode old whole (map entry_value entries) work) d d' i i')
+      by-seen None e = tt
+      by-seen (Some seen) e =
+          record {
+            later = told.later;
+            moments = told.moments;
+            either = told.either;
+            reads = by-new d'.seen refl;
+            stays = λ steady. stay d'.seen refl steady;
+          }
+        where
+          told : CommitsFrom old (after_run mode old whole (map entry_value entries) work) work seen d d' i i' (Err fault)
+          told = commits.told seen e old (after_run mode old whole (map entry_value entries) work) (has-old seen e) makes
+
+          by-new : (o : Option Sides) → d'.seen ≡ o → IfSome o (HasEither old (after_run mode old whole (map entry_value entries) work))
+          by-new None f = tt
+          by-new (Some sides) f = told.reads sides f
+
+          stay : (o : Option Sides) → d'.seen ≡ o → d.steady ≡ true → IfSome o (λ s. DbOf s (reads_as old) → AllHave i' old)
+          stay None f steady = tt
+          stay (Some sides) f steady = told.stays steady sides f
+
+pub not-full : (b : Bool) → (b ≡ true → ⊥) → b ≡ false
+not-full false none = refl
+not-full true none = absurd (none refl)

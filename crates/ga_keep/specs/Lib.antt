@@ -1,0 +1,3 @@
+-- The database of a run.
+pub mod Database
+pub mod Steps

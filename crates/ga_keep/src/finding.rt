@@ -1,0 +1,32 @@
+ghost use Rattle.std.specs.Prelude.{◌≡◌, IfOk, IfErr};
+ghost use Rattle.ga_disk.specs.Stretch.{DiskWent};
+ghost use Rattle.ga_store.specs.Reading.{db_value};
+ghost use Rattle.ga_keep.specs.Database as spec;
+ghost use Rattle.ga_keep.specs.Database.{Finds};
+ghost use Rattle.ga_keep.specs.Steps.{Misses};
+
+use ga_base::Text;
+use ga_disk::Disk;
+use ga_store::{Db, StoreFault, recover};
+use ga_words::Settings;
+use std::alloc::Global;
+
+/// Whether a run uses the database.
+pub fn uses_database(settings: &Settings) -> bool
+    ensures { result ≡ spec.uses_database settings.now }
+{
+    settings.persist || settings.restore
+}
+
+/// The database that a run finds. One that uses none leaves the disk alone.
+pub fn find<D: Disk>(alloc: Global, settings: &Settings, disk: &mut D) -> Result<Db, StoreFault>
+    ensures ok { IfOk result (λ db. Finds settings.now (D.view disk.old) (D.view disk.new) (D.images disk.old) (D.images disk.new) (db_value db)) }
+    ensures misses { IfErr result (Misses settings.now (D.view disk.old) (D.view disk.new) (D.images disk.old) (D.images disk.new)) }
+    ensures calls { DiskWent (D.view disk.old) (D.view disk.new) }
+{
+    if !uses_database(settings) {
+        return Ok(Db::empty(alloc));
+    }
+    disk.open(&settings.db_path)?;
+    recover(alloc, disk)
+}

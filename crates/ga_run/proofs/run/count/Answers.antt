@@ -1,0 +1,75 @@
+use Rattle.std.proofs.Common.{ℕ, List, refl, subst}
+use Rattle.std.proofs.lemmas.Result.{err_from_is_err_and}
+use Rattle.ga_logs.specs.Logs.{CountsLogs, StopsLogs}
+use Rattle.ga_logs.specs.declared.start.Start.{Start}
+use Rattle.ga_ports.specs.Stretch.{no_files_call}
+use Rattle.ga_store.specs.Reading.{db_value}
+use Rattle.ga_run.proofs.Counting.{hungry-last, stops-as, whole-fits}
+use Rattle.ga_run.proofs.run.count.Goals as goal
+
+pub returns-in_err-stored-clause-files_went : goal.returns-in_err-stored-clause-files_went
+returns-in_err-stored-clause-files_went g c = no_files_call
+
+pub returns-in_err-entries-clause-files_went : goal.returns-in_err-entries-clause-files_went
+returns-in_err-entries-clause-files_went g c = no_files_call
+
+pub returns-in_err-run-clause-stops : goal.returns-in_err-run-clause-stops
+returns-in_err-run-clause-stops g c =
+    let s = c.args.settings.now in
+    let before = g.F.Files.view c.args.files.now in
+    let after = g.F.Files.view c.count_logs.new.files in
+    let fault = c.in_err-run.field-0.0 in
+    let entries = c.in_ok-entries.entries in
+    let stops =
+    subst (λ (start : Start). StopsLogs c.args.setup.now start s.generate s.logs entries before after fault) c.start-start.ensures
+    (subst (λ (names : List (List ℕ)). StopsLogs c.args.setup.now c.start-start.result s.generate names entries before after fault) c.items-names.ensures c.in_err-run.ensures.stops) in
+    let p = err_from_is_err_and c.from_residual-in_err-run.result c.from_residual-in_err-run.ensures.1 in
+    rw (p.1, p.2) (stops-as c.args.setup.now s before after _ _ _ _ (db_value c.in_ok-stored.stored) c.in_ok-stored.ensures.ok entries c.in_ok-entries.ensures fault stops)
+
+pub whole-requires : goal.whole-requires
+whole-requires g c =
+    let s = c.args.settings.now in
+    let stored = db_value c.in_ok-stored.stored in
+    let counts =
+    subst (λ (start : Start). CountsLogs c.args.setup.now start s.generate c.items-names.result.now c.in_ok-entries.entries c.count_logs.new.entries (g.F.Files.view c.args.files.now) (g.F.Files.view c.count_logs.new.files) c.in_ok-run.run') c.start-start.ensures
+    c.in_ok-run.ensures.ok in
+    whole-fits c.args.setup.now s stored _ c.in_ok-run.run' c.sound.ensures counts.counts
+
+pub returns-in_err-whole-clause-stops : goal.returns-in_err-whole-clause-stops
+returns-in_err-whole-clause-stops g c =
+    let s = c.args.settings.now in
+    let before = g.F.Files.view c.args.files.now in
+    let after = g.F.Files.view c.count_logs.new.files in
+    let entries = c.in_ok-entries.entries in
+    let counts =
+    subst (λ (start : Start). CountsLogs c.args.setup.now start s.generate s.logs entries c.count_logs.new.entries before after c.in_ok-run.run') c.start-start.ensures
+    (subst (λ (names : List (List ℕ)). CountsLogs c.args.setup.now c.start-start.result s.generate names entries c.count_logs.new.entries before after c.in_ok-run.run') c.items-names.ensures c.in_ok-run.ensures.ok) in
+    let p = err_from_is_err_and c.from_residual-in_err-whole.result c.from_residual-in_err-whole.ensures.1 in
+    rw (p.1, p.2) (hungry-last c.args.setup.now s before after _ _ _ _ (db_value c.in_ok-stored.stored) c.in_ok-stored.ensures.ok entries c.in_ok-entries.ensures c.count_logs.new.entries c.in_ok-run.run' counts)
+
+pub returns-clause-ok : goal.returns-clause-ok
+returns-clause-ok g c =
+    let s = c.args.settings.now in
+    let before = g.F.Files.view c.args.files.now in
+    let after = g.F.Files.view c.count_logs.new.files in
+    let entries = c.in_ok-entries.entries in
+    let counts =
+    subst (λ (start : Start). CountsLogs c.args.setup.now start s.generate s.logs entries c.count_logs.new.entries before after c.in_ok-run.run') c.start-start.ensures
+    (subst (λ (names : List (List ℕ)). CountsLogs c.args.setup.now c.start-start.result s.generate names entries c.count_logs.new.entries before after c.in_ok-run.run') c.items-names.ensures c.in_ok-run.ensures.ok) in
+    record {
+      finds = c.in_ok-stored.ensures.ok;
+      has = record {
+        entries = entries;
+        begin = c.in_ok-entries.ensures;
+        entries' = c.count_logs.new.entries;
+        portions = counts.portions;
+        read = counts.read;
+        run = c.in_ok-run.run';
+        counts = counts.counts;
+        whole = c.in_ok-whole.whole;
+        is_whole = c.in_ok-whole.ensures;
+      };
+      run = refl;
+      whole = refl;
+      entries = refl;
+    }
