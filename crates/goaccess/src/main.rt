@@ -2,6 +2,8 @@
 #![tactic(auto)]
 
 mod answers;
+#[cfg(test)]
+mod disk_tests;
 mod program;
 mod real_disk;
 mod real_files;
