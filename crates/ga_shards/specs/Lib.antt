@@ -1,0 +1,3 @@
+-- Different items and their numbers.
+pub mod Numbers
+pub mod Steps

@@ -1,0 +1,37 @@
+use crate::{Dictionary, Keyed, number};
+use ga_base::{NoMemory, Text, Visitor};
+use std::alloc::Global;
+
+/// A visitor from this host.
+fn visitor(alloc: Global, host: &str) -> Result<Visitor, NoMemory> {
+    Ok(Visitor {
+        host: Text::of(alloc, host)?,
+        date: 20261128,
+        agent: Text::of(alloc, "curl")?,
+    })
+}
+
+#[test]
+fn equal_visitors_have_one_place(rt: HostRuntime) -> Result<(), NoMemory> {
+    let alloc = rt.alloc();
+    let mut visitors = Dictionary::new(alloc, Keyed::new(1, 2));
+    let first = visitors.note(visitor(alloc, "192.0.2.1")?)?;
+    let second = visitors.note(visitor(alloc, "192.0.2.2")?)?;
+    let again = visitors.note_copy(&visitor(alloc, "192.0.2.1")?)?;
+    assert_eq!(rt; first, 0);
+    assert_eq!(rt; second, 1);
+    assert_eq!(rt; again, 0);
+    assert_eq!(rt; visitors.len(), 2);
+    Ok(())
+}
+
+#[test]
+fn visitors_are_numbered(rt: HostRuntime) -> Result<(), NoMemory> {
+    let alloc = rt.alloc();
+    let mut visitors = Dictionary::new(alloc, Keyed::new(1, 2));
+    visitors.note(visitor(alloc, "192.0.2.1")?)?;
+    visitors.note(visitor(alloc, "192.0.2.2")?)?;
+    let numbers = number(&rt, alloc, Keyed::new(3, 4), &[visitors], 2)?;
+    assert_eq!(rt; numbers.len(), 2);
+    Ok(())
+}
