@@ -56,7 +56,8 @@ impl<'a> Cursor<'a> {
     /// Room for so many items of at least `size` bytes each, and for no more than the bytes that are left could hold.
     pub(crate) fn room(&self, count: u64, size: usize) -> usize
         requires { 1 ≤ size }
-        ensures { result * size ≤ length self.now.rest }
+        ensures held { result * size ≤ length self.now.rest }
+        ensures few { result ≤ count }
     {
         count.min((self.rest.len() / size) as u64) as usize
     }

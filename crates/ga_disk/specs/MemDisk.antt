@@ -1,5 +1,5 @@
 -- A disk in memory as one plain record: what its sides held at first, and the calls that changed or synced a side since.
-use Rattle.std.specs.Prelude.{ℕ, ◌≤◌, Bool, true, false, List, [], ◌∷◌, ◌++◌, length, take, Option, Some, None}
+use Rattle.std.specs.Prelude.{◌≡◌, ℕ, ◌≤◌, Bool, true, false, List, [], ◌∷◌, ◌++◌, length, take, Option, Some, None}
 use Rattle.ga_disk.specs.Sides.{Both, Sides, of_side, with_side}
 use Rattle.ga_disk.specs.Disk.{DiskView}
 use Rattle.ga_disk.specs.Images.{Images}
@@ -109,3 +109,7 @@ after_listing call d = record d { listed = d.listed ++ call ∷ [] }
 -- the call is kept in the record
 abbrev pub after_change : Change → DiskState → DiskState
 after_change change d = record d { changes = d.changes ++ change ∷ [] }
+
+-- a call that changed nothing but the counts
+abbrev pub KeepsSides : DiskState → DiskState → Type 0
+KeepsSides old new = new ≡ record old { counts = new.counts }

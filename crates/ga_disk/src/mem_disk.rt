@@ -1,8 +1,9 @@
-ghost use Rattle.std.specs.Prelude.{◌≡◌, ◌+◌, ◌≤◌, ◌<◌, length, OnOk, OnErr, option_map};
+ghost use Rattle.std.specs.Prelude.{◌≡◌, ◌+◌, ◌≤◌, ◌<◌, length, OnOk, OnErr, IsTrue, true, option_map};
 ghost use Rattle.ga_ports.specs.Counts.{raised};
 ghost use Rattle.ga_disk.specs.Sides.{of_side};
-ghost use Rattle.ga_disk.specs.Disk.{max_size, must_fail};
-ghost use Rattle.ga_disk.specs.MemDisk.{after_change, after_listing, bytes_of, disk_images, disk_view, new_disk, states};
+ghost use Rattle.ga_disk.specs.Disk.{CutAt, Cuts, Opens, Reads, Sizes, Syncs, TornAt, Writes, max_size, must_fail};
+ghost use Rattle.ga_disk.specs.Images.{LeavesSame, LeavesSteps, LeavesSynced};
+ghost use Rattle.ga_disk.specs.MemDisk.{KeepsSides, after_change, after_listing, bytes_of, disk_images, disk_view, new_disk, states};
 ghost use Rattle.ga_disk.specs.Pick.{after_bound, after_crash};
 ghost use Rattle.ga_disk.specs.Laws.{reads-as-image, counts-now, only-now};
 ghost use Rattle.ga_disk.specs.declared.change.Change.TheVariants.{Write, Cut, Sync};
@@ -188,7 +189,11 @@ impl Disk for MemDisk {
 
     ghost only_now = { only-now };
 
-    fn open(&mut self, path: &Text) -> Result<(), Failed> {
+    fn open(&mut self, path: &Text) -> Result<(), Failed>
+        ensures opens { Opens path.now (disk_view self.old) (disk_view self.new) result }
+        ensures leaves { LeavesSame (disk_images self.old) (disk_images self.new) }
+        ensures kept { self.new ≡ record self.old { is_open = self.new.is_open; path = self.new.path; counts = self.new.counts } }
+    {
         self.counts.ask();
         if self.is_due() {
             self.counts.fail();
@@ -204,7 +209,13 @@ impl Disk for MemDisk {
         Ok(())
     }
 
-    fn size(&mut self, side: u32) -> Result<u64, Failed> {
+    fn size(&mut self, side: u32) -> Result<u64, Failed>
+        requires open { IsTrue self.old.is_open }
+        requires side { side < 2 }
+        ensures sizes { Sizes side (disk_view self.old) (disk_view self.new) result }
+        ensures leaves { LeavesSame (disk_images self.old) (disk_images self.new) }
+        ensures kept { KeepsSides self.old self.new }
+    {
         if self.is_due() {
             self.counts.fail();
             return Err(Failed);
@@ -213,7 +224,14 @@ impl Disk for MemDisk {
         Ok(self.sides.bytes(side).len() as u64)
     }
 
-    fn read_at(&mut self, side: u32, at: u64, into: &mut [u8]) -> Result<(), Failed> {
+    fn read_at(&mut self, side: u32, at: u64, into: &mut [u8]) -> Result<(), Failed>
+        requires open { IsTrue self.old.is_open }
+        requires side { side < 2 }
+        requires within { at + length into.old ≤ length (of_side side (bytes_of (states self.old))) }
+        ensures reads { Reads side at into.new (disk_view self.old) (disk_view self.new) result }
+        ensures leaves { LeavesSame (disk_images self.old) (disk_images self.new) }
+        ensures kept { KeepsSides self.old self.new }
+    {
         if self.is_due() {
             self.counts.fail();
             return Err(Failed);
@@ -225,7 +243,15 @@ impl Disk for MemDisk {
         Ok(())
     }
 
-    fn write_at(&mut self, side: u32, at: u64, piece: &[u8]) -> Result<(), Failed> {
+    fn write_at(&mut self, side: u32, at: u64, piece: &[u8]) -> Result<(), Failed>
+        requires open { IsTrue self.old.is_open }
+        requires side { side < 2 }
+        requires within { at ≤ length (of_side side (bytes_of (states self.old))) }
+        ensures writes { Writes side at piece.now (disk_view self.old) (disk_view self.new) result }
+        ensures leaves { LeavesSteps side (TornAt at (length piece.now)) true (disk_images self.old) (disk_images self.new) result }
+        ensures kept { OnOk result (KeepsSides (after_change (Write side at piece.now) self.old) self.new) }
+        ensures undone { OnErr result (KeepsSides self.old self.new) }
+    {
         if self.is_due() {
             self.counts.fail();
             return Err(Failed);
@@ -242,7 +268,14 @@ impl Disk for MemDisk {
         }
     }
 
-    fn cut(&mut self, side: u32, len: u64) -> Result<(), Failed> {
+    fn cut(&mut self, side: u32, len: u64) -> Result<(), Failed>
+        requires open { IsTrue self.old.is_open }
+        requires side { side < 2 }
+        ensures cuts { Cuts side len (disk_view self.old) (disk_view self.new) result }
+        ensures leaves { LeavesSteps side (CutAt len) true (disk_images self.old) (disk_images self.new) result }
+        ensures kept { OnOk result (KeepsSides (after_change (Cut side len) self.old) self.new) }
+        ensures undone { OnErr result (KeepsSides self.old self.new) }
+    {
         if self.is_due() {
             self.counts.fail();
             return Err(Failed);
@@ -259,7 +292,14 @@ impl Disk for MemDisk {
         }
     }
 
-    fn sync(&mut self, side: u32) -> Result<(), Failed> {
+    fn sync(&mut self, side: u32) -> Result<(), Failed>
+        requires open { IsTrue self.old.is_open }
+        requires side { side < 2 }
+        ensures syncs { Syncs (disk_view self.old) (disk_view self.new) result }
+        ensures leaves { LeavesSynced side (disk_view self.old).seen (disk_images self.old) (disk_images self.new) result }
+        ensures kept { OnOk result (KeepsSides (after_change (Sync side) self.old) self.new) }
+        ensures undone { OnErr result (KeepsSides self.old self.new) }
+    {
         if self.is_due() {
             self.counts.fail();
             return Err(Failed);

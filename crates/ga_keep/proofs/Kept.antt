@@ -6,7 +6,7 @@ use Rattle.ga_codec.specs.Values.{entry_value}
 use Rattle.ga_disk.specs.Disk.{DiskView}
 use Rattle.ga_disk.specs.Images.{Images}
 use Rattle.ga_disk.specs.Sides.{Sides}
-use Rattle.ga_keep.specs.Database.{IsAfter, IsKept, Keeps, MayKeep, mode_of}
+use Rattle.ga_keep.specs.Database.{IsAfter, IsKept, IsNext, IsNextBy, Keeps, MayKeep, mode_of}
 use Rattle.ga_keep.specs.Steps.{IsUnkept}
 use Rattle.ga_store.specs.Commit.{Makes, Work, adds_record, after_run, passes_generations}
 use Rattle.ga_store.specs.Commits.{AllHave, Commits, CommitsFrom, HasEither}
@@ -33,6 +33,15 @@ module _ (work : Work) (old : DbValue) (mode : Mode) (whole : SummaryValue) (ent
       by-kind true = record { summary = refl; entries = refl }
       by-kind false = record { summary = refl; entries = refl }
 
+  next : IsNext mode old (after_run mode old whole (map entry_value entries) work)
+  next = by-kind (adds_record mode old)
+    where
+      by-kind : (adds : Bool) → IsNextBy adds old (if adds
+          then record old { summary = whole; entries = map entry_value entries; records = old.records + 1; slot = old.slot + length work.tail }
+          else of_snapshot work.side (length work.tail) (record { generation = old.generation + 1; summary = whole; entries = map entry_value entries }))
+      by-kind true = record { generation = refl; records = refl }
+      by-kind false = record { generation = refl; records = refl }
+
   has-old : (seen : Sides) → d.seen ≡ Some seen → DbOf seen (reads_as old)
   has-old seen e =
       let same : seen ≡ holds.sides = subst (λ (o : Option Sides). IfSome o (λ s. s ≡ holds.sides)) e holds.told in
@@ -44,6 +53,7 @@ module _ (work : Work) (old : DbValue) (mode : Mode) (whole : SummaryValue) (ent
   kept s is room (Ok unit) commits image = record {
     new = after_run mode old whole (map entry_value entries) work;
     after = after;
+    next = subst (λ (m : Mode). IsNext m old (after_run mode old whole (map entry_value entries) work)) (sym is) next;
     room = ap (λ (m : Mode). passes_generations m old) is ∙ room;
     keeps = by-seen d.seen refl;
     frames = commits.frames;

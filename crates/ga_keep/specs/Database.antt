@@ -1,5 +1,5 @@
 -- The database of a run: what the settings say of it, what the run starts from, and what it leaves.
-use Rattle.std.specs.Prelude.{◌≡◌, ◌⊎◌, ℕ, ◌||◌, ◌&&◌, Bool, true, false, if◌then◌else◌, List, Some, IfSome, map}
+use Rattle.std.specs.Prelude.{◌≡◌, ◌⊎◌, ℕ, ◌+◌, ◌||◌, ◌&&◌, Bool, true, false, if◌then◌else◌, List, Some, IfSome, map}
 use Rattle.ga_base.specs.declared.entry.Entry.{Entry}
 use Rattle.ga_codec.specs.Values.{entry_value}
 use Rattle.ga_disk.specs.Disk.{DiskView}
@@ -9,7 +9,7 @@ use Rattle.ga_logs.specs.declared.follow.Follow.{Follow}
 use Rattle.ga_logs.specs.declared.follow.Follow.TheVariants.{Whole, ToEnd, ToLastLine}
 use Rattle.ga_logs.specs.declared.start.Start.{Start}
 use Rattle.ga_ports.specs.Counts.{Rose, raised}
-use Rattle.ga_store.specs.Commit.{IsLater, MergesBy, passes_generations}
+use Rattle.ga_store.specs.Commit.{IsLater, MergesBy, adds_record, passes_generations}
 use Rattle.ga_store.specs.Commits.{AllHave, Frames, HasEither}
 use Rattle.ga_store.specs.Database.{DbOf, DbValue, empty_db}
 use Rattle.ga_store.specs.Database.Reading.{stored as reads_as}
@@ -113,6 +113,15 @@ pub record IsAfter (whole : SummaryValue) (counted : List Entry) (new : DbValue)
   pub summary : new.summary ≡ whole
   pub entries : new.entries ≡ map entry_value counted
 
+-- it is stored as one record more of the same generation, or as the next generation, without records
+pub record IsNextBy (adds : Bool) (stored new : DbValue) : Type 0 where
+  pub generation : new.generation ≡ (if adds then stored.generation else stored.generation + 1)
+  pub records : new.records ≡ (if adds then stored.records + 1 else 0)
+
+-- as a record where it restores and a side is there that has room for one
+abbrev pub IsNext : Mode → DbValue → DbValue → Type 0
+IsNext mode stored new = IsNextBy (adds_record mode stored) stored new
+
 -- the run was kept, on a disk that tells what it reads: every image has the new database, and none has had another than it or
 -- the old one
 pub record Keeps (stored new : DbValue) (disk disk' : DiskView) (images images' : Images) : Type 0 where
@@ -136,6 +145,7 @@ pub record MayKeep (stored new : DbValue) (disk disk' : DiskView) (images images
 pub record IsKept (s : Settings) (stored : DbValue) (whole : SummaryValue) (entries : List Entry) (disk disk' : DiskView) (images images' : Images) : Type 0 where
   pub new : DbValue
   pub after : IsAfter whole entries new
+  pub next : IsNext (mode_of s) stored new
   pub room : passes_generations (mode_of s) stored ≡ false
   pub keeps : IfSome disk.seen (λ seen. Keeps stored new disk disk' images images')
   pub frames : Frames disk disk'

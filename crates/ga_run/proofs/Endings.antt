@@ -1,15 +1,16 @@
 -- What follows from how a run ended, status by status.
-use Rattle.std.proofs.Common.{◌≡◌, ◌≢◌, ◌⊎◌, ℕ, zero, suc, ◌+◌, ◌≤◌, ◌||◌, List, [], ◌∷◌, ◌++◌, refl, ap, sym, ◌∙◌, subst, inl, inr, arith, true, Option, Some, None, IfSome, length, Ok}
+use Rattle.std.proofs.Common.{◌≡◌, ◌≢◌, ◌⊎◌, ℕ, zero, suc, ◌+◌, ◌≤◌, ◌||◌, List, [], ◌∷◌, ◌++◌, refl, ap, sym, ◌∙◌, subst, inl, inr, arith, ◌&&◌, true, false, Option, Some, None, IfSome, length, Ok}
 use Rattle.std.proofs.lemmas.Bool.{false≢true}
 use Rattle.std.specs.List.{AllByRecursion}
 use Rattle.std.specs.Option.{unwrap_or}
 use Rattle.std.specs.Prelude.{slice_get}
 use Rattle.ga_agents.specs.declared.row.Rule.{Rule}
+use Rattle.ga_base.specs.declared.counts.Counter.{Counter}
 use Rattle.ga_base.specs.declared.entry.Entry.{Entry}
 use Rattle.ga_disk.specs.Disk.{DiskView}
 use Rattle.ga_disk.specs.Images.{Images}
 use Rattle.ga_disk.specs.Sides.{Sides}
-use Rattle.ga_keep.specs.Database.{LooksAtMost, SidesHave, uses_database}
+use Rattle.ga_keep.specs.Database.{Finds, IsUntouched, LooksAtMost, OnlyLooks, SidesHave, mode_of, uses_database}
 use Rattle.ga_line.specs.declared.setup.LineSetup.{LineSetup}
 use Rattle.ga_logs.specs.Following.{CanServe, MissesAt, ReadsAll, ReadsPortion}
 use Rattle.ga_logs.specs.Following.MissesAt.{misses_first, misses_later}
@@ -23,16 +24,17 @@ use Rattle.ga_ports.specs.declared.file_counts.FileCounts.{FileCounts}
 use Rattle.ga_ports.specs.declared.outs.To.{To}
 use Rattle.ga_resume.specs.declared.fault.PlaceFault.{PlaceFault}
 use Rattle.ga_resume.specs.declared.fault.PlaceFault.TheVariants.{FileFault as PlaceFailed, FileShort as PlaceShort}
+use Rattle.ga_store.specs.Commit.{passes_generations}
 use Rattle.ga_store.specs.Database.{DbOf, DbValue}
 use Rattle.ga_store.specs.Database.Reading.{stored as reads_as}
 use Rattle.ga_words.specs.WordsOf.{WordsOf}
 use Rattle.ga_words.specs.declared.settings.Settings.{Settings}
 use Rattle.ga_run.specs.Course.{HasCome, HasRules}
-use Rattle.ga_run.specs.Ends.{Ends, FailsAtLast, HasReport, MissesInput, SaysOnly, StopsPrinting}
+use Rattle.ga_run.specs.Ends.{Ends, FailsAtLast, FillsGenerations, HasReport, MissesInput, SaysOnly, StopsPrinting}
 use Rattle.ga_run.specs.Inputs.{inputs_of, place_of, rules_file}
 use Rattle.ga_run.specs.Keeping.{FindsThere, KeepsSince, KeptSince, MayKeepSince}
 use Rattle.ga_run.specs.Printing.{FailsWriting, OutputCanTake, Stops, TakesOrStops, but_errors, delivered, report_file, stopped, target_of, unmade}
-use Rattle.ga_run.specs.Run.{DiskServed, EndsBefore, FilesServed, HasGoodInput, LeavesDisk, LeavesEither, OutputServed, SameFaults, faults_after}
+use Rattle.ga_run.specs.Run.{DiskServed, EndsBefore, FilesServed, HasGoodInput, LeavesDisk, LeavesEither, LeavesSides, OutputServed, SameFaults, faults_after}
 use Rattle.ga_run.specs.Statuses.{NamesFailed, NamesInput}
 use Rattle.ga_run.specs.Steps.Run.{EndsEarly, EndsRun, failed_name, input_name}
 use Rattle.ga_run.specs.World.{World, world_of as world}
@@ -40,7 +42,7 @@ use Rattle.ga_run.specs.declared.status.Input.{Input}
 use Rattle.ga_run.specs.declared.status.Input.TheVariants.{Rules, Log}
 use Rattle.ga_run.specs.declared.status.Status.{Status}
 use Rattle.ga_run.specs.declared.status.Status.TheVariants.{Done, BadWords, BadFormat, BadRules, FileFault, FileShort, DiskFault, DbDamaged, OutFault, CounterFull, NoMemory}
-use Rattle.ga_run.proofs.InputsEnds.{found-leaves}
+use Rattle.ga_run.proofs.InputsEnds.{found-leaves, looked-at}
 use Rattle.ga_run.proofs.Moments.{OnlyNow, untouched-leaves}
 use Rattle.ga_run.proofs.Takes.{takes-nil}
 use Rattle.ga_run.proofs.Telling.{kept-rules, seen-same, there-in}
@@ -296,6 +298,51 @@ module _ (s : Settings) (old new : World) (only : OnlyNow old.images) where
     moments-by (CounterFull which total) (inl h, quiet) = inl (found-leaves s old.disk new.disk old.images new.images only h.begun.stored h.begun.finds)
     moments-by (CounterFull which total) (inr h, quiet) = inl h.moments
     moments-by NoMemory (looks, quiet) = inl (looked-leaves looks)
+
+-- ---- without --persist
+
+module _ (s : Settings) (old new : World) (only : OnlyNow old.images) (line : LineSetup) (not : s.persist ≡ false) where
+  of-looks : OnlyLooks old.disk new.disk old.images new.images → LeavesSides old new
+  of-looks h = record { seen = ap (λ (d : DiskView). d.seen) h.view; moments = h.moments }
+
+  of-untouched : IsUntouched old.disk new.disk old.images new.images → LeavesSides old new
+  of-untouched h = record { seen = ap (λ (d : DiskView). d.seen) h.view; moments = untouched-leaves old.disk new.disk old.images new.images only h }
+
+  of-looked : LooksAtMost s old.disk new.disk old.images new.images → LeavesSides old new
+  of-looked (inl left) = of-untouched left
+  of-looked (inr looked) = of-looks looked.looks
+
+  of-finds : (stored : DbValue) → Finds s old.disk new.disk old.images new.images stored → LeavesSides old new
+  of-finds stored finds = of-looked (looked-at s old.disk new.disk old.images new.images stored finds)
+
+  of-report : HasReport line s old new → LeavesSides old new
+  of-report h = go h.kept
+    where
+      go : KeptSince s h.come.stored h.come.counted.whole h.come.counted.entries' h.found new.disk old.images new.images → LeavesSides old new
+      go (inl (persists, k)) = absurd (false≢true (sym not ∙ persists))
+      go (inr (none, left)) = record { seen = ap (λ (d : DiskView). d.seen) left.view ∙ seen-same s old.disk h.found h.come.stored h.come.finds; moments = left.moments }
+
+  of-input : (file : Input) (fault : PlaceFault) → MissesInput s old new file fault → LeavesSides old new
+  of-input Rules fault (name, named, misses, left) = of-untouched left
+  of-input (Log place) fault h = of-finds h.begun.stored h.begun.finds
+
+  of-full : (which : Counter) (total : ℕ) → FillsGenerations line s old new which total → LeavesSides old new
+  of-full which total h = absurd (false≢true (sym (ap (λ b. b && passes_generations (mode_of s) h.come.stored) not) ∙ h.lacks))
+
+  pub unwritten-by : (status : Status) → Ends line s old new status → LeavesSides old new
+  unwritten-by Done ends = of-report ends.has
+  unwritten-by (BadWords fault) ends = absurd ends
+  unwritten-by (BadFormat which fault) ends = absurd ends
+  unwritten-by (BadRules at) ends = of-untouched ends.0.disk
+  unwritten-by (FileFault file) ends = of-input file PlaceFailed ends.0.misses
+  unwritten-by (FileShort file at) ends = of-input file (PlaceShort at) ends.0
+  unwritten-by DiskFault (inl h, quiet) = of-looks h.misses.looks
+  unwritten-by DiskFault (inr h, quiet) = absurd (false≢true (sym not ∙ h.persists))
+  unwritten-by (DbDamaged side at) ends = of-looks ends.0.misses.looks
+  unwritten-by (OutFault to at) ends = of-report ends.has
+  unwritten-by (CounterFull which total) (inl h, quiet) = of-finds h.begun.stored h.begun.finds
+  unwritten-by (CounterFull which total) (inr h, quiet) = of-full which total h
+  unwritten-by NoMemory (looks, quiet) = of-looked looks
 
 -- ---- what is said
 

@@ -30,7 +30,7 @@ use Rattle.ga_run.specs.declared.setups.SetupFault.TheVariants.{Refused}
 use Rattle.ga_run.specs.declared.status.Status.{Status}
 use Rattle.ga_run.specs.declared.status.Status.TheVariants.{Done, BadWords, BadFormat, BadRules, FileFault, FileShort, DiskFault, DbDamaged, OutFault, CounterFull, NoMemory}
 use Rattle.ga_run.specs.declared.status.Which.{Which}
-use Rattle.ga_run.proofs.Endings.{absent-by, along, complete-by, early-faults, moments-by, named, nothing-taken, refused-by, same-but, written}
+use Rattle.ga_run.proofs.Endings.{absent-by, along, complete-by, early-faults, moments-by, named, nothing-taken, refused-by, same-but, unwritten-by, written}
 use Rattle.ga_run.proofs.Moments.{OnlyNow, untouched-leaves}
 use Rattle.ga_run.proofs.Telling.{ReadAsTold, answers}
 
@@ -131,6 +131,7 @@ module _ (one : OneWords) (outcome : OneOutcome) (words : List (List ℕ)) where
         );
         bad_format = λ which other. (λ e. absurd (cc e), λ p. absurd (not-said p.0.0 p.0.1));
         untouched = λ h. still;
+        unsaid = λ h. still;
         decided = inl (inl (fault, bad));
       };
       runs = λ s line says is. absurd (not-said s says);
@@ -159,6 +160,7 @@ module _ (one : OneWords) (outcome : OneOutcome) (words : List (List ℕ)) where
               λ p. refusal-same which other fault found (fault-same (outcome s (Err (Refused which fault)) (Err (Refused other found)) come (refused-is other found p.0, λ e. cc))),
             );
             untouched = λ r. still;
+            unsaid = λ r. still;
             decided = inl (inr (which, fault, (s, says, h)));
           };
           runs = λ other line say is. absurd (not-set (sym (outcome s (Err (Refused which fault)) (Ok line) come (line-is other line say is))));
@@ -181,6 +183,7 @@ module _ (one : OneWords) (outcome : OneOutcome) (words : List (List ℕ)) where
         absent = λ place name stands gone. absent-by line s old (world f d i outs) place name stands gone status ends-now;
         complete = complete-by line s old (world f d i outs) status ends-now ended.faults;
         moments = λ sides reads. moments-by s old (world f d i outs) only line sides reads status ends-now;
+        unwritten = λ not. unwritten-by s old (world f d i outs) only line not status ends-now;
       }
 
       come : ComeTo s (Ok line)
@@ -192,6 +195,7 @@ module _ (one : OneWords) (outcome : OneOutcome) (words : List (List ℕ)) where
           bad_words = λ fault. (λ e. absurd (at (BadWords fault) e), λ p. absurd (not-bad fault p.0));
           bad_format = λ which fault. (λ e. absurd (at (BadFormat which fault) e), λ p. absurd (not-set (outcome s (Ok line) (Err (Refused which fault)) come (refused-is which fault p.0, λ e. cc))));
           untouched = λ h. absurd (not-either h);
+          unsaid = λ h. absurd (h (s, says, (line, is)));
           decided = inr (inl (s, says, (line, is)));
         };
         runs = λ other line' say of.
@@ -211,6 +215,7 @@ decides-nothing words old new only quiet still = record {
     bad_words = λ fault. (λ e. absurd (cc e), λ p. absurd (p.1 refl));
     bad_format = λ which fault. (λ e. absurd (cc e), λ p. absurd (p.1 refl));
     untouched = λ h. still;
+    unsaid = λ h. still;
     decided = inr (inr refl);
   };
   runs = λ s line say is. record {
@@ -220,6 +225,7 @@ decides-nothing words old new only quiet still = record {
     absent = λ place name stands gone. tt;
     complete = λ served disk took good. inr refl;
     moments = λ sides reads. inl (untouched-leaves old.disk new.disk old.images new.images only still.disk);
+    unwritten = λ not. record { seen = ap (λ (d : DiskView). d.seen) still.disk.view; moments = untouched-leaves old.disk new.disk old.images new.images only still.disk };
   };
 }
 

@@ -4,7 +4,7 @@ use Rattle.ga_base.specs.declared.entry.Entry.{Entry}
 use Rattle.ga_disk.specs.Disk.{DiskView}
 use Rattle.ga_disk.specs.Images.{Images, LeavesOnly}
 use Rattle.ga_disk.specs.Sides.{Sides}
-use Rattle.ga_keep.specs.Database.{IsAfter, IsPathOf, mode_of, uses_database}
+use Rattle.ga_keep.specs.Database.{IsAfter, IsNext, IsPathOf, mode_of, uses_database}
 use Rattle.ga_ports.specs.Counts.{Rose, raised}
 use Rattle.ga_store.specs.Commit.{IsLater, passes_generations}
 use Rattle.ga_store.specs.Commits.{AllHave, Frames, HasEither}
@@ -44,6 +44,7 @@ pub record IsKeptSince (s : Settings) (stored : DbValue) (whole : SummaryValue) 
     (images images' : Images) : Type 0 where
   pub new : DbValue
   pub after : IsAfter whole entries new
+  pub next : IsNext (mode_of s) stored new
   pub room : passes_generations (mode_of s) stored ≡ false
   pub keeps : IfSome disk.seen (λ seen. KeepsSince stored new disk' images images')
   pub frames : Frames disk disk'

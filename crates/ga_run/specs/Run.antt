@@ -1,6 +1,6 @@
 -- What one run of goaccess is: over the words, plain views of the files, the disk and the targets before and after, and the
 -- status.
-use Rattle.std.specs.Prelude.{◌≡◌, ◌≢◌, ℕ, ◌⊎◌, ◌↔◌, ◌≤◌, true, List, length, Some, None, Ok, Err, Option, slice_get}
+use Rattle.std.specs.Prelude.{◌≡◌, ◌≢◌, ℕ, ◌⊎◌, ◌↔◌, ◌≤◌, true, false, List, length, Some, None, Ok, Err, Option, slice_get}
 use Rattle.ga_base.specs.declared.counts.Counter.{Counter}
 use Rattle.ga_base.specs.declared.formats.FormatFault.{FormatFault}
 use Rattle.ga_disk.specs.Disk.{DiskView}
@@ -62,6 +62,8 @@ pub record ReadsWords (words : List (List ℕ)) (old new : World) (status : Stat
   pub bad_format : (which : Which) (fault : FormatFault)
       → (status ≡ BadFormat which fault) ↔ (HaveRefused words which fault × (status ≢ NoMemory))
   pub untouched : AreRefused words → NothingWasRead old new
+  -- nor does a run read anything whose words say no setup
+  pub unsaid : (HaveSetup words → ⊥) → NothingWasRead old new
   -- all other words say a run whose formats are good, unless memory runs out
   pub decided : AreRefused words ⊎ HaveSetup words ⊎ (status ≡ NoMemory)
 
@@ -116,6 +118,11 @@ TellsSides s disk sides = uses_database s ≡ true → disk.seen ≡ Some sides
 abbrev pub LeavesDisk : World → World → Type 0
 LeavesDisk old new = LeavesOnly old.images new.images old.images.now
 
+-- no side was changed, and each image is one that the disk had at the start
+pub record LeavesSides (old new : World) : Type 0 where
+  pub seen : new.disk.seen ≡ old.disk.seen
+  pub moments : LeavesDisk old new
+
 -- or has what was stored or the database after the run, which is a later one
 pub record LeavesEither (sides : Sides) (old new : World) : Type 0 where
   pub stored : DbValue
@@ -143,6 +150,8 @@ pub record RunsOver (line : LineSetup) (s : Settings) (old new : World) (status 
       → (status ≡ Done) ⊎ (status ≡ NoMemory)
   -- what a crash may have left since the start
   pub moments : (sides : Sides) → old.disk.seen ≡ Some sides → LeavesDisk old new ⊎ LeavesEither sides old new
+  -- without --persist no side is changed, with any status, also of a disk that doesn't tell
+  pub unwritten : s.persist ≡ false → LeavesSides old new
 
 -- ---- one run
 

@@ -4,7 +4,7 @@ use Rattle.std.proofs.Math.Seq.{take-add}
 use Rattle.std.proofs.lemmas.List.{take_all}
 use Rattle.std.proofs.lemmas.Slice.{take-put_mid}
 use borrow.Rule.Slice.PartMut.{put_mid}
-use Rattle.ga_ports.specs.Counts.{Rose}
+use Rattle.ga_ports.specs.Counts.{Rose, raised}
 use Rattle.ga_disk.specs.Disk.{DiskView, calls_once, fails_once}
 use Rattle.ga_disk.specs.Images.{AddsNone, HasSide, Images, LeavesSame, LeavesSynced, OnlyImage}
 use Rattle.ga_disk.specs.Sides.{Sides, of_side}
@@ -14,8 +14,8 @@ use Rattle.ga_disk.specs.declared.disk_counts.DiskCounts.{DiskCounts}
 use Rattle.ga_disk.proofs.Only.{only-same, same-then}
 use Rattle.ga_store.specs.Database.{DbOf}
 use Rattle.ga_store.specs.Database.Reading.{damaged}
-use Rattle.ga_store.specs.Reading.{Answers, IsOutside, IsSide, Looks, is_disk_fault}
-use Rattle.ga_store.specs.Store.{Recovers}
+use Rattle.ga_store.specs.Reading.{Answers, Fetches, InPieces, IsOutside, IsSide, Looks, is_disk_fault}
+use Rattle.ga_store.specs.Store.{ReadsOnce, Recovers}
 use Rattle.ga_store.specs.declared.db.Db.{Db}
 use Rattle.ga_store.specs.declared.fault.StoreFault.{StoreFault}
 use Rattle.ga_store.specs.declared.fault.StoreFault.TheVariants.{CounterFull, Damaged, DiskFault, NoMemory}
@@ -160,6 +160,7 @@ recovers-not {X} {old} {new} {images} {images'} result DiskFault is law outside 
   damage = λ side at e. cc;
   counters = λ which total e. cc;
   looks = subst (λ (r : Result X StoreFault). Looks (is_disk_fault r) old new images images') is looks;
+  calls = tt;
   moments = only-same law looks.leaves;
 }
 recovers-not {X} {old} {new} {images} {images'} result NoMemory is law outside looks = record {
@@ -167,15 +168,32 @@ recovers-not {X} {old} {new} {images} {images'} result NoMemory is law outside l
   damage = λ side at e. cc;
   counters = λ which total e. cc;
   looks = subst (λ (r : Result X StoreFault). Looks (is_disk_fault r) old new images images') is looks;
+  calls = tt;
   moments = only-same law looks.leaves;
 }
 recovers-not result (Damaged side at) is law outside looks = absurd outside
 recovers-not result (CounterFull which total) is law outside looks = absurd outside
 
+pieces-told : (seen : Option Sides) (side reads : ℕ) (bytes : List ℕ) → IfSome seen (λ seen. bytes ≡ of_side side seen) → InPieces (length bytes) reads
+    → IfSome seen (λ seen. InPieces (length (of_side side seen)) reads)
+pieces-told None side reads bytes same pieces = tt
+pieces-told (Some seen) side reads bytes same pieces = subst (λ (b : List ℕ). InPieces (length b) reads) same pieces
+
+-- both were synced, and read once
+pub once-both : {start synced mid end : DiskView} {images : Images} (side0 side1 : List ℕ) → synced.counts.calls ≡ raised start.counts.calls 2
+    → Fetches 1 (length side0) synced mid → Fetches 1 (length side1) mid end → BothRead end images side0 side1 → ReadsOnce start end
+once-both {start} {synced} {mid} {end} side0 side1 first second third read = record {
+  reads0 = second.reads;
+  reads1 = third.reads;
+  pieces0 = pieces-told end.seen 0 second.reads side0 read.first.told second.pieces;
+  pieces1 = pieces-told end.seen 1 third.reads side1 read.second.told third.pieces;
+  calls = omega (arith, first, second.calls, third.calls);
+}
+
 pub recovers : {old new : DiskView} {images images' : Images} (result : Result Db StoreFault) (side0 side1 : List ℕ)
-    → ((image : Sides) → images.since images.moment image → images.now image) → Looks false old new images images' → BothRead new images' side0 side1
+    → ((image : Sides) → images.since images.moment image → images.now image) → Looks false old new images images' → BothRead new images' side0 side1 → ReadsOnce old new
     → Answers (DbOf (record { side0 = side0; side1 = side1 })) result → Recovers old new images images' result
-recovers {old} {new} (Ok db) side0 side1 law looks read says = record {
+recovers {old} {new} (Ok db) side0 side1 law looks read once says = record {
   database = record {
     sides = record { side0 = side0; side1 = side1 };
     told = both-told new.seen side0 side1 read.first.told read.second.told;
@@ -187,9 +205,10 @@ recovers {old} {new} (Ok db) side0 side1 law looks read says = record {
   damage = λ side at e. cc;
   counters = λ which total e. cc;
   looks = looks;
+  calls = once;
   moments = only-same law looks.leaves;
 }
-recovers {old} {new} (Err (Damaged side at)) side0 side1 law looks read says = record {
+recovers {old} {new} (Err (Damaged side at)) side0 side1 law looks read once says = record {
   database = tt;
   damage = λ other place e. let same = ap fault_side e in let place_same = ap fault_at e in record {
     sides = record { side0 = side0; side1 = side1 };
@@ -198,6 +217,7 @@ recovers {old} {new} (Err (Damaged side at)) side0 side1 law looks read says = r
   };
   counters = λ which total e. cc;
   looks = looks;
+  calls = tt;
   moments = only-same law looks.leaves;
 }
   where
@@ -208,9 +228,9 @@ recovers {old} {new} (Err (Damaged side at)) side0 side1 law looks read says = r
     fault_at : Result Db StoreFault → ℕ
     fault_at (Err (Damaged s p)) = p
     fault_at r = 0
-recovers (Err NoMemory) side0 side1 law looks read says = recovers-not {X = Db} (Err NoMemory) NoMemory refl law tt looks
-recovers (Err DiskFault) side0 side1 law looks read says = absurd says
-recovers (Err (CounterFull which total)) side0 side1 law looks read says = absurd says
+recovers (Err NoMemory) side0 side1 law looks read once says = recovers-not {X = Db} (Err NoMemory) NoMemory refl law tt looks
+recovers (Err DiskFault) side0 side1 law looks read once says = absurd says
+recovers (Err (CounterFull which total)) side0 side1 law looks read once says = absurd says
 
 -- a sync changes no side
 pub synced-same : {E : Type 0} {side : ℕ} {seen : Option Sides} {images images' : Images} {result : Result (Unit {0}) E}

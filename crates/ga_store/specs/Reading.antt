@@ -1,6 +1,6 @@
 -- What the steps of recovery answer.
-use Rattle.std.specs.Prelude.{◌≡◌, ℕ, ◌+◌, ◌≤◌, Bool, true, false, List, length, map, Option, Some, None, Result, Ok, Err, IfSome}
-use Rattle.ga_ports.specs.Counts.{Rose}
+use Rattle.std.specs.Prelude.{◌≡◌, ℕ, ◌+◌, ◌*◌, ◌^◌, ◌<◌, ◌≤◌, Bool, true, false, List, length, map, Option, Some, None, Result, Ok, Err, IfSome}
+use Rattle.ga_ports.specs.Counts.{Rose, raised}
 use Rattle.ga_codec.specs.Values.{DeltaValue, delta_value, entry_value, snapshot_value}
 use Rattle.ga_codec.specs.Shapes.{SpellDelta}
 use Rattle.ga_disk.specs.Disk.{DiskView, max_size}
@@ -48,6 +48,21 @@ pub record Looks (failed : Bool) (disk disk' : DiskView) (images images' : Image
 pub record IsSide (side : ℕ) (disk : DiskView) (bytes : List ℕ) : Type 0 where
   pub told : IfSome disk.seen (λ seen. bytes ≡ of_side side seen)
   pub size : length bytes ≤ max_size
+
+-- the most bytes that one call reads
+abbrev pub most_read : ℕ
+most_read = 2 ^ 20
+
+-- so many bytes are read by this number of calls, each of which but the last reads as many as one may
+pub record InPieces (bytes reads : ℕ) : Type 0 where
+  pub enough : bytes ≤ reads * most_read
+  pub none_over : reads * most_read < bytes + most_read
+
+-- so many bytes were read piece by piece, beside so many other calls
+pub record Fetches (others bytes : ℕ) (disk disk' : DiskView) : Type 0 where
+  pub reads : ℕ
+  pub pieces : InPieces bytes reads
+  pub calls : disk'.counts.calls ≡ raised disk.counts.calls (others + reads)
 
 -- a call failed or memory ran out
 abbrev pub IsOutside : StoreFault → Type 0

@@ -1,9 +1,10 @@
 ghost use Rattle.std.specs.Prelude.{◌≡◌, ◌≤◌, ◌<◌, length, IfOk, IfErr, IfSome, OnOk, OnErr, IsTrue};
+ghost use Rattle.ga_ports.specs.Counts.{raised};
 ghost use Rattle.ga_disk.specs.Disk.{max_size};
 ghost use Rattle.ga_disk.specs.Images.{OnlyImage};
 ghost use Rattle.ga_disk.specs.Sides.{of_side};
 ghost use Rattle.ga_store.specs.Store.{Recovers};
-ghost use Rattle.ga_store.specs.Reading.{IsOutside, IsSide, Looks, is_disk_fault};
+ghost use Rattle.ga_store.specs.Reading.{Fetches, IsOutside, IsSide, Looks, is_disk_fault};
 ghost use Rattle.ga_store.specs.declared.fault.StoreFault.TheVariants.{DiskFault};
 
 use crate::reading::read_sides;
@@ -31,6 +32,7 @@ pub fn recover<D: Disk>(alloc: Global, disk: &mut D) -> Result<Db, StoreFault>
 fn settle<D: Disk>(disk: &mut D) -> Result<(), StoreFault>
     requires { IsTrue (D.view disk.old).is_open }
     ensures looks { Looks (is_disk_fault result) (D.view disk.old) (D.view disk.new) (D.images disk.old) (D.images disk.new) }
+    ensures calls { OnOk result ((D.view disk.new).counts.calls ≡ raised (D.view disk.old).counts.calls 2) }
     ensures settled { OnOk result (IfSome (D.view disk.old).seen (OnlyImage (D.images disk.new))) }
     ensures only { IfErr result (λ fault. fault ≡ DiskFault) }
 {
@@ -45,6 +47,7 @@ fn read_side<D: Disk>(alloc: Global, disk: &mut D, side: u32) -> Result<Vec<u8>,
     requires side { side < 2 }
     ensures looks { Looks (is_disk_fault result) (D.view disk.old) (D.view disk.new) (D.images disk.old) (D.images disk.new) }
     ensures bytes { IfOk result (λ bytes. IsSide side (D.view disk.old) bytes.items) }
+    ensures calls { IfOk result (λ bytes. Fetches 1 (length bytes.items) (D.view disk.old) (D.view disk.new)) }
     ensures outside { IfErr result IsOutside }
 {
     let size = disk.size(side)?;
@@ -59,6 +62,7 @@ fn fill<D: Disk>(disk: &mut D, side: u32, bytes: &mut [u8]) -> Result<(), StoreF
     requires side { side < 2 }
     requires long { IfSome (D.view disk.old).seen (λ seen. length bytes.old ≡ length (of_side side seen)) }
     ensures looks { Looks (is_disk_fault result) (D.view disk.old) (D.view disk.new) (D.images disk.old) (D.images disk.new) }
+    ensures calls { OnOk result (Fetches 0 (length bytes.old) (D.view disk.old) (D.view disk.new)) }
     ensures told { OnOk result (IfSome (D.view disk.old).seen (λ seen. bytes.new ≡ of_side side seen)) }
     ensures long { length bytes.new ≡ length bytes.old }
     ensures only { IfErr result (λ fault. fault ≡ DiskFault) }

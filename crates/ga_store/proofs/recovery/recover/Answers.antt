@@ -3,7 +3,7 @@ use Rattle.std.proofs.lemmas.Result.{err_from_is_err_and}
 use Rattle.ga_disk.specs.Sides.{Sides}
 use Rattle.ga_store.specs.Database.{DbOf}
 use Rattle.ga_store.specs.Reading.{Answers}
-use Rattle.ga_store.proofs.RecoverDisk.{looks-then, read-both, recovers, recovers-not}
+use Rattle.ga_store.proofs.RecoverDisk.{looks-then, once-both, read-both, recovers, recovers-not}
 use Rattle.ga_store.proofs.recovery.recover.Goals as goal
 
 pub returns-in_err-side0 : goal.returns-in_err-side0
@@ -26,4 +26,5 @@ returns g c =
     let both = read-both c.in_ok-side0.side0.items c.in_ok-side1.side1.items c.in_ok-settle.ensures.looks c.in_ok-settle.ensures.settled
     c.in_ok-side0.ensures.looks c.in_ok-side0.ensures.bytes c.in_ok-side1.ensures.looks c.in_ok-side1.ensures.bytes in
     let says = subst (λ (s : Sides). Answers (DbOf s) c.read_sides.result) (λ i. record { side0 = c.deref.ensures.value i; side1 = c.deref-2.ensures.value i }) c.read_sides.ensures in
-    recovers c.read_sides.result c.in_ok-side0.side0.items c.in_ok-side1.side1.items (g.D.Disk.only_now c.args.disk.now) looks both says
+    let once = once-both c.in_ok-side0.side0.items c.in_ok-side1.side1.items c.in_ok-settle.ensures.calls c.in_ok-side0.ensures.calls c.in_ok-side1.ensures.calls both in
+    recovers c.read_sides.result c.in_ok-side0.side0.items c.in_ok-side1.side1.items (g.D.Disk.only_now c.args.disk.now) looks both once says

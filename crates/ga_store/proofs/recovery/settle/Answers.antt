@@ -1,4 +1,6 @@
+use Rattle.std.proofs.Common.{ap, arith}
 use Rattle.std.proofs.lemmas.Result.{err_from_is_err_and}
+use Rattle.ga_disk.specs.Disk.{DiskView}
 use Rattle.ga_disk.specs.Stretch.DiskCall.{sync_call}
 use Rattle.ga_store.proofs.RecoverDisk.{looks-failed, looks-ok, looks-then, synced-same}
 use Rattle.ga_store.proofs.recovery.settle.Goals as goal
@@ -14,6 +16,12 @@ returns-in_err-sync-2-clause-looks g c =
     let first = looks-ok c.in_ok-sync.ensures.syncs.ok (sync_call c.sync.ensures.syncs) (synced-same c.sync.ensures.leaves) in
     let second = looks-failed _ c.in_err-sync-2.ensures.syncs.failed.0 (sync_call c.sync-2.ensures.syncs) (synced-same c.sync-2.ensures.leaves) in
     rw (p.1, p.2) (looks-then (g.D.Disk.counts_now c.args.disk.now) first second)
+
+pub returns-clause-calls : goal.returns-clause-calls
+returns-clause-calls g c =
+    let first = ap (λ (v : DiskView). v.counts.calls) c.in_ok-sync.ensures.syncs.ok in
+    let second = ap (λ (v : DiskView). v.counts.calls) c.in_ok-sync-2.ensures.syncs.ok in
+    omega (arith, first, second)
 
 pub returns-clause-looks : goal.returns-clause-looks
 returns-clause-looks g c =
