@@ -1,8 +1,8 @@
 #!/usr/bin/env python3
-"""Writes a table of runs in the form of crates/ga_run/src/tests/cases.rt. The answers come from goaccess_oracle.py.
+"""Writes tables of runs in the form of those in crates/ga_run/src/tests. The answers come from goaccess_oracle.py.
 
     make_cases.py lines FILE    runs over one log, in which the formats and the lines vary
-    make_cases.py words FILE    runs in which the options vary, over up to three files
+    make_cases.py words FOLDER  runs in which the options vary, over up to three files: reports.rt and faults.rt
     make_cases.py runs FILE     runs that keep what they counted, one after the other, over logs that grow and are renamed
 """
 import os
@@ -204,7 +204,8 @@ def answer(words, files):
     return b"%d\n" % status + out + err + b"".join(made.values())
 
 
-def write(name, doc, cases):
+def texts_of(cases):
+    """Each case as text."""
     texts = []
     for words, files in cases:
         assert not any("|" in word for word in words)
@@ -215,10 +216,27 @@ def write(name, doc, cases):
         case = "|".join(words).encode() + b"\n-----\n" + middle + b"\n-----\n" + said
         assert case.count(b"\n-----\n") == 2 and b"\n=====\n" not in case and middle.count(BETWEEN_FILES) == max(0, len(files) - 1)
         texts.append(case)
+    return texts
+
+
+def write(name, doc, const, texts):
     table = b"\n=====\n".join(texts).decode("utf-8")
     with open(name, "w", encoding="utf-8", newline="") as out:
-        out.write(doc + 'pub const CASES: &str = "\\\n' + quoted(table) + '";\n')
-    return len(cases)
+        out.write(doc + f'pub const {const}: &str = "\\\n' + quoted(table) + '";\n')
+    return len(texts)
+
+
+def ends_well(text):
+    """Whether the run of a case ends with status 0."""
+    return text.split(b"\n-----\n")[2].startswith(b"0\n")
+
+
+def write_words(folder):
+    texts = texts_of(OVER_WORDS)
+    reports = [text for text in texts if ends_well(text)]
+    faults = [text for text in texts if not ends_well(text)]
+    written = write(os.path.join(folder, "reports.rt"), DOC_WORDS.format("print"), "REPORTS", reports)
+    return written + write(os.path.join(folder, "faults.rt"), DOC_WORDS.format("fail"), "FAULTS", faults)
 
 
 TRACKED = [COMMON, "-o", "csv", "--restore", "--persist"]
@@ -285,9 +303,10 @@ DOC_LINES = """\
 /// out by a program in another language; the first log is that of examples/access.log.
 """
 DOC_WORDS = """\
-/// Runs, a line of `=` between two: the words with a bar between two; the files `a.log`, `b.log` and `agents.txt`, as many
-/// as are there, a line of `+` between two; and what the run answers, which is its exit status and then what standard
-/// output, standard error and the report's file took. The answers were worked out by a program in another language.
+/// Runs that {}, a line of `=` between two: the words with a bar between two; the files `a.log`, `b.log` and
+/// `agents.txt`, as many as are there, a line of `+` between two; and what the run answers, which is its exit status and
+/// then what standard output, standard error and the report's file took. The answers were worked out by a program in
+/// another language.
 """
 
 
@@ -298,9 +317,9 @@ def main():
         print(write_runs(sys.argv[2]), "runs")
         return
     if sys.argv[1] == "lines":
-        count = write(sys.argv[2], DOC_LINES, [(words, {"a.log": log}) for words, log in OVER_LINES])
+        count = write(sys.argv[2], DOC_LINES, "CASES", texts_of((words, {"a.log": log}) for words, log in OVER_LINES))
     else:
-        count = write(sys.argv[2], DOC_WORDS, OVER_WORDS)
+        count = write_words(sys.argv[2])
     print(count, "runs")
 
 

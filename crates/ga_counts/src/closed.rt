@@ -27,6 +27,13 @@ impl Model for CountClosed {
 }
 
 impl CountClosed {
+    /// How many sums there are.
+    pub fn words(&self) -> u32
+        ensures { result ≡ length self.now.sums }
+    {
+        self.words
+    }
+
     /// The sum at a word: all that was added there.
     pub fn sum(&self, word: u32) -> u64
         requires { word < length self.now.sums }

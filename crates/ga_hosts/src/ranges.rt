@@ -3,7 +3,7 @@ ghost use Rattle.ga_hosts.specs.Ranges.{HoldsHost};
 
 use crate::{Range, address_of};
 use ga_base::{Listing, NoMemory};
-use std::alloc::Global;
+use std::alloc::{AllocError, Global};
 use std::marker::Model;
 
 /// Ranges of addresses, as the option `--exclude-ip` names them, repeated. Contracts see the list of them.
@@ -19,6 +19,16 @@ impl Model for Ranges {
     ghost Value = { List Range };
 
     ghost view = { λ r. r.inner };
+}
+
+impl Clone for Ranges {
+    ghost is_clone = { λ s t. t ≡ s };
+
+    fn clone(&self) -> Result<Ranges, AllocError> {
+        Ok(Ranges {
+            inner: self.inner.clone()?,
+        })
+    }
 }
 
 impl Ranges {

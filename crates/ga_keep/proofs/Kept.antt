@@ -56,6 +56,7 @@ module _ (work : Work) (old : DbValue) (mode : Mode) (whole : SummaryValue) (ent
     next = subst (λ (m : Mode). IsNext m old (after_run mode old whole (map entry_value entries) work)) (sym is) next;
     room = ap (λ (m : Mode). passes_generations m old) is ∙ room;
     keeps = by-seen d.seen refl;
+    faults = commits.no_fault;
     frames = commits.frames;
   }
     where

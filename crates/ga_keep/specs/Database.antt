@@ -8,7 +8,7 @@ use Rattle.ga_disk.specs.Sides.{Sides}
 use Rattle.ga_logs.specs.declared.follow.Follow.{Follow}
 use Rattle.ga_logs.specs.declared.follow.Follow.TheVariants.{Whole, ToEnd, ToLastLine}
 use Rattle.ga_logs.specs.declared.start.Start.{Start}
-use Rattle.ga_ports.specs.Counts.{Rose, raised}
+use Rattle.ga_ports.specs.Counts.{raised}
 use Rattle.ga_store.specs.Commit.{IsLater, MergesBy, adds_record, passes_generations}
 use Rattle.ga_store.specs.Commits.{AllHave, Frames, HasEither}
 use Rattle.ga_store.specs.Database.{DbOf, DbValue, empty_db}
@@ -148,14 +148,15 @@ pub record IsKept (s : Settings) (stored : DbValue) (whole : SummaryValue) (entr
   pub next : IsNext (mode_of s) stored new
   pub room : passes_generations (mode_of s) stored ≡ false
   pub keeps : IfSome disk.seen (λ seen. Keeps stored new disk disk' images images')
+  pub faults : disk'.counts.faults ≡ disk.counts.faults
   pub frames : Frames disk disk'
 
--- the disk failed while it was
+-- a call of the disk failed while it was
 pub record FailsKeeping (stored : DbValue) (whole : SummaryValue) (entries : List Entry) (disk disk' : DiskView) (images images' : Images) : Type 0 where
   pub new : DbValue
   pub after : IsAfter whole entries new
   pub may : IfSome disk.seen (λ seen. MayKeep stored new disk disk' images images')
-  pub fault : Rose disk.counts.faults disk'.counts.faults
+  pub fault : disk'.counts.faults ≡ raised disk.counts.faults 1
   pub frames : Frames disk disk'
 
 -- a run was kept, where it persists; else the disk wasn't touched

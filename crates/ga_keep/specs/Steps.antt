@@ -5,7 +5,7 @@ use Rattle.ga_base.specs.declared.counts.TheConstants.{LIMIT}
 use Rattle.ga_base.specs.declared.entry.Entry.{Entry}
 use Rattle.ga_disk.specs.Disk.{DiskView}
 use Rattle.ga_disk.specs.Images.{Images}
-use Rattle.ga_ports.specs.Counts.{Rose}
+use Rattle.ga_ports.specs.Counts.{raised}
 use Rattle.ga_store.specs.Store.{IsDamaged}
 use Rattle.ga_store.specs.declared.fault.StoreFault.{StoreFault}
 use Rattle.ga_store.specs.declared.fault.StoreFault.TheVariants.{CounterFull, Damaged, DiskFault, NoMemory}
@@ -23,7 +23,7 @@ pub record HasDamage (s : Settings) (disk disk' : DiskView) (side at : ℕ) : Ty
 
 -- why, by the fault
 abbrev pub IsCause : Settings → DiskView → DiskView → StoreFault → Type 0
-IsCause s disk disk' DiskFault = Rose disk.counts.faults disk'.counts.faults
+IsCause s disk disk' DiskFault = disk'.counts.faults ≡ raised disk.counts.faults 1
 IsCause s disk disk' (Damaged side at) = HasDamage s disk disk' side at
 IsCause s disk disk' (CounterFull which total) = ⊥
 IsCause s disk disk' NoMemory = disk'.counts.faults ≡ disk.counts.faults

@@ -1,7 +1,6 @@
 pub mod AsTold
 pub mod CountSteps
 pub mod Ended
-pub mod Limits
 pub mod LogsSteps
 pub mod OneCourse
 pub mod ReadSteps

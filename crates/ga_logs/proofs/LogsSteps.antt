@@ -10,7 +10,7 @@ use Rattle.ga_resume.specs.declared.fault.PlaceFault.TheVariants.{FileFault, Fil
 use Rattle.ga_summary.specs.Rows.{SummaryValue}
 use Rattle.ga_summary.specs.declared.fault.MergeFault.{MergeFault}
 use Rattle.ga_summary.specs.declared.fault.MergeFault.TheVariants.{CounterFull, NoMemory as MergeNoMemory}
-use Rattle.ga_logs.specs.Counting.{CountsLines, FillsAmong}
+use Rattle.ga_outcomes.specs.Counting.{CountsLines, FillsAmong}
 use Rattle.ga_logs.specs.Following.{MissesAt, MissesLog, ReadsAll, ReadsPortion, ReadsSome}
 use Rattle.ga_logs.specs.Following.MissesAt.{misses_first, misses_later}
 use Rattle.ga_logs.specs.Following.ReadsAll.{read_all, read_then}
@@ -22,7 +22,7 @@ use Rattle.ga_logs.specs.declared.fault.CountFault.{CountFault}
 use Rattle.ga_logs.specs.declared.fault.CountFault.TheVariants.{Failed as LogFailed, Short as LogShort, Full, NoMemory as CountNoMemory}
 use Rattle.ga_logs.specs.declared.follow.Follow.{Follow}
 use Rattle.ga_logs.specs.declared.portion.Portion.{Portion}
-use Rattle.ga_logs.specs.declared.setup.Setup.{Setup}
+use Rattle.ga_outcomes.specs.declared.setup.Setup.{Setup}
 use Rattle.ga_logs.specs.declared.start.Start.{Start}
 
 -- a list up to a place and one further, and from there on

@@ -1,5 +1,4 @@
 -- Which parts of logs a run counts, and what their lines come to.
-pub mod Counting
 pub mod Portions
 pub mod Following
 pub mod Logs

@@ -5,13 +5,13 @@ use Rattle.ga_base.specs.declared.entry.Entry.{Entry}
 use Rattle.ga_ports.specs.Files.{FilesView}
 use Rattle.ga_resume.specs.declared.fault.PlaceFault.TheVariants.{FileFault, FileShort, NoMemory}
 use Rattle.ga_summary.specs.Rows.{SummaryValue}
-use Rattle.ga_logs.specs.Counting.{CountsLines, FillsAmong}
+use Rattle.ga_outcomes.specs.Counting.{CountsLines, FillsAmong}
 use Rattle.ga_logs.specs.Following.{MissesAt, ReadsAll, ReadsSome}
 use Rattle.ga_logs.specs.Portions.{counted_lines}
 use Rattle.ga_logs.specs.declared.fault.CountFault.{CountFault}
 use Rattle.ga_logs.specs.declared.fault.CountFault.TheVariants.{Failed as LogFailed, Short as LogShort, Full, NoMemory as CountNoMemory}
 use Rattle.ga_logs.specs.declared.portion.Portion.{Portion}
-use Rattle.ga_logs.specs.declared.setup.Setup.{Setup}
+use Rattle.ga_outcomes.specs.declared.setup.Setup.{Setup}
 use Rattle.ga_logs.specs.declared.start.Start.{Start}
 
 -- the logs were read and the entries went with them, and the generator's lines and theirs have this sum

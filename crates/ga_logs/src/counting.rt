@@ -11,9 +11,9 @@ ghost use Rattle.ga_summary.specs.Sums.{IsSumOf};
 ghost use Rattle.ga_logs.specs.Steps.Counting.{CountsLine, CountsSaid, FillsAtLine, FillsSaid};
 ghost use Rattle.ga_logs.specs.Steps.Logs.{Adds, FillsBehind};
 
-use crate::Setup;
 use ga_base::{Counter, LIMIT, Line, Record, Totals};
 use ga_line::{Lines, read_line};
+use ga_outcomes::Setup;
 use ga_panels::{PanelSetup, is_excluded, keys_of, visitor_of};
 use ga_summary::{MergeFault, Summary};
 use std::alloc::Global;

@@ -1,7 +1,7 @@
 //! The logs of a run: which part of each is read, by the entries that earlier runs left, and the sum of its lines.
 //!
 //! Start with `count_logs`. `specs/Portions.antt` says which part of a log is counted and what becomes of the entries,
-//! `specs/Following.antt` what it is to read logs one after the other, and `specs/Counting.antt` what lines come to.
+//! and `specs/Following.antt` what it is to read logs one after the other.
 #![tactic(auto)]
 
 mod counting;
@@ -11,7 +11,6 @@ pub mod laws;
 mod logs;
 mod portion;
 mod reading;
-mod setup;
 mod start;
 #[cfg(test)]
 mod tests;
@@ -21,5 +20,4 @@ pub use follow::Follow;
 pub use logs::count_logs;
 pub use portion::Portion;
 pub use reading::read_portion;
-pub use setup::Setup;
 pub use start::Start;

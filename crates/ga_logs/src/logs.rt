@@ -1,6 +1,6 @@
 ghost use Rattle.std.specs.Prelude.{◌≡◌, ◌+◌, IfOk, IfErr, OnOk, length};
 ghost use Rattle.ga_ports.specs.Stretch.{FilesWent};
-ghost use Rattle.ga_logs.specs.Counting.{CountsLines};
+ghost use Rattle.ga_outcomes.specs.Counting.{CountsLines};
 ghost use Rattle.ga_logs.specs.Following.{CanServe, CanServeOne};
 ghost use Rattle.ga_logs.specs.Logs.{CountsLogs, NoneFailed, StopsLogs};
 ghost use Rattle.ga_logs.specs.Portions.{AreEnded, Begins, Follows, generated_lines};
@@ -8,10 +8,11 @@ ghost use Rattle.ga_logs.specs.Steps.Logs.{CountsOneLog, StopsGenerated, StopsOn
 ghost use Rattle.ga_resume.specs.Segment.{IsSegment};
 
 use crate::counting::count_bytes;
-use crate::{CountFault, Follow, Portion, Setup, Start, read_portion};
+use crate::{CountFault, Follow, Portion, Start, read_portion};
 use bstr::ByteSlice;
 use ga_base::{Entries, NoMemory, Text, Totals};
 use ga_generate::generate;
+use ga_outcomes::Setup;
 use ga_ports::Files;
 use ga_ports::laws::files_stay;
 use ga_resume::advance;

@@ -1,10 +1,11 @@
-use crate::{Follow, Setup, Start, count_logs};
+use crate::{Follow, Start, count_logs};
 use ga_agents::Rules;
 use ga_base::{Entries, FormatFault, PanelSet, Statuses, Text, Texts, Totals};
 use ga_dates::{DEFAULT_DATE, DEFAULT_TIME, compile_date, compile_time};
 use ga_format::{compile, format_text};
 use ga_hosts::Ranges;
 use ga_line::LineSetup;
+use ga_outcomes::Setup;
 use ga_panels::PanelSetup;
 use ga_ports::MemFiles;
 use std::alloc::Global;

@@ -8,6 +8,7 @@
 mod contents;
 mod file_counts;
 mod files;
+mod gate;
 pub mod laws;
 mod listed;
 mod mem_files;
@@ -22,6 +23,7 @@ mod tests;
 
 pub use file_counts::{FileCounts, is_short};
 pub use files::{Failed, Files};
+pub use gate::{Gate, HoldGate, NoGate};
 pub use mem_files::MemFiles;
 pub use mem_outs::MemOuts;
 pub use outs::{Outs, To};

@@ -1,4 +1,6 @@
-use crate::{Failed, Files, MemFiles, MemOuts, Outs, SureFiles, SureOuts, To};
+use crate::{
+    Failed, Files, Gate, HoldGate, MemFiles, MemOuts, NoGate, Outs, SureFiles, SureOuts, To,
+};
 use ga_base::Text;
 use std::process::Abort;
 use std::test::Fail;
@@ -71,4 +73,15 @@ fn sure_outs_keep_how_much_they_took(rt: HostRuntime) -> Result<(), Fail> {
     assert_eq!(rt; outs.bytes_taken(To::Stdout), 0);
     assert_eq!(rt; outs.times_made(), 1);
     Ok(())
+}
+
+#[test]
+fn a_gate_lets_workers_through(rt: HostRuntime) {
+    let gate = HoldGate::new();
+    assert!(rt; !gate.met());
+    for worker in [1, 2, 0] {
+        gate.pass(worker);
+    }
+    assert!(rt; gate.met());
+    NoGate::new().pass(0);
 }

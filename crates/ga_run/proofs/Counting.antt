@@ -7,12 +7,12 @@ use Rattle.ga_base.specs.declared.entry.Entry.{Entry}
 use Rattle.ga_disk.specs.Disk.{DiskView}
 use Rattle.ga_disk.specs.Images.{Images}
 use Rattle.ga_keep.specs.Database.{AreBase, Finds, base_of, start_of}
-use Rattle.ga_logs.specs.Counting.{CountsLines}
+use Rattle.ga_outcomes.specs.Counting.{CountsLines}
 use Rattle.ga_logs.specs.Logs.{CountsLogs, StopsLogs}
 use Rattle.ga_logs.specs.declared.fault.CountFault.{CountFault}
 use Rattle.ga_logs.specs.declared.fault.CountFault.TheVariants.{Failed as LogFailed, Short as LogShort, Full, NoMemory as CountNoMemory}
-use Rattle.ga_logs.specs.declared.setup.Setup.{Setup}
-use Rattle.ga_logs.proofs.Limits.{all-within, no-counter}
+use Rattle.ga_outcomes.specs.declared.setup.Setup.{Setup}
+use Rattle.ga_outcomes.proofs.Limits.{all-within, no-counter}
 use Rattle.ga_ports.specs.Files.{FilesView}
 use Rattle.ga_resume.specs.declared.fault.PlaceFault.TheVariants.{NoMemory as PlaceNoMemory}
 use Rattle.ga_store.specs.Database.{DbValue, empty_db}

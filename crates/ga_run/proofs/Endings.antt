@@ -42,6 +42,7 @@ use Rattle.ga_run.specs.declared.status.Input.{Input}
 use Rattle.ga_run.specs.declared.status.Input.TheVariants.{Rules, Log}
 use Rattle.ga_run.specs.declared.status.Status.{Status}
 use Rattle.ga_run.specs.declared.status.Status.TheVariants.{Done, BadWords, BadFormat, BadRules, FileFault, FileShort, DiskFault, DbDamaged, OutFault, CounterFull, NoMemory}
+use Rattle.ga_run.proofs.DiskFaults.{found-faults}
 use Rattle.ga_run.proofs.InputsEnds.{found-leaves, looked-at}
 use Rattle.ga_run.proofs.Moments.{OnlyNow, untouched-leaves}
 use Rattle.ga_run.proofs.Takes.{takes-nil}
@@ -160,28 +161,22 @@ short-not s old new file at misses counted (inl can) =
     there old.files (inputs_of s) (place_of s file) name can.present stands (ap (told name) (short-untold s old new file at misses))
 short-not s old new file at misses counted (inr still) = still.1 (rose-at _ _ counted)
 
-stopped-not : (line : LineSetup) (s : Settings) (old new : World) (to : To) (at : ℕ) → StopsPrinting line s old new to at → OutputServed s old new → ⊥
+stopped-not : (line : LineSetup) (s : Settings) (old new : World) (to : To) (at : ℕ) → StopsPrinting line s old new to at → OutputServed line s old new → ⊥
 stopped-not line s old new to at h (inl (fits, fed)) =
-    fed (h.unsure (subst (λ (t : To). OutputCanTake t (length h.has.text) old.outs) (sym h.target_is) (fits h.has.come.counted.whole h.has.text h.has.report)))
+    fed (h.unsure (subst (λ (t : To). OutputCanTake t (length h.has.text) old.outs) (sym h.target_is) (fits h.has)))
 stopped-not line s old new to at h (inr still) = still (fails-rose (report_file s.generate s.output.name) h.has.text at old.outs new.outs h.stops)
 
--- a database that was found counted no fault
-found-faults : (s : Settings) (d d' : DiskView) (stored : DbValue) → FindsThere s d d' stored → d'.counts.faults ≡ d.counts.faults
-found-faults s d d' stored (inl (uses, h)) = h.faults
-found-faults s d d' stored (inr (none, left, empty)) = ap (λ (v : DiskView). v.counts.faults) left
-
 pub complete-by : (line : LineSetup) (s : Settings) (old new : World) (status : Status) → Ends line s old new status → SameFaults (faults_after status old.files.counts) new.files.counts
-    → FilesServed s old new → DiskServed old new → OutputServed s old new → HasGoodInput status → (status ≡ Done) ⊎ (status ≡ NoMemory)
+    → FilesServed s old new → DiskServed old new → OutputServed line s old new → HasGoodInput status → (status ≡ Done) ⊎ (status ≡ NoMemory)
 complete-by line s old new Done ends counted served disk took good = inl refl
 complete-by line s old new (BadWords fault) ends counted served disk took good = absurd ends
 complete-by line s old new (BadFormat which fault) ends counted served disk took good = absurd ends
 complete-by line s old new (BadRules at) ends counted served disk took good = absurd (good.rules at refl)
 complete-by line s old new (FileFault file) ends counted served disk took good = absurd (failed-not s old new ends.0.unsure counted.faults served)
 complete-by line s old new (FileShort file at) ends counted served disk took good = absurd (short-not s old new file at ends.0 counted.shorts served)
-complete-by line s old new DiskFault (inl h, quiet) counted served disk took good = absurd (disk h.misses.cause)
+complete-by line s old new DiskFault (inl h, quiet) counted served disk took good = absurd (disk (rose-at _ _ h.misses.cause))
 complete-by line s old new DiskFault (inr h, quiet) counted served disk took good =
-    absurd (disk (subst (λ (n : ℕ). Rose n new.disk.counts.faults)
-    (found-faults s old.disk h.found h.come.stored h.come.finds) h.fails.fault))
+    absurd (disk (rose-at _ _ (h.fails.fault ∙ ap (λ (n : ℕ). raised n 1) (found-faults s old.disk h.found h.come.stored h.come.finds))))
 complete-by line s old new (DbDamaged side at) ends counted served disk took good = absurd (good.database side at refl)
 complete-by line s old new (OutFault to at) ends counted served disk took good = absurd (stopped-not line s old new to at ends took)
 complete-by line s old new (CounterFull which total) ends counted served disk took good = absurd (good.counters which total refl)

@@ -151,7 +151,7 @@ module _ (s : Settings) (d d' : DiskView) (i i' : Images) (only : OnlyNow i) (st
 
     pub kept-since : KeptIf s stored whole entries d' d'' i' i'' → KeptSince s stored whole entries d' d'' i i''
     kept-since (inl (persists, h)) =
-        inl (persists, record { new = h.new; after = h.after; next = h.next; room = h.room; keeps = if_some-map _ _ d'.seen (λ seen. keeps-since h.new) h.keeps; frames = h.frames })
+        inl (persists, record { new = h.new; after = h.after; next = h.next; room = h.room; keeps = if_some-map _ _ d'.seen (λ seen. keeps-since h.new) h.keeps; faults = h.faults; frames = h.frames })
     kept-since (inr (not, u)) = inr (not, record { view = u.view; moments = leaves-still d' d'' i.now i i' i'' found-leaves u; all = all-left u })
 
 -- ---- what is told of the files at first is told of some of them, and after calls that served

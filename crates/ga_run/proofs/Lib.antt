@@ -1,5 +1,6 @@
 pub mod Asking
 pub mod Counting
+pub mod DiskFaults
 pub mod Endings
 pub mod Finishing
 pub mod FormatLemmas

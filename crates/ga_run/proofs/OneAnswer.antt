@@ -14,7 +14,7 @@ use Rattle.ga_disk.specs.Sides.{Sides}
 use Rattle.ga_keep.specs.Database.{AreBase, SidesHave, follow_of, lacks_generation, mode_of, start_of, uses_database}
 use Rattle.ga_line.specs.Lines.{lines}
 use Rattle.ga_line.specs.declared.setup.LineSetup.{LineSetup}
-use Rattle.ga_logs.specs.Counting.{CountsLines, FillsAmong}
+use Rattle.ga_outcomes.specs.Counting.{CountsLines, FillsAmong}
 use Rattle.ga_logs.specs.Following.{AreSomeTold, AreTold}
 use Rattle.ga_logs.specs.Following.AreSomeTold.{told_last, told_none, told_on}
 use Rattle.ga_logs.specs.Following.AreTold.{told_then}
@@ -28,8 +28,7 @@ use Rattle.ga_store.specs.Database.Reading.{damaged, stored as reads_as}
 use Rattle.ga_store.specs.declared.mode.Mode.{Mode}
 use Rattle.ga_store.specs.declared.mode.Mode.TheVariants.{Append, Overwrite}
 use Rattle.ga_summary.specs.Rows.{SummaryValue}
-use Rattle.ga_summary.specs.Sums.{IsMerged}
-use Rattle.ga_summary.proofs.Unique.{same_rows}
+use Rattle.ga_summary.proofs.Unique.{one_merged}
 use Rattle.ga_words.specs.declared.settings.Settings.{Settings}
 use Rattle.ga_run.specs.Reports.{IsTextOf}
 use Rattle.ga_run.specs.Setups.{setup_of}
@@ -145,16 +144,9 @@ one-base s stored a b h k = entries-same a b (h ∙ sym k)
 
 -- ---- sums
 
-one-merged : (a b x y : SummaryValue) → IsMerged a b x → IsMerged a b y → x ≡ y
-one-merged a b x y m n =
-    let totals : x.totals ≡ y.totals = m.totals ∙ sym n.totals in
-    let rows : x.rows ≡ y.rows = same_rows x.rows y.rows m.ordered n.ordered (λ key. m.present key ∙ sym (n.present key))
-    (λ key. m.sums key ∙ sym (n.sums key)) (λ key visitor. m.pairs key visitor ∙ sym (n.pairs key visitor)) in
-    λ i. record { totals = totals i; rows = rows i }
-
 one-whole : (mode : Mode) (old run x y : SummaryValue) → MergesBy mode old run x → MergesBy mode old run y → x ≡ y
 one-whole Overwrite old run x y h k = h ∙ sym k
-one-whole Append old run x y h k = one-merged old run x y h k
+one-whole Append old run x y h k = one_merged old run x y h k
 
 -- ---- told logs
 

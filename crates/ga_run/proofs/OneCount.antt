@@ -10,12 +10,12 @@ use Rattle.ga_line.specs.Records.{SaysOneThing}
 use Rattle.ga_panels.specs.Table.{AreKeysOf}
 use Rattle.ga_panels.specs.Visitors.{visitor_in}
 use Rattle.ga_panels.specs.declared.setup.PanelSetup.{PanelSetup}
-use Rattle.ga_logs.specs.declared.setup.Setup.{Setup}
+use Rattle.ga_outcomes.specs.declared.setup.Setup.{Setup}
 use Rattle.ga_summary.specs.Limits.{over, passes, or_else}
 use Rattle.ga_summary.specs.Outcomes.{Outcome, Counted, hit_of, totals_of}
 use Rattle.ga_summary.specs.Rows.{SummaryValue, totals_plus}
 use Rattle.ga_summary.specs.Sums.{IsSumOf}
-use Rattle.ga_logs.specs.Counting.{OutcomeIs, ComesTo, Come, listed, CountsLines, FillsAmong}
+use Rattle.ga_outcomes.specs.Counting.{OutcomeIs, ComesTo, Come, listed, CountsLines, FillsAmong}
 
 none-some : {p : Counter × ℕ} → None ≡ Some p → ⊥
 none-some e = cc

@@ -1,11 +1,12 @@
 -- Two runs with the same words over the same told files and sides end alike.
-use Rattle.std.proofs.Common.{◌≡◌, ◌≢◌, ◌⊎◌, ℕ, List, [], ◌∷◌, ◌++◌, refl, ap, sym, ◌∙◌, subst, inl, inr, Option, Some, None, IfSome, false, true, map, Ok}
+use Rattle.std.proofs.Common.{◌≡◌, ◌≢◌, ◌⊎◌, ◌||◌, ℕ, Bool, List, [], ◌∷◌, ◌++◌, refl, ap, sym, ◌∙◌, subst, inl, inr, Option, Some, None, IfSome, false, true, map, Ok}
 use Rattle.std.proofs.lemmas.Bool.{false≢true}
 use Rattle.std.specs.List.{AllByRecursion}
 use Rattle.ga_base.specs.declared.entry.Entry.{Entry}
 use Rattle.ga_codec.specs.Values.{entry_value}
 use Rattle.ga_disk.specs.Disk.{DiskView}
 use Rattle.ga_disk.specs.Sides.{Sides}
+use Rattle.ga_keep.specs.Database.{IsNext, mode_of}
 use Rattle.ga_line.specs.declared.setup.LineSetup.{LineSetup}
 use Rattle.ga_logs.specs.Following.{AreSomeTold, AreTold}
 use Rattle.ga_logs.specs.Following.AreSomeTold.{told_last, told_none, told_on}
@@ -22,7 +23,7 @@ use Rattle.ga_words.specs.declared.settings.Settings.{Settings}
 use Rattle.ga_agents.specs.declared.row.Rule.{Rule}
 use Rattle.ga_run.specs.Ends.{Ends, HasReport, SaysOnly}
 use Rattle.ga_run.specs.Inputs.{inputs_of, rules_file}
-use Rattle.ga_run.specs.Keeping.{IsKeptSince, KeepsSince, KeptSince}
+use Rattle.ga_run.specs.Keeping.{FindsThere, IsKeptSince, KeepsSince, KeptSince}
 use Rattle.ga_run.specs.OneRun.{Alike, HasDatabase, HaveSameInputs, IsUntroubled, RunView, SameDatabase, Wrote}
 use Rattle.ga_run.specs.Printing.{TakesOrStops, but_errors, delivered, report_file, target_of}
 use Rattle.ga_run.specs.Run.{AreRefused, HasGoodInput, HaveSetup, IsTrouble, NothingWasRead, RunsOver}
@@ -149,9 +150,21 @@ output-still : (words : List (List ℕ)) (sides : Sides) (r : RunView) → IsUnt
 output-still words sides r u None = u.output
 output-still words sides r u (Some name) = u.file
 
--- the database that a run left, by what it yields
+-- the database that a run left, by what it yields and what these sides had
+pub record IsLeftBy (s : Settings) (sides : Sides) (yield : Yield) (db : DbValue) : Type 0 where
+  pub summary : db.summary ≡ yield.whole
+  pub entries : db.entries ≡ map entry_value yield.entries
+  pub stored : DbValue
+  pub had : DbOf sides (reads_as stored)
+  pub next : IsNext (mode_of s) stored db
+
 abbrev LeftBy : Settings → RunView → Yield → Type 0
-LeftBy s r yield = (sides : Sides) → r.old.disk.seen ≡ Some sides → (db : DbValue) → HasDatabase r.new db → (db.summary ≡ yield.whole) × (db.entries ≡ map entry_value yield.entries)
+LeftBy s r yield = (sides : Sides) → r.old.disk.seen ≡ Some sides → (db : DbValue) → HasDatabase r.new db → IsLeftBy s sides yield db
+
+-- what was found there is what the sides had, where the run persists
+found-had : (s : Settings) (d d' : DiskView) (stored : DbValue) → s.persist ≡ true → FindsThere s d d' stored → (sides : Sides) → d.seen ≡ Some sides → DbOf sides (reads_as stored)
+found-had s d d' stored persists (inl (uses, found)) sides reads = subst (λ (o : Option Sides). IfSome o (λ x. DbOf x (reads_as stored))) reads found.has
+found-had s d d' stored persists (inr (none, left, empty)) sides reads = absurd (false≢true (sym none ∙ ap (λ (b : Bool). b || s.restore) persists))
 
 abbrev Left : Settings → RunView → Yield → Type 0
 Left s r yield = ((s.persist ≡ true) × LeftBy s r yield) ⊎ ((s.persist ≡ false) × (r.new.disk.seen ≡ r.old.disk.seen))
@@ -204,18 +217,22 @@ module _ (law : ReadAsTold) (database : OneDatabase) (words : List (List ℕ)) (
         found-seen : h.found.seen ≡ r.old.disk.seen
         found-seen = seen-same s r.old.disk h.found h.come.stored h.come.finds
 
-        kept-by : IsKeptSince s h.come.stored h.come.counted.whole h.come.counted.entries' h.found r.new.disk r.old.images r.new.images → LeftBy s r yield
-        kept-by k seen reads db (seen', is', has) =
+        kept-by : s.persist ≡ true → IsKeptSince s h.come.stored h.come.counted.whole h.come.counted.entries' h.found r.new.disk r.old.images r.new.images → LeftBy s r yield
+        kept-by persists k seen reads db (seen', is', has) =
             let keeps : KeepsSince h.come.stored k.new r.new.disk r.old.images r.new.images =
             subst (λ (o : Option Sides). IfSome o (λ x. KeepsSince h.come.stored k.new r.new.disk r.old.images r.new.images)) (found-seen ∙ reads) k.keeps in
             let now : DbOf seen' (reads_as k.new) = subst (λ (o : Option Sides). IfSome o (λ x. DbOf x (reads_as k.new))) is' keeps.reads in
-            let same : db ≡ k.new = let e = database seen' (reads_as db) (reads_as k.new) has now in cc in (
-              ap (λ (v : DbValue). v.summary) same ∙ k.after.summary ∙ sym whole,
-              ap (λ (v : DbValue). v.entries) same ∙ k.after.entries ∙ ap (map entry_value) (sym entries),
-            )
+            let same : db ≡ k.new = let e = database seen' (reads_as db) (reads_as k.new) has now in cc in
+            record {
+              summary = ap (λ (v : DbValue). v.summary) same ∙ k.after.summary ∙ sym whole;
+              entries = ap (λ (v : DbValue). v.entries) same ∙ k.after.entries ∙ ap (map entry_value) (sym entries);
+              stored = h.come.stored;
+              had = found-had s r.old.disk h.found h.come.stored persists h.come.finds seen reads;
+              next = subst (λ (v : DbValue). IsNext (mode_of s) h.come.stored v) (sym same) k.next;
+            }
 
         by : KeptSince s h.come.stored h.come.counted.whole h.come.counted.entries' h.found r.new.disk r.old.images r.new.images → Left s r yield
-        by (inl (persists, k)) = inl (persists, kept-by k)
+        by (inl (persists, k)) = inl (persists, kept-by persists k)
         by (inr (not, left)) = inr (not, ap (λ (v : DiskView). v.seen) left.view ∙ found-seen)
 
     abbrev Ending : Status → Type 0
@@ -264,7 +281,18 @@ still-same database sides a b h k reads reads' db db' (x, is, has) (y, is', has'
     let same-x : x ≡ sides = let e = sym is ∙ h ∙ reads in cc in
     let same-y : y ≡ sides = let e = sym is' ∙ k ∙ reads' in cc in
     let same : db ≡ db' = let e = database sides (reads_as db) (reads_as db') (subst (λ (z : Sides). DbOf z (reads_as db)) same-x has) (subst (λ (z : Sides). DbOf z (reads_as db')) same-y has') in cc in
-    (ap (λ (v : DbValue). v.summary) same, ap (λ (v : DbValue). v.entries) same)
+    record {
+      summary = ap (λ (v : DbValue). v.summary) same;
+      entries = ap (λ (v : DbValue). v.entries) same;
+      generation = ap (λ (v : DbValue). v.generation) same;
+      records = ap (λ (v : DbValue). v.records) same;
+    }
+
+-- so is the one that follows from the same stored one
+next-same : (s : Settings) (x y db db' : DbValue) → x ≡ y → IsNext (mode_of s) x db → IsNext (mode_of s) y db' → (db.generation ≡ db'.generation) × (db.records ≡ db'.records)
+next-same s x y db db' e h k =
+    let h' = subst (λ (v : DbValue). IsNext (mode_of s) v db) e h in
+    (h'.generation ∙ sym k.generation, h'.records ∙ sym k.records)
 
 module _ (database : OneDatabase) (words : List (List ℕ)) (sides : Sides) (a b : RunView) (u : IsUntroubled words sides a) (v : IsUntroubled words sides b) where
   -- with one status and one report, all is alike
@@ -315,7 +343,14 @@ module _ (answer : OneAnswer) (law : ReadAsTold) (database : OneDatabase) (words
         by (inl (persists, h)) (inl (persists', k)) reads reads' db db' has has' =
             let x = h sides reads db has in
             let y = k sides reads' db' has' in
-            (x.0 ∙ sym y.0, x.1 ∙ sym y.1)
+            let stored : x.stored ≡ y.stored = let e = database sides (reads_as x.stored) (reads_as y.stored) x.had y.had in cc in
+            let next = next-same s x.stored y.stored db db' stored x.next y.next in
+            record {
+              summary = x.summary ∙ sym y.summary;
+              entries = x.entries ∙ sym y.entries;
+              generation = next.0;
+              records = next.1;
+            }
         by (inl (persists, h)) (inr (not, k)) reads reads' db db' has has' = absurd (false≢true (sym not ∙ persists))
         by (inr (not, h)) (inl (persists, k)) reads reads' db db' has has' = absurd (false≢true (sym not ∙ persists))
         by (inr (not, h)) (inr (not', k)) reads reads' db db' has has' = still-same database sides a b h k reads reads' db db' has has'

@@ -30,6 +30,7 @@ use Rattle.ga_run.specs.declared.setups.SetupFault.TheVariants.{Refused}
 use Rattle.ga_run.specs.declared.status.Status.{Status}
 use Rattle.ga_run.specs.declared.status.Status.TheVariants.{Done, BadWords, BadFormat, BadRules, FileFault, FileShort, DiskFault, DbDamaged, OutFault, CounterFull, NoMemory}
 use Rattle.ga_run.specs.declared.status.Which.{Which}
+use Rattle.ga_run.proofs.DiskFaults.{alone-by, disk-faults-by}
 use Rattle.ga_run.proofs.Endings.{absent-by, along, complete-by, early-faults, moments-by, named, nothing-taken, refused-by, same-but, unwritten-by, written}
 use Rattle.ga_run.proofs.Moments.{OnlyNow, untouched-leaves}
 use Rattle.ga_run.proofs.Telling.{ReadAsTold, answers}
@@ -184,6 +185,8 @@ module _ (one : OneWords) (outcome : OneOutcome) (words : List (List ℕ)) where
         complete = complete-by line s old (world f d i outs) status ends-now ended.faults;
         moments = λ sides reads. moments-by s old (world f d i outs) only line sides reads status ends-now;
         unwritten = λ not. unwritten-by s old (world f d i outs) only line not status ends-now;
+        alone = λ none. alone-by line s old (world f d i outs) none status ends-now;
+        disk_faults = disk-faults-by line s old (world f d i outs) status ends-now;
       }
 
       come : ComeTo s (Ok line)
@@ -226,6 +229,8 @@ decides-nothing words old new only quiet still = record {
     complete = λ served disk took good. inr refl;
     moments = λ sides reads. inl (untouched-leaves old.disk new.disk old.images new.images only still.disk);
     unwritten = λ not. record { seen = ap (λ (d : DiskView). d.seen) still.disk.view; moments = untouched-leaves old.disk new.disk old.images new.images only still.disk };
+    alone = λ none. still.disk.view;
+    disk_faults = ap (λ (d : DiskView). d.counts.faults) still.disk.view;
   };
 }
 

@@ -5,11 +5,11 @@ use Rattle.ga_agents.specs.declared.row.Rule.{Rule}
 use Rattle.ga_base.specs.declared.entry.Entry.{Entry}
 use Rattle.ga_disk.specs.Disk.{DiskView}
 use Rattle.ga_line.specs.declared.setup.LineSetup.{LineSetup}
-use Rattle.ga_logs.specs.Counting.{CountsLines}
+use Rattle.ga_outcomes.specs.Counting.{CountsLines}
 use Rattle.ga_logs.specs.Following.{ReadsAll, ReadsPortion}
 use Rattle.ga_logs.specs.Portions.{counted_lines}
 use Rattle.ga_logs.specs.declared.follow.Follow.TheVariants.{Whole}
-use Rattle.ga_logs.specs.declared.setup.Setup.{Setup}
+use Rattle.ga_outcomes.specs.declared.setup.Setup.{Setup}
 use Rattle.ga_logs.specs.declared.portion.Portion.{Portion}
 use Rattle.ga_ports.specs.Files.{FilesView}
 use Rattle.ga_store.specs.Database.{DbValue}

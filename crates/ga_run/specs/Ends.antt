@@ -11,7 +11,7 @@ use Rattle.ga_disk.specs.Images.{Images, LeavesOnly}
 use Rattle.ga_keep.specs.Database.{AreBase, Finds, IsUntouched, LooksAtMost, lacks_generation, start_of}
 use Rattle.ga_keep.specs.Steps.{Misses}
 use Rattle.ga_line.specs.declared.setup.LineSetup.{LineSetup}
-use Rattle.ga_logs.specs.Counting.{FillsAmong}
+use Rattle.ga_outcomes.specs.Counting.{FillsAmong}
 use Rattle.ga_logs.specs.Following.{CanServe, MissesAt, MissesLog, ReadsPortion, ReadsSome}
 use Rattle.ga_logs.specs.Portions.{counted_lines}
 use Rattle.ga_logs.specs.declared.follow.Follow.TheVariants.{Whole}

@@ -5,7 +5,7 @@ use Rattle.ga_disk.specs.Disk.{DiskView}
 use Rattle.ga_disk.specs.Images.{Images, LeavesOnly}
 use Rattle.ga_disk.specs.Sides.{Sides}
 use Rattle.ga_keep.specs.Database.{IsAfter, IsNext, IsPathOf, mode_of, uses_database}
-use Rattle.ga_ports.specs.Counts.{Rose, raised}
+use Rattle.ga_ports.specs.Counts.{raised}
 use Rattle.ga_store.specs.Commit.{IsLater, passes_generations}
 use Rattle.ga_store.specs.Commits.{AllHave, Frames, HasEither}
 use Rattle.ga_store.specs.Database.{DbOf, DbValue, empty_db}
@@ -47,6 +47,7 @@ pub record IsKeptSince (s : Settings) (stored : DbValue) (whole : SummaryValue) 
   pub next : IsNext (mode_of s) stored new
   pub room : passes_generations (mode_of s) stored ≡ false
   pub keeps : IfSome disk.seen (λ seen. KeepsSince stored new disk' images images')
+  pub faults : disk'.counts.faults ≡ disk.counts.faults
   pub frames : Frames disk disk'
 
 -- no side was changed; each image has the database that was found
@@ -74,5 +75,5 @@ pub record FailsSince (stored : DbValue) (whole : SummaryValue) (entries : List 
   pub new : DbValue
   pub after : IsAfter whole entries new
   pub may : IfSome disk.seen (λ seen. MayKeepSince stored new disk disk' images images')
-  pub fault : Rose disk.counts.faults disk'.counts.faults
+  pub fault : disk'.counts.faults ≡ raised disk.counts.faults 1
   pub frames : Frames disk disk'

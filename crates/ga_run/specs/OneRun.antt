@@ -52,9 +52,16 @@ Wrote (Some (file, text)) old new = new ≡ but_errors new (delivered file text 
 abbrev pub HasDatabase : World → DbValue → Type 0
 HasDatabase world db = (sides : Sides) × (world.disk.seen ≡ Some sides) × DbOf sides (reads_as db)
 
--- the databases of two worlds have one summary and the same entries
+-- two databases say the same, in the same generation with as many records
+pub record SayTheSame (a b : DbValue) : Type 0 where
+  pub summary : a.summary ≡ b.summary
+  pub entries : a.entries ≡ b.entries
+  pub generation : a.generation ≡ b.generation
+  pub records : a.records ≡ b.records
+
+-- the databases of two worlds do
 abbrev pub SameDatabase : World → World → Type 0
-SameDatabase a b = (db db' : DbValue) → HasDatabase a db → HasDatabase b db' → (db.summary ≡ db'.summary) × (db.entries ≡ db'.entries)
+SameDatabase a b = (db db' : DbValue) → HasDatabase a db → HasDatabase b db' → SayTheSame db db'
 
 -- one status, the same report in the same place, the same fault line, and from the same sides on the same database
 pub record Alike (sides : Sides) (a b : RunView) : Type 0 where

@@ -20,14 +20,12 @@ use Rattle.ga_store.specs.Commit.{IsLater}
 use Rattle.ga_store.specs.Commits.{HasEither}
 use Rattle.ga_store.specs.Database.{DbOf, DbValue}
 use Rattle.ga_store.specs.Database.Reading.{stored as reads_as}
-use Rattle.ga_summary.specs.Rows.{SummaryValue}
 use Rattle.ga_words.specs.WordsOf.{WordsOf}
 use Rattle.ga_words.specs.declared.fault.WordFault.{WordFault}
 use Rattle.ga_words.specs.declared.settings.Settings.{Settings}
-use Rattle.ga_run.specs.Ends.{Ends}
+use Rattle.ga_run.specs.Ends.{Ends, HasReport}
 use Rattle.ga_run.specs.Inputs.{WalksInputs, inputs_of, place_of}
 use Rattle.ga_run.specs.Printing.{OutputCanTake, TakesOrStops, but_errors, report_file, target_of}
-use Rattle.ga_run.specs.Reports.{IsTextOf}
 use Rattle.ga_run.specs.Setups.{IsLineSetup, IsRefused}
 use Rattle.ga_run.specs.Statuses.{IsFaultLine}
 use Rattle.ga_run.specs.Told.{Answers, Yield}
@@ -77,12 +75,11 @@ FilesServed s old new = CanServe (inputs_of s) old.files
 abbrev pub DiskServed : World → World → Type 0
 DiskServed old new = ¬ Rose old.disk.counts.faults new.disk.counts.faults
 
--- the report's target served: it was told that it can take the report, whichever that may be, and no call wanted memory, or
+-- the report's target served: it was told that it can take the report that the run came to, and no call wanted memory, or
 -- no count of its faults rose
-abbrev pub OutputServed : Settings → World → World → Type 0
-OutputServed s old new = let to = target_of (report_file s.generate s.output.name) in
-    (((sum : SummaryValue) (text : List ℕ) → IsTextOf s sum text → OutputCanTake to (length text) old.outs)
-    × ¬ Rose old.outs.starved new.outs.starved)
+abbrev pub OutputServed : LineSetup → Settings → World → World → Type 0
+OutputServed line s old new = let to = target_of (report_file s.generate s.output.name) in
+    (((has : HasReport line s old new) → OutputCanTake to (length has.text) old.outs) × ¬ Rose old.outs.starved new.outs.starved)
     ⊎ (¬ Rose (target to old.outs).faults (target to new.outs).faults)
 
 -- the run ended neither for a bad rule, nor for damage, nor for a full counter
@@ -131,6 +128,11 @@ pub record LeavesEither (sides : Sides) (old new : World) : Type 0 where
   pub rises : IsLater stored later
   pub moments : LeavesOnly old.images new.images (λ image. old.images.now image ⊎ HasEither stored later image)
 
+-- the count of the disk's failed calls after a run with this status
+abbrev pub disk_faults_after : Status → ℕ → ℕ
+disk_faults_after DiskFault faults = raised faults 1
+disk_faults_after _ faults = faults
+
 -- ---- the run over its inputs
 
 pub record RunsOver (line : LineSetup) (s : Settings) (old new : World) (status : Status) : Type 0 where
@@ -146,12 +148,16 @@ pub record RunsOver (line : LineSetup) (s : Settings) (old new : World) (status 
   pub absent : (place : ℕ) (name : List ℕ) → slice_get (inputs_of s) place ≡ Some name
       → is_absent name old.files.contents ≡ true → EndsBefore s place status
   -- where all served and the input is good, the run is done, or memory ran out
-  pub complete : FilesServed s old new → DiskServed old new → OutputServed s old new → HasGoodInput status
+  pub complete : FilesServed s old new → DiskServed old new → OutputServed line s old new → HasGoodInput status
       → (status ≡ Done) ⊎ (status ≡ NoMemory)
   -- what a crash may have left since the start
   pub moments : (sides : Sides) → old.disk.seen ≡ Some sides → LeavesDisk old new ⊎ LeavesEither sides old new
   -- without --persist no side is changed, with any status, also of a disk that doesn't tell
   pub unwritten : s.persist ≡ false → LeavesSides old new
+  -- and without --restore too the disk isn't touched
+  pub alone : uses_database s ≡ false → new.disk ≡ old.disk
+  -- a call of the disk failed exactly where the status says so
+  pub disk_faults : new.disk.counts.faults ≡ disk_faults_after status old.disk.counts.faults
 
 -- ---- one run
 

@@ -12,7 +12,7 @@ use Rattle.ga_format.specs.Named.{StandsFor}
 use Rattle.ga_line.specs.declared.setup.LineSetup.{LineSetup}
 use Rattle.ga_panels.specs.declared.setup.PanelSetup.{PanelSetup}
 use Rattle.ga_words.specs.declared.settings.Settings.{Settings}
-use Rattle.ga_logs.specs.declared.setup.Setup.{Setup}
+use Rattle.ga_outcomes.specs.declared.setup.Setup.{Setup}
 use Rattle.ga_run.specs.declared.status.Which.{Which}
 use Rattle.ga_run.specs.declared.status.Which.TheVariants.{Log, Date, Time}
 

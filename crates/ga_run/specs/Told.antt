@@ -9,7 +9,7 @@ use Rattle.ga_base.specs.declared.counts.TheConstants.{LIMIT}
 use Rattle.ga_base.specs.declared.entry.Entry.{Entry}
 use Rattle.ga_disk.specs.Sides.{Sides}
 use Rattle.ga_line.specs.declared.setup.LineSetup.{LineSetup}
-use Rattle.ga_logs.specs.Counting.{CountsLines, FillsAmong}
+use Rattle.ga_outcomes.specs.Counting.{CountsLines, FillsAmong}
 use Rattle.ga_logs.specs.Following.{AreTold, AreSomeTold}
 use Rattle.ga_logs.specs.Portions.{counted_lines}
 use Rattle.ga_logs.specs.declared.portion.Portion.{Portion}

@@ -7,7 +7,7 @@ ghost use Rattle.ga_base.specs.declared.counts.Counter.{Counter};
 ghost use Rattle.ga_base.specs.declared.counts.Totals.{Totals};
 ghost use Rattle.ga_disk.specs.Sides.{Sides};
 ghost use Rattle.ga_line.specs.declared.setup.LineSetup.{LineSetup as TheSetup};
-ghost use Rattle.ga_logs.specs.Counting.{CountsLines, FillsAmong};
+ghost use Rattle.ga_outcomes.specs.Counting.{CountsLines, FillsAmong};
 ghost use Rattle.ga_ports.specs.Files.{FilesView};
 ghost use Rattle.ga_ports.specs.Outs.{OutsView};
 ghost use Rattle.ga_summary.specs.Rows.{SummaryValue};

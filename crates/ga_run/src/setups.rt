@@ -13,7 +13,6 @@ use ga_agents::Rules;
 use ga_base::{FormatFault, NoMemory, Text};
 use ga_dates::{DateFormat, TimeFormat, compile_date, compile_time};
 use ga_format::{Format, compile, format_text};
-use ga_hosts::Ranges;
 use ga_line::LineSetup;
 use ga_panels::PanelSetup;
 use ga_words::Settings;
@@ -64,7 +63,7 @@ pub fn panel_setup(alloc: Global, settings: &Settings, rules: Rules) -> Result<P
 {
     Ok(PanelSetup {
         rules,
-        ranges: copy_of(alloc, &settings.ranges)?,
+        ranges: settings.ranges.clone()?,
         statics: settings.statics.clone()?,
         all_static: settings.all_static,
         ignore_crawlers: settings.ignore_crawlers,
@@ -73,17 +72,6 @@ pub fn panel_setup(alloc: Global, settings: &Settings, rules: Rules) -> Result<P
         count_4xx: settings.count_4xx,
         as_404: settings.as_404,
     })
-}
-
-/// The same ranges once more.
-fn copy_of(alloc: Global, ranges: &Ranges) -> Result<Ranges, NoMemory>
-    ensures { IfOk result (λ copy. copy ≡ ranges.now) }
-{
-    let mut copy = Ranges::new(alloc);
-    for range in ranges.items() {
-        copy.push(*range)?;
-    }
-    Ok(copy)
 }
 
 /// The log format, by its text or its name.

@@ -5,8 +5,9 @@ use ga_ports::{MemFiles, MemOuts, To};
 use std::alloc::Global;
 use std::test::Fail;
 
-mod cases;
+mod faults;
 mod histories;
+mod reports;
 
 /// The names of a case's files, in the order in which it has them.
 const NAMES: [&str; 3] = ["a.log", "b.log", "agents.txt"];
@@ -104,8 +105,8 @@ fn ends_as_said(alloc: Global, case: &str) -> Result<bool, NoMemory> {
 }
 
 /// The first case that ends otherwise than it says, or says nothing.
-fn first_wrong(alloc: Global) -> Result<Option<&'static str>, NoMemory> {
-    for case in cases::CASES.split("\n=====\n") {
+fn first_wrong(alloc: Global, cases: &'static str) -> Result<Option<&'static str>, NoMemory> {
+    for case in cases.split("\n=====\n") {
         if !ends_as_said(alloc, case)? {
             return Ok(Some(case));
         }
@@ -129,7 +130,8 @@ fn first_wrong_step(
 
 #[test]
 fn runs_answer_as_worked_out(rt: HostRuntime) -> Result<(), Fail> {
-    assert_eq!(rt; first_wrong(rt.alloc())?, None);
+    assert_eq!(rt; first_wrong(rt.alloc(), reports::REPORTS)?, None);
+    assert_eq!(rt; first_wrong(rt.alloc(), faults::FAULTS)?, None);
     Ok(())
 }
 

@@ -40,6 +40,14 @@ impl<T> Numbering<T> {
         self.items.len() as u32
     }
 
+    /// Lends the items, in the order of their numbers.
+    pub fn items(&self) -> &[T]
+        ensures value { result.now ≡ self.now.items }
+        ensures few { length self.now.items < 2 ^ 32 }
+    {
+        &self.items
+    }
+
     /// The item of this number.
     pub fn item(&self, number: u32) -> &T
         requires { number < length self.now.items }

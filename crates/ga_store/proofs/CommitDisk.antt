@@ -1,7 +1,7 @@
 -- What each call of a commit leaves of the disk, and what that means for the database.
-use Rattle.std.proofs.Common.{◌≡◌, ℕ, ◌+◌, ◌≤◌, zero, suc, List, Option, Some, IfSome, refl, sym, ◌∙◌, ap, subst, arith}
-use Rattle.ga_ports.specs.Counts.{Rose, raised}
-use Rattle.ga_disk.specs.Disk.{DiskView, Steps, TornAt}
+use Rattle.std.proofs.Common.{◌≡◌, ℕ, ◌+◌, zero, suc, List, Option, Some, IfSome, refl, sym, ◌∙◌, ap, subst, arith}
+use Rattle.ga_ports.specs.Counts.{raised}
+use Rattle.ga_disk.specs.Disk.{DiskView, Steps, TornAt, calls_once}
 use Rattle.ga_disk.specs.Images.{AddsNone, Elapses, Follows, HasSide, Images, OnlyImage}
 use Rattle.ga_disk.specs.Sides.{Sides, of_side, with_side}
 use Rattle.ga_disk.proofs.Only.{only-further, only-now, only-then, only-wider}
@@ -76,6 +76,20 @@ frames-then {v0} {v1} {v2} a b = record {
   opened = b.opened ∙ a.opened;
 }
 
+-- calls of which none failed
+pub record Clean (v0 v1 : DiskView) : Type 0 where
+  pub frames : Frames v0 v1
+  pub faults : v1.counts.faults ≡ v0.counts.faults
+
+pub clean-by : (v0 v1 : DiskView) (seen : Option Sides) → v1 ≡ record v0 { seen = seen; counts = calls_once v0.counts } → Clean v0 v1
+clean-by v0 v1 seen e = record { frames = frames-by v0 v1 seen _ e refl; faults = ap (λ (v : DiskView). v.counts.faults) e }
+
+pub clean-self : (v : DiskView) → Clean v v
+clean-self v = record { frames = frames-self v; faults = refl }
+
+pub clean-then : {v0 v1 v2 : DiskView} → Clean v0 v1 → Clean v1 v2 → Clean v0 v2
+clean-then a b = record { frames = frames-then a.frames b.frames; faults = b.faults ∙ a.faults }
+
 -- ---- how many calls
 
 again : (a b c m n : ℕ) → b ≡ raised a m → c ≡ raised b n → c ≡ raised a (m + n)
@@ -86,14 +100,6 @@ takes-then v0 v1 v2 m n first second = again v0.counts.calls v1.counts.calls v2.
 
 pub takes-none : (v : DiskView) → Takes 0 v v
 takes-none v = omega arith
-
--- ---- counts
-
-pub rose-later : (a b c : ℕ) → a ≤ b → Rose b c → Rose a c
-rose-later a b c le rose = omega (arith, rose)
-
-pub rose-once : (a b : ℕ) → b ≡ raised a 1 → Rose a b
-rose-once a b e = omega (arith, e)
 
 -- a first call after one image
 pub keeps-first : {P : Sides → Type 0} {a c : Images} (n : ℕ) (step : List ℕ → List ℕ → Type 0) (sides : Sides)

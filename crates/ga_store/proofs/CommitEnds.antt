@@ -1,5 +1,6 @@
 -- How a commit ends, from what its steps did.
-use Rattle.std.proofs.Common.{◌≡◌, ◌⊎◌, ℕ, ◌+◌, ◌<◌, true, List, length, Option, Some, IfSome, Result, Ok, Err, sym, ◌∙◌, subst, inl, inr}
+use Rattle.std.proofs.Common.{◌≡◌, ◌⊎◌, ℕ, ◌+◌, ◌<◌, true, List, length, Option, Some, IfSome, Result, Ok, Err, sym, ◌∙◌, ap, subst, inl, inr}
+use Rattle.ga_ports.specs.Counts.{raised}
 use Rattle.ga_disk.specs.Disk.{DiskView, Steps, TornAt}
 use Rattle.ga_disk.specs.Images.{Images, OnlyImage}
 use Rattle.ga_disk.specs.Sides.{Sides, of_side, with_side}
@@ -7,7 +8,7 @@ use Rattle.ga_disk.specs.Stretch.{DiskWent}
 use Rattle.ga_disk.specs.Stretch.DiskWent.{disk_then}
 use Rattle.ga_disk.proofs.Stretches.{disk-stays}
 use Rattle.ga_store.specs.Commit.{IsLater, Makes, Work, closing_calls, tail_calls}
-use Rattle.ga_store.specs.Commits.{AllHave, Commits, CommitsFrom, Frames, HasEither, IsReady, after_work}
+use Rattle.ga_store.specs.Commits.{AllHave, Commits, CommitsFrom, HasEither, IsReady, after_work}
 use Rattle.ga_store.specs.CommitSteps.{Closes, Fills, IsClosing, Keeps, Leads, SameFront, Sets, Settles, Works, after_byte, after_closing, after_tail, with_tail}
 use Rattle.ga_store.specs.Database.{DbOf, DbValue}
 use Rattle.ga_store.specs.Database.Reading.{stored}
@@ -15,17 +16,22 @@ use Rattle.ga_store.specs.Parts.{open_gate}
 use Rattle.ga_store.specs.declared.fault.StoreFault.{StoreFault}
 use Rattle.ga_store.proofs.CommitBytes.{closing}
 use Rattle.ga_store.proofs.CommitDb.{closing-sides, either-opening, filling-sides, new-opened, not-old, off, old-closing, old-filled, old-filling, opening-sides, some-tail}
-use Rattle.ga_store.proofs.CommitDisk.{at-seen, frames-then, takes-then, keeps-then, keeps-wider, of-with, rose-later}
+use Rattle.ga_store.proofs.CommitDisk.{Clean, at-seen, clean-then, frames-then, takes-then, keeps-then, keeps-wider, of-with}
 use Rattle.ga_store.proofs.CommitPlan.{IsPlanned, is-later, planned}
 
 -- one stretch that went well and another that failed
-pub works-then : {A : Type 0} {v0 v1 v2 : DiskView} {e : StoreFault} → DiskWent v0 v1 → Frames v0 v1 → Works {A = A} v1 v2 (Err e) → Works {A = A} v0 v2 (Err e)
-works-then {A} {v0} {v1} {v2} {e} first frames second = record {
-  fault = rose-later _ _ _ (disk-stays first).faults second.fault;
+pub works-then : {A : Type 0} {v0 v1 v2 : DiskView} {e : StoreFault} → DiskWent v0 v1 → Clean v0 v1 → Works {A = A} v1 v2 (Err e) → Works {A = A} v0 v2 (Err e)
+works-then {A} {v0} {v1} {v2} {e} first clean second = record {
+  no_fault = tt;
+  fault = second.fault ∙ ap (λ (n : ℕ). raised n 1) clean.faults;
   cause = second.cause;
-  frames = frames-then frames second.frames;
+  frames = frames-then clean.frames second.frames;
   calls = disk_then first second.calls;
 }
+
+-- what worked had no call that failed
+pub clean-of : {A : Type 0} {a : A} {v0 v1 : DiskView} → Works {A = A} v0 v1 (Ok a) → Clean v0 v1
+clean-of works = record { frames = works.frames; faults = works.no_fault }
 
 abbrev Old : DbValue → Sides → Type 0
 Old old image = DbOf image (stored old)
@@ -165,6 +171,7 @@ pub commits-close : (w : Work) {v0 v1 : DiskView} {i0 i1 : Images} {e : StoreFau
     → IfSome v1.seen i1.now → Commits w v0 v1 i0 i1 (Err e)
 commits-close w ready closes reads = record {
   told = λ sides seen old new has makes. from-close w old new sides has makes (settled-at ready seen) closes reads;
+  no_fault = tt;
   fault = closes.works.fault;
   cause = closes.works.cause;
   frames = closes.works.frames;
@@ -174,9 +181,10 @@ commits-close w ready closes reads = record {
 pub commits-fill : (w : Work) {v0 v1 v2 : DiskView} {i0 i1 i2 : Images} {e : StoreFault} → IsReady w v0 i0 → Closes w.side w.gate v0 v1 i0 i1 (Ok tt)
     → Fills w v1 v2 i1 i2 (Err e) → IfSome v2.seen i2.now → Commits w v0 v2 i0 i2 (Err e)
 commits-fill w ready closes fills reads =
-    let works = works-then closes.works.calls closes.works.frames fills.works in
+    let works = works-then closes.works.calls (clean-of closes.works) fills.works in
     record {
       told = λ sides seen old new has makes. from-fill w old new sides has makes (settled-at ready seen) closes fills reads;
+      no_fault = tt;
       fault = works.fault;
       cause = works.cause;
       frames = works.frames;
@@ -186,9 +194,10 @@ commits-fill w ready closes fills reads =
 pub commits-set : (w : Work) {v0 v1 v2 v3 : DiskView} {i0 i1 i2 i3 : Images} {e : StoreFault} → IsReady w v0 i0 → Closes w.side w.gate v0 v1 i0 i1 (Ok tt)
     → Fills w v1 v2 i1 i2 (Ok tt) → Sets w.side w.gate open_gate v2 v3 i2 i3 (Err e) → IfSome v3.seen i3.now → Commits w v0 v3 i0 i3 (Err e)
 commits-set w ready closes fills sets reads =
-    let works = works-then (disk_then closes.works.calls fills.works.calls) (frames-then closes.works.frames fills.works.frames) sets.works in
+    let works = works-then (disk_then closes.works.calls fills.works.calls) (clean-then (clean-of closes.works) (clean-of fills.works)) sets.works in
     record {
       told = λ sides seen old new has makes. from-set w old new sides has makes (settled-at ready seen) closes fills sets reads;
+      no_fault = tt;
       fault = works.fault;
       cause = works.cause;
       frames = works.frames;
@@ -199,6 +208,7 @@ pub commits-done : (w : Work) {v0 v1 v2 v3 : DiskView} {i0 i1 i2 i3 : Images} �
     → Fills w v1 v2 i1 i2 (Ok tt) → Sets w.side w.gate open_gate v2 v3 i2 i3 (Ok tt) → IfSome v3.seen i3.now → Commits w v0 v3 i0 i3 (Ok tt)
 commits-done w ready closes fills sets reads = record {
   told = λ sides seen old new has makes. from-done w old new sides has makes (settled-at ready seen) closes fills sets reads;
+  no_fault = sets.works.no_fault ∙ fills.works.no_fault ∙ closes.works.no_fault;
   fault = tt;
   cause = tt;
   frames = frames-then (frames-then closes.works.frames fills.works.frames) sets.works.frames;

@@ -10,14 +10,14 @@ use Rattle.ga_disk.specs.Stretch.{DiskWent}
 use Rattle.ga_disk.specs.Stretch.DiskCall.{cut_call, sync_call, write_call}
 use Rattle.ga_disk.specs.Stretch.DiskWent.{disk_then, no_disk_call, one_disk_call}
 use Rattle.ga_store.specs.Commit.{Work, tail_calls}
-use Rattle.ga_store.specs.Commits.{Frames, Takes}
+use Rattle.ga_store.specs.Commits.{Takes}
 use Rattle.ga_store.specs.CommitSteps.{Ends, Fills, Keeps, SameFront, Settles, after_tail}
 use Rattle.ga_store.specs.declared.fault.StoreFault.{StoreFault}
 use Rattle.ga_store.specs.declared.fault.StoreFault.TheVariants.{DiskFault}
 use Rattle.ga_store.proofs.CommitBytes.{then-front}
-use Rattle.ga_store.proofs.CommitDisk.{frames-by, frames-self, frames-then, takes-none, takes-then, keeps-first, keeps-less, keeps-step, of-with, only-synced, rose-once, with-of, with-with}
-use Rattle.ga_store.proofs.CommitEnds.{works-then}
-use Rattle.ga_store.proofs.CommitSteps.{Law, calls-of-sync, calls-of-write, frames-sync, frames-write, seen-of-sync, works-ok, works-sync-err, works-write-err}
+use Rattle.ga_store.proofs.CommitDisk.{Clean, clean-by, clean-self, clean-then, frames-by, takes-none, takes-then, keeps-first, keeps-less, keeps-step, of-with, only-synced, with-of, with-with}
+use Rattle.ga_store.proofs.CommitEnds.{clean-of, works-then}
+use Rattle.ga_store.proofs.CommitSteps.{Law, calls-of-sync, calls-of-write, clean-sync, clean-write, seen-of-sync, works-ok, works-sync-err, works-write-err}
 use Rattle.ga_store.proofs.Torn.{cut-front, torn-front}
 
 -- ---- the end of the side
@@ -27,7 +27,7 @@ cut-self len bytes = record { before = λ i first within. (within, refl); no_sho
 
 pub ends-none : {side len : ℕ} {cuts : Bool} {v : DiskView} {i : Images} → cuts ≡ false → Ends side len cuts v v i i (Ok tt)
 ends-none {side} {len} {cuts} {v} {i} not = record {
-  works = works-ok no_disk_call (frames-self v);
+  works = works-ok no_disk_call (clean-self v);
   follows = λ image now. (image, now, record { one = cut-self len (of_side side image); other = with-of side image });
   time = record { later = omega arith; nothing_else = λ t image le since. inl since; keeps = λ t image le since. since };
   counted = subst (λ (b : Bool). Takes (if b then 1 else 0) v v) (sym not) (takes-none v);
@@ -38,7 +38,8 @@ pub ends-err : {side len : ℕ} {cuts : Bool} {v0 v1 : DiskView} {i0 i1 : Images
     → LeavesSteps {E = Failed} side (CutAt len) v0.steady i0 i1 (Err e) → Ends side len cuts v0 v1 i0 i1 (Err DiskFault)
 ends-err {v0 = v0} {v1 = v1} cut leaves = record {
   works = record {
-    fault = rose-once _ _ (ap (λ (v : DiskView). v.counts.faults) cut.failed.others);
+    no_fault = tt;
+    fault = ap (λ (v : DiskView). v.counts.faults) cut.failed.others;
     cause = refl;
     frames = frames-by v0 v1 _ _ cut.failed.others refl;
     calls = one_disk_call (cut_call cut);
@@ -52,7 +53,7 @@ ends-err {v0 = v0} {v1 = v1} cut leaves = record {
 pub ends-ok : {side len : ℕ} {cuts : Bool} {v0 v1 : DiskView} {i0 i1 : Images} → cuts ≡ true → Cuts {E = Failed} side len v0 v1 (Ok tt)
     → LeavesSteps {E = Failed} side (CutAt len) v0.steady i0 i1 (Ok tt) → Ends side len cuts v0 v1 i0 i1 (Ok tt)
 ends-ok {side} {len} {cuts} {v0} {v1} is cut leaves = record {
-  works = works-ok (one_disk_call (cut_call cut)) (frames-by v0 v1 _ _ cut.ok refl);
+  works = works-ok (one_disk_call (cut_call cut)) (clean-by v0 v1 _ cut.ok);
   follows = leaves.follows;
   time = leaves.time;
   counted = subst (λ (b : Bool). Takes (if b then 1 else 0) v0 v1) (sym is) (ap (λ (v : DiskView). v.counts.calls) cut.ok);
@@ -128,7 +129,7 @@ module _ (w : Work) {v0 v1 : DiskView} {i0 i1 : Images} (law : Law i0) where
 
     pub fills-end-err : {e : StoreFault} → Ends w.side (w.gate + 1 + length w.tail) w.is_new v1 v2 i1 i2 (Err e) → Fills w v0 v2 i0 i2 (Err e)
     fills-end-err ends = record {
-      works = works-then (one_disk_call (write_call writes)) (frames-write writes) ends.works;
+      works = works-then (one_disk_call (write_call writes)) (clean-write writes) ends.works;
       reads = tt;
       counted = tt;
       told = λ sides settled within. record { along = kept-end sides settled within ends; ok = tt };
@@ -139,15 +140,15 @@ module _ (w : Work) {v0 v1 : DiskView} {i0 i1 : Images} (law : Law i0) where
       went : DiskWent v0 v2
       went = disk_then (one_disk_call (write_call writes)) ends.works.calls
 
-      frames : Frames v0 v2
-      frames = frames-then (frames-write writes) ends.works.frames
+      clean : Clean v0 v2
+      clean = clean-then (clean-write writes) (clean-of ends.works)
 
       seen-tail : v2.seen ≡ option_map (tailed w w.is_new) v0.seen
       seen-tail = after-end w w.is_new v0.seen v1.seen v2.seen reaches (ap (λ (v : DiskView). v.seen) writes.ok.1) ends.ok
 
       pub fills-sync-err : {v3 : DiskView} {i3 : Images} {e : Failed} → Syncs v2 v3 (Err e) → LeavesSynced {E = Failed} w.side v2.seen i2 i3 (Err e) → Fills w v0 v3 i0 i3 (Err DiskFault)
       fills-sync-err syncs synced = record {
-        works = works-then went frames (works-sync-err syncs);
+        works = works-then went clean (works-sync-err syncs);
         reads = tt;
         counted = tt;
         told = λ sides settled within. record { along = keeps-less (kept-end sides settled within ends) synced.none_added synced.time; ok = tt };
@@ -155,7 +156,7 @@ module _ (w : Work) {v0 v1 : DiskView} {i0 i1 : Images} (law : Law i0) where
 
       pub fills-ok : {v3 : DiskView} {i3 : Images} → Syncs {E = Failed} v2 v3 (Ok tt) → LeavesSynced {E = Failed} w.side v2.seen i2 i3 (Ok tt) → Fills w v0 v3 i0 i3 (Ok tt)
       fills-ok {v3} {i3} syncs synced = record {
-        works = works-ok (disk_then went (one_disk_call (sync_call syncs))) (frames-then frames (frames-sync syncs));
+        works = works-ok (disk_then went (one_disk_call (sync_call syncs))) (clean-then clean (clean-sync syncs));
         reads = seen-of-sync syncs ∙ seen-tail;
         counted = three w.is_new v0 v1 v2 v3 (calls-of-write writes) ends.counted (calls-of-sync syncs);
         told = λ sides settled within.

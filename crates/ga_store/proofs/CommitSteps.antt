@@ -12,13 +12,13 @@ use Rattle.ga_disk.specs.Stretch.DiskCall.{read_call, size_call, sync_call, writ
 use Rattle.ga_disk.specs.Stretch.DiskWent.{disk_then, one_disk_call}
 use Rattle.ga_disk.proofs.Only.{same-then}
 use Rattle.ga_store.specs.Commit.{closing_calls, look_calls, must_close}
-use Rattle.ga_store.specs.Commits.{Frames, Takes}
+use Rattle.ga_store.specs.Commits.{Takes}
 use Rattle.ga_store.specs.CommitSteps.{Closes, IsClosing, Keeps, LooksAt, Sets, Settles, Works, after_byte, after_closing}
 use Rattle.ga_store.specs.Parts.{closed_gate, open_gate}
 use Rattle.ga_store.specs.declared.fault.StoreFault.{StoreFault}
 use Rattle.ga_store.specs.declared.fault.StoreFault.TheVariants.{DiskFault}
-use Rattle.ga_store.proofs.CommitDisk.{at-seen, frames-by, frames-then, takes-then, keeps-first, keeps-less, keeps-start, keeps-then, keeps-wider, only-synced, rose-once, steps-self}
-use Rattle.ga_store.proofs.CommitEnds.{works-then}
+use Rattle.ga_store.proofs.CommitDisk.{Clean, at-seen, clean-by, clean-then, frames-by, takes-then, keeps-first, keeps-less, keeps-start, keeps-then, keeps-wider, only-synced, steps-self}
+use Rattle.ga_store.proofs.CommitEnds.{clean-of, works-then}
 
 abbrev pub Law : Images → Type 0
 Law images = (image : Sides) → images.since images.moment image → images.now image
@@ -27,7 +27,8 @@ Law images = (image : Sides) → images.since images.moment image → images.now
 
 pub works-write-err : {side at : ℕ} {piece : List ℕ} {v0 v1 : DiskView} {e : Failed} → Writes side at piece v0 v1 (Err e) → Works {A = Unit {0}} v0 v1 (Err DiskFault)
 works-write-err {v0 = v0} {v1 = v1} writes = record {
-  fault = rose-once _ _ (ap (λ (v : DiskView). v.counts.faults) writes.failed.others);
+  no_fault = tt;
+  fault = ap (λ (v : DiskView). v.counts.faults) writes.failed.others;
   cause = refl;
   frames = frames-by v0 v1 _ _ writes.failed.others refl;
   calls = one_disk_call (write_call writes);
@@ -35,26 +36,27 @@ works-write-err {v0 = v0} {v1 = v1} writes = record {
 
 pub works-sync-err : {v0 v1 : DiskView} {e : Failed} → Syncs v0 v1 (Err e) → Works {A = Unit {0}} v0 v1 (Err DiskFault)
 works-sync-err {v0} {v1} syncs = record {
-  fault = rose-once _ _ (ap (λ (v : DiskView). v.counts.faults) syncs.failed.0);
+  no_fault = tt;
+  fault = ap (λ (v : DiskView). v.counts.faults) syncs.failed.0;
   cause = refl;
   frames = frames-by v0 v1 _ _ syncs.failed.0 refl;
   calls = one_disk_call (sync_call syncs);
 }
 
-pub works-ok : {v0 v1 : DiskView} → DiskWent v0 v1 → Frames v0 v1 → Works {A = Unit {0}} v0 v1 (Ok tt)
-works-ok went frames = record { fault = tt; cause = tt; frames = frames; calls = went }
+pub works-ok : {A : Type 0} {a : A} {v0 v1 : DiskView} → DiskWent v0 v1 → Clean v0 v1 → Works {A = A} v0 v1 (Ok a)
+works-ok went clean = record { no_fault = clean.faults; fault = tt; cause = tt; frames = clean.frames; calls = went }
 
-pub frames-write : {side at : ℕ} {piece : List ℕ} {v0 v1 : DiskView} → Writes {E = Failed} side at piece v0 v1 (Ok tt) → Frames v0 v1
-frames-write {v0 = v0} {v1 = v1} writes = frames-by v0 v1 _ _ writes.ok.1 refl
+pub clean-write : {side at : ℕ} {piece : List ℕ} {v0 v1 : DiskView} → Writes {E = Failed} side at piece v0 v1 (Ok tt) → Clean v0 v1
+clean-write {v0 = v0} {v1 = v1} writes = clean-by v0 v1 _ writes.ok.1
 
-pub frames-sync : {v0 v1 : DiskView} → Syncs {E = Failed} v0 v1 (Ok tt) → Frames v0 v1
-frames-sync {v0} {v1} syncs = frames-by v0 v1 _ _ syncs.ok refl
+pub clean-sync : {v0 v1 : DiskView} → Syncs {E = Failed} v0 v1 (Ok tt) → Clean v0 v1
+clean-sync {v0} {v1} syncs = clean-by v0 v1 _ syncs.ok
 
-frames-size : {side size : ℕ} {v0 v1 : DiskView} → Sizes {E = Failed} side v0 v1 (Ok size) → Frames v0 v1
-frames-size {v0 = v0} {v1 = v1} sizes = frames-by v0 v1 _ _ sizes.ok.2 refl
+clean-size : {side size : ℕ} {v0 v1 : DiskView} → Sizes {E = Failed} side v0 v1 (Ok size) → Clean v0 v1
+clean-size {v0 = v0} {v1 = v1} sizes = clean-by v0 v1 _ sizes.ok.2
 
-frames-read : {side at : ℕ} {buffer : List ℕ} {v0 v1 : DiskView} → Reads {E = Failed} side at buffer v0 v1 (Ok tt) → Frames v0 v1
-frames-read {v0 = v0} {v1 = v1} reads = frames-by v0 v1 _ _ reads.ok.1 refl
+clean-read : {side at : ℕ} {buffer : List ℕ} {v0 v1 : DiskView} → Reads {E = Failed} side at buffer v0 v1 (Ok tt) → Clean v0 v1
+clean-read {v0 = v0} {v1 = v1} reads = clean-by v0 v1 _ reads.ok.1
 
 pub seen-of-write : {side at : ℕ} {piece : List ℕ} {v0 v1 : DiskView} {sides : Sides} → Writes {E = Failed} side at piece v0 v1 (Ok tt) → v0.seen ≡ Some sides
     → v1.seen ≡ Some (with_side side (written at piece (of_side side sides)) sides)
@@ -96,7 +98,7 @@ module _ (side gate byte : ℕ) {v0 v1 : DiskView} {i0 i1 : Images} (law : Law i
       (leaves : LeavesSteps {E = Failed} side (TornAt gate 1) v0.steady i0 i1 (Ok tt)) where
     pub sets-sync-err : {e : Failed} → Syncs v1 v2 (Err e) → LeavesSynced {E = Failed} side v1.seen i1 i2 (Err e) → Sets side gate byte v0 v2 i0 i2 (Err DiskFault)
     sets-sync-err syncs synced = record {
-      works = works-then (one_disk_call (write_call writes)) (frames-write writes) (works-sync-err syncs);
+      works = works-then (one_disk_call (write_call writes)) (clean-write writes) (works-sync-err syncs);
       reads = tt;
       counted = tt;
       told = λ sides settled. record { along = keeps-less (kept-byte side gate law sides settled.only leaves) synced.none_added synced.time; ok = tt };
@@ -105,7 +107,7 @@ module _ (side gate byte : ℕ) {v0 v1 : DiskView} {i0 i1 : Images} (law : Law i
 
     pub sets-ok : Syncs {E = Failed} v1 v2 (Ok tt) → LeavesSynced {E = Failed} side v1.seen i1 i2 (Ok tt) → Sets side gate byte v0 v2 i0 i2 (Ok tt)
     sets-ok syncs synced = record {
-      works = works-ok (disk_then (one_disk_call (write_call writes)) (one_disk_call (sync_call syncs))) (frames-then (frames-write writes) (frames-sync syncs));
+      works = works-ok (disk_then (one_disk_call (write_call writes)) (one_disk_call (sync_call syncs))) (clean-then (clean-write writes) (clean-sync syncs));
       reads = seen-of-sync syncs ∙ ap (λ (v : DiskView). v.seen) writes.ok.1;
       counted = takes-then v0 v1 v2 1 1 (calls-of-write writes) (calls-of-sync syncs);
       told = λ sides settled.
@@ -123,7 +125,8 @@ module _ (side gate byte : ℕ) {v0 v1 : DiskView} {i0 i1 : Images} (law : Law i
 
 pub works-size-err : {A : Type 0} {side : ℕ} {v0 v1 : DiskView} {e : Failed} → Sizes side v0 v1 (Err e) → Works {A = A} v0 v1 (Err DiskFault)
 works-size-err {v0 = v0} {v1 = v1} sizes = record {
-  fault = rose-once _ _ (ap (λ (v : DiskView). v.counts.faults) sizes.failed);
+  no_fault = tt;
+  fault = ap (λ (v : DiskView). v.counts.faults) sizes.failed;
   cause = refl;
   frames = frames-by v0 v1 _ _ sizes.failed refl;
   calls = one_disk_call (size_call sizes);
@@ -131,7 +134,8 @@ works-size-err {v0 = v0} {v1 = v1} sizes = record {
 
 works-read-err : {A : Type 0} {side at : ℕ} {buffer : List ℕ} {v0 v1 : DiskView} {e : Failed} → Reads side at buffer v0 v1 (Err e) → Works {A = A} v0 v1 (Err DiskFault)
 works-read-err {v0 = v0} {v1 = v1} reads = record {
-  fault = rose-once _ _ (ap (λ (v : DiskView). v.counts.faults) reads.failed);
+  no_fault = tt;
+  fault = ap (λ (v : DiskView). v.counts.faults) reads.failed;
   cause = refl;
   frames = frames-by v0 v1 _ _ reads.failed refl;
   calls = one_disk_call (read_call reads);
@@ -175,7 +179,7 @@ look-long (Some sides) side gate size v0 v1 is less takes =
 pub looks-short : {side gate size : ℕ} {v0 v1 : DiskView} {i0 i1 : Images} → Sizes {E = Failed} side v0 v1 (Ok size) → LeavesSame i0 i1 → size ≤ gate
     → LooksAt side gate v0 v1 i0 i1 (Ok true)
 looks-short {side} {gate} {size} {v0} {v1} sizes leaves le = record {
-  works = record { fault = tt; cause = tt; frames = frames-size sizes; calls = one_disk_call (size_call sizes) };
+  works = works-ok (one_disk_call (size_call sizes)) (clean-size sizes);
   seen = ap (λ (v : DiskView). v.seen) sizes.ok.2;
   leaves = leaves;
   ok = no-byte v0.seen side gate size sizes.ok.1 le;
@@ -211,7 +215,7 @@ module _ {side gate size : ℕ} {v0 v1 v2 : DiskView} {i0 i1 i2 : Images} (sizes
     (second : LeavesSame i1 i2) (law : (t : ℕ) (image : Sides) → t ≤ i0.moment → i0.now image → i0.since t image) where
   pub looks-read-err : {buffer : List ℕ} {e : Failed} → Reads side gate buffer v1 v2 (Err e) → LooksAt side gate v0 v2 i0 i2 (Err DiskFault)
   looks-read-err reads = record {
-    works = works-then (one_disk_call (size_call sizes)) (frames-size sizes) (works-read-err reads);
+    works = works-then (one_disk_call (size_call sizes)) (clean-size sizes) (works-read-err reads);
     seen = ap (λ (v : DiskView). v.seen) reads.failed ∙ seen-sized sizes;
     leaves = same-then law first second;
     ok = tt;
@@ -223,12 +227,7 @@ module _ {side gate size : ℕ} {v0 v1 v2 : DiskView} {i0 i1 i2 : Images} (sizes
   looks-read {buffer} reads less one =
       let P : Option Sides → Type 0 = λ s. IfSome s (λ sides. buffer ≡ take (length buffer) (drop gate (of_side side sides))) in
       record {
-        works = record {
-          fault = tt;
-          cause = tt;
-          frames = frames-then (frames-size sizes) (frames-read reads);
-          calls = disk_then (one_disk_call (size_call sizes)) (one_disk_call (read_call reads));
-        };
+        works = works-ok (disk_then (one_disk_call (size_call sizes)) (one_disk_call (read_call reads))) (clean-then (clean-size sizes) (clean-read reads));
         seen = ap (λ (v : DiskView). v.seen) reads.ok.1 ∙ seen-sized sizes;
         leaves = same-then law first second;
         ok = a-byte v0.seen side gate size buffer sizes.ok.1 less one (subst P (seen-sized sizes) reads.ok.0);
@@ -238,9 +237,9 @@ module _ {side gate size : ℕ} {v0 v1 v2 : DiskView} {i0 i1 i2 : Images} (sizes
 
 -- ---- the closing of a gate
 
-works-on : {A : Type 0} {v0 v1 v2 : DiskView} (r : Result A StoreFault) → DiskWent v0 v1 → Frames v0 v1 → Works v1 v2 r → Works v0 v2 r
-works-on (Ok a) went frames works = record { fault = tt; cause = tt; frames = frames-then frames works.frames; calls = disk_then went works.calls }
-works-on (Err e) went frames works = works-then went frames works
+works-on : {A : Type 0} {v0 v1 v2 : DiskView} (r : Result A StoreFault) → DiskWent v0 v1 → Clean v0 v1 → Works v1 v2 r → Works v0 v2 r
+works-on (Ok a) went clean works = works-ok (disk_then went works.calls) (clean-then clean (clean-of works))
+works-on (Err e) went clean works = works-then went clean works
 
 on-ok : {A B P Q : Type 0} (r : Result A B) → (P → Q) → OnOk r P → OnOk r Q
 on-ok (Ok a) f p = f p
@@ -278,7 +277,7 @@ closing-set side gate must (Some sides) v0 v1 v2 is takes must_now more =
 pub closes-look-err : {side gate : ℕ} {v0 v1 : DiskView} {i0 i1 : Images} {e : StoreFault} → Law i0 → LooksAt side gate v0 v1 i0 i1 (Err e)
     → Closes side gate v0 v1 i0 i1 (Err e)
 closes-look-err law looks = record {
-  works = record { fault = looks.works.fault; cause = looks.works.cause; frames = looks.works.frames; calls = looks.works.calls };
+  works = record { no_fault = tt; fault = looks.works.fault; cause = looks.works.cause; frames = looks.works.frames; calls = looks.works.calls };
   reads = tt;
   counted = tt;
   told = λ sides settled. record {
@@ -303,7 +302,7 @@ module _ {side gate : ℕ} {must : Bool} {v0 v1 : DiskView} {i0 i1 : Images} (la
 
   pub closes-none : must ≡ false → Closes side gate v0 v1 i0 i1 (Ok tt)
   closes-none not = record {
-    works = works-ok looks.works.calls looks.works.frames;
+    works = works-ok looks.works.calls (clean-of looks.works);
     reads = looks.seen ∙ as-kept side gate must v0.seen looks.ok not;
     counted = closing-kept side gate must v0.seen v0 v1 looks.ok looks.counted not;
     told = λ sides settled.
@@ -317,7 +316,7 @@ module _ {side gate : ℕ} {must : Bool} {v0 v1 : DiskView} {i0 i1 : Images} (la
   pub closes-set : {v2 : DiskView} {i2 : Images} (r : Result (Unit {0}) StoreFault) → must ≡ true → Sets side gate closed_gate v1 v2 i1 i2 r
       → Closes side gate v0 v2 i0 i2 r
   closes-set {v2} {i2} r is sets = record {
-    works = works-on r looks.works.calls looks.works.frames sets.works;
+    works = works-on r looks.works.calls (clean-of looks.works) sets.works;
     reads = on-ok r (λ (e : v2.seen ≡ option_map (after_byte side gate closed_gate) v1.seen).
         e ∙ ap (λ (o : Option Sides). option_map (after_byte side gate closed_gate) o) looks.seen ∙ as-set side gate must v0.seen looks.ok is) sets.reads;
     counted = on-ok r (λ (takes : Takes 2 v1 v2). closing-set side gate must v0.seen v0 v1 v2 looks.ok looks.counted is takes) sets.counted;

@@ -3,7 +3,7 @@ use Rattle.std.proofs.Common.{◌≡◌, ℕ, ◌+◌, ◌<◌, Bool, true, fals
 use Rattle.std.proofs.lemmas.Bool.{true≢false}
 use Rattle.ga_summary.specs.Rows.{SummaryValue}
 use Rattle.ga_summary.specs.Sums.{IsMerged}
-use Rattle.ga_summary.proofs.Unique.{same_rows}
+use Rattle.ga_summary.proofs.Unique.{one_merged}
 use Rattle.ga_codec.specs.Shapes.{SpellDelta, SpellSnapshot}
 use Rattle.ga_codec.specs.Values.{DeltaValue, SnapshotValue}
 use Rattle.ga_disk.specs.Sides.{Sides}
@@ -25,13 +25,6 @@ both-gates : {A : Type 0} (b : Bool) → b ≡ true → b ≡ false → A
 both-gates b e f = absurd (true≢false (sym e ∙ f))
 
 -- ---- one side
-
-one-merged : (a b x y : SummaryValue) → IsMerged a b x → IsMerged a b y → x ≡ y
-one-merged a b x y m n =
-    let totals : x.totals ≡ y.totals = m.totals ∙ sym n.totals in
-    let rows : x.rows ≡ y.rows = same_rows x.rows y.rows m.ordered n.ordered (λ key. m.present key ∙ sym (n.present key))
-    (λ key. m.sums key ∙ sym (n.sums key)) (λ key visitor. m.pairs key visitor ∙ sym (n.pairs key visitor)) in
-    λ i. record { totals = totals i; rows = rows i }
 
 one-snapshot : OneSnapshot → (side : List ℕ) (s t : SnapshotValue) (m n : ℕ) → HasSnapshot side s m → HasSnapshot side t n → (s ≡ t) × (m ≡ n)
 one-snapshot law side s t m n h k =
@@ -64,7 +57,7 @@ one-step : OneDelta → (side : List ℕ) (old x y : DbValue) → TakesOn side o
 one-step law side old x y t u =
     let body = one-part side t.body u.body (old.slot + 1) t.part u.part in
     let delta = law u.body t.delta u.delta (subst (λ (b : List ℕ). SpellDelta b t.delta) body t.spells) u.spells in
-    let summary = one-merged old.summary u.delta.summary x.summary y.summary (subst (λ (d : DeltaValue). IsMerged old.summary d.summary x.summary) delta t.merged) u.merged in
+    let summary = one_merged old.summary u.delta.summary x.summary y.summary (subst (λ (d : DeltaValue). IsMerged old.summary d.summary x.summary) delta t.merged) u.merged in
     let made : (SummaryValue × DeltaValue × List ℕ) → DbValue =
     λ p. record old { summary = p.0; entries = p.1.entries; records = old.records + 1; slot = old.slot + 1 + length (part_bytes p.2) } in
     t.others ∙ ap made (λ i. (summary i, delta i, body i)) ∙ sym u.others

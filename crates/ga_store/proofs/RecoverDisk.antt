@@ -4,7 +4,7 @@ use Rattle.std.proofs.Math.Seq.{take-add}
 use Rattle.std.proofs.lemmas.List.{take_all}
 use Rattle.std.proofs.lemmas.Slice.{take-put_mid}
 use borrow.Rule.Slice.PartMut.{put_mid}
-use Rattle.ga_ports.specs.Counts.{Rose, raised}
+use Rattle.ga_ports.specs.Counts.{raised}
 use Rattle.ga_disk.specs.Disk.{DiskView, calls_once, fails_once}
 use Rattle.ga_disk.specs.Images.{AddsNone, HasSide, Images, LeavesSame, LeavesSynced, OnlyImage}
 use Rattle.ga_disk.specs.Sides.{Sides, of_side}
@@ -44,7 +44,7 @@ pub looks-failed : {old new : DiskView} {images images' : Images} (starved : ℕ
 looks-failed {old} {new} starved is call leaves = record {
   view = counts-alone old new _ is;
   opened = ap (λ (d : DiskView). d.counts.opened) is;
-  fault = λ e. omega (arith, ap (λ (d : DiskView). d.counts.faults) is);
+  fault = λ e. ap (λ (d : DiskView). d.counts.faults) is;
   no_fault = λ e. cc;
   calls = one_disk_call call;
   leaves = leaves;
@@ -75,7 +75,7 @@ looks-then {failed} {old} {mid} {new} law first second =
     record {
       view = second.view ∙ ap (λ (d : DiskView). record d { counts = new.counts }) first.view;
       opened = second.opened ∙ first.opened;
-      fault = λ e. subst (λ (n : ℕ). Rose n new.counts.faults) same (second.fault e);
+      fault = λ e. second.fault e ∙ ap (λ (n : ℕ). raised n 1) same;
       no_fault = λ e. second.no_fault e ∙ same;
       calls = disk_then first.calls second.calls;
       leaves = same-then law first.leaves second.leaves;

@@ -1,6 +1,6 @@
 -- What the steps of a commit do to the disk: only inner contracts and proofs speak of it.
 use Rattle.std.specs.Prelude.{◌≡◌, ◌⊎◌, ℕ, ◌+◌, ◌≤◌, ◌<◌, ◌++◌, Bool, true, List, [], ◌∷◌, length, take, drop, if◌then◌else◌, Some, option_map, Result, OnOk, OnErr, IfOk, IfErr, IfSome}
-use Rattle.ga_ports.specs.Counts.{Rose}
+use Rattle.ga_ports.specs.Counts.{raised}
 use Rattle.ga_disk.specs.Disk.{CutAt, DiskView, Steps, TornAt, written}
 use Rattle.ga_disk.specs.Images.{Elapses, Follows, Images, LeavesOnly, LeavesSame, OnlyImage}
 use Rattle.ga_disk.specs.Sides.{Sides, of_side, with_side}
@@ -21,9 +21,10 @@ pub record Settles (sides : Sides) (disk : DiskView) (images : Images) : Type 0 
   pub seen : disk.seen ≡ Some sides
   pub only : OnlyImage images sides
 
--- a stretch of calls that fails for the disk alone
+-- a stretch of calls that fails for the disk alone, exactly where one of them failed
 pub record Works {A : Type 0} (disk disk' : DiskView) (result : Result A StoreFault) : Type 0 where
-  pub fault : OnErr result (Rose disk.counts.faults disk'.counts.faults)
+  pub no_fault : OnOk result (disk'.counts.faults ≡ disk.counts.faults)
+  pub fault : OnErr result (disk'.counts.faults ≡ raised disk.counts.faults 1)
   pub cause : IfErr result (λ fault. fault ≡ DiskFault)
   pub frames : Frames disk disk'
   pub calls : DiskWent disk disk'

@@ -1,6 +1,6 @@
 -- What a commit says of the disk before and after it.
 use Rattle.std.specs.Prelude.{◌≡◌, ◌⊎◌, ℕ, true, Some, Result, OnOk, OnErr, IfErr}
-use Rattle.ga_ports.specs.Counts.{Rose, raised}
+use Rattle.ga_ports.specs.Counts.{raised}
 use Rattle.ga_disk.specs.Disk.{DiskView}
 use Rattle.ga_disk.specs.Images.{Images, LeavesOnly, OnlyImage}
 use Rattle.ga_disk.specs.Sides.{Sides, of_side, with_side}
@@ -63,8 +63,9 @@ pub record Commits (work : Work) (disk disk' : DiskView) (images images' : Image
     : Type 0 where
   pub told : (sides : Sides) → disk.seen ≡ Some sides → (old new : DbValue) → DbOf sides (stored old) → Makes work old new
       → CommitsFrom old new work sides disk disk' images images' result
-  -- it fails for the disk alone, and takes no memory
-  pub fault : OnErr result (Rose disk.counts.faults disk'.counts.faults)
+  -- it fails for the disk alone, exactly where one call failed, and takes no memory
+  pub no_fault : OnOk result (disk'.counts.faults ≡ disk.counts.faults)
+  pub fault : OnErr result (disk'.counts.faults ≡ raised disk.counts.faults 1)
   pub cause : IfErr result (λ fault. fault ≡ DiskFault)
   pub frames : Frames disk disk'
   pub calls : DiskWent disk disk'

@@ -1,6 +1,6 @@
 -- What the steps of recovery answer.
 use Rattle.std.specs.Prelude.{◌≡◌, ℕ, ◌+◌, ◌*◌, ◌^◌, ◌<◌, ◌≤◌, Bool, true, false, List, length, map, Option, Some, None, Result, Ok, Err, IfSome}
-use Rattle.ga_ports.specs.Counts.{Rose, raised}
+use Rattle.ga_ports.specs.Counts.{raised}
 use Rattle.ga_codec.specs.Values.{DeltaValue, delta_value, entry_value, snapshot_value}
 use Rattle.ga_codec.specs.Shapes.{SpellDelta}
 use Rattle.ga_disk.specs.Disk.{DiskView, max_size}
@@ -35,11 +35,11 @@ is_disk_fault (Err (Damaged side at)) = false
 is_disk_fault (Err (CounterFull which total)) = false
 is_disk_fault (Err NoMemory) = false
 
--- calls that change no side, the last of which failed, or none
+-- calls that change no side, of which the last alone failed, or none
 pub record Looks (failed : Bool) (disk disk' : DiskView) (images images' : Images) : Type 0 where
   pub view : disk' ≡ record disk { counts = disk'.counts }
   pub opened : disk'.counts.opened ≡ disk.counts.opened
-  pub fault : failed ≡ true → Rose disk.counts.faults disk'.counts.faults
+  pub fault : failed ≡ true → disk'.counts.faults ≡ raised disk.counts.faults 1
   pub no_fault : failed ≡ false → disk'.counts.faults ≡ disk.counts.faults
   pub calls : DiskWent disk disk'
   pub leaves : LeavesSame images images'

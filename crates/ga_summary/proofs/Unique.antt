@@ -13,7 +13,7 @@ use Rattle.ga_base.specs.Orders.{key_cmp, name_cmp, is_same_name}
 use Rattle.ga_summary.specs.Outcomes.{Outcome}
 use Rattle.ga_summary.specs.Steps.Places.{Rises, find_at}
 use Rattle.ga_summary.specs.Rows.{Row, SummaryValue, IsInOrder, row_at, sums_at, has_name, has_pair}
-use Rattle.ga_summary.specs.Sums.{IsSumOf}
+use Rattle.ga_summary.specs.Sums.{IsSumOf, IsMerged}
 use Rattle.ga_summary.proofs.Put.{Above, rises_head, rises_tail, above_more, above_same, find_above, equal_from_is_eq, Some≢None}
 use Rattle.ga_summary.proofs.NameLists.{any-find, names_rise}
 use Rattle.ga_summary.proofs.Merging.{all-row_at, some_inj}
@@ -122,4 +122,11 @@ pub one_sum : (outcomes : List Outcome) (a b : SummaryValue) → IsSumOf outcome
 one_sum outcomes a b x y =
     let totals : a.totals ≡ b.totals = x.totals ∙ sym y.totals in
     let rows : a.rows ≡ b.rows = same_rows a.rows b.rows x.ordered y.ordered (λ key. x.present key ∙ sym (y.present key)) (λ key. x.sums key ∙ sym (y.sums key)) (λ key visitor. x.pairs key visitor ∙ sym (y.pairs key visitor)) in
+    λ i. record { totals = totals i; rows = rows i }
+
+-- two summaries, merged, come to one
+pub one_merged : (a b x y : SummaryValue) → IsMerged a b x → IsMerged a b y → x ≡ y
+one_merged a b x y m n =
+    let totals : x.totals ≡ y.totals = m.totals ∙ sym n.totals in
+    let rows : x.rows ≡ y.rows = same_rows x.rows y.rows m.ordered n.ordered (λ key. m.present key ∙ sym (n.present key)) (λ key. m.sums key ∙ sym (n.sums key)) (λ key visitor. m.pairs key visitor ∙ sym (n.pairs key visitor)) in
     λ i. record { totals = totals i; rows = rows i }

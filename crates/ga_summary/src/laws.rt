@@ -17,6 +17,11 @@ pub fn one_sum()
     ensures { (xs : List Outcome) (a b : SummaryValue) → IsSumOf xs a → IsSumOf xs b → a ≡ b }
 {}
 
+/// Two summaries come to one when they are merged.
+pub fn one_merged()
+    ensures { (a b s t : SummaryValue) → IsMerged a b s → IsMerged a b t → s ≡ t }
+{}
+
 /// A value is a summary, or it breaks first at one place.
 pub fn one_first_bad()
     ensures one { (s : SummaryValue) (a b : ℕ) → IsFirstBad s a → IsFirstBad s b → a ≡ b }

@@ -101,6 +101,18 @@ impl Summary {
         })
     }
 
+    /// The summary that has these parts, which are those of one. As `from_parts`, without its tests.
+    pub fn of_parts(parts: SummaryParts) -> Result<Summary, NoMemory>
+        requires { IsSummary (value_of parts) }
+        ensures { IfOk result (λ s. s ≡ value_of parts) }
+    {
+        let SummaryParts { totals, rows } = parts;
+        Ok(Summary {
+            totals,
+            entries: entries_of(rows.into_vec())?,
+        })
+    }
+
     /// The totals over all lines.
     pub fn totals(&self) -> Totals
         ensures totals { result ≡ self.now.totals }

@@ -9,8 +9,8 @@ use Rattle.ga_summary.specs.Limits.{passes}
 use Rattle.ga_summary.specs.Outcomes.{Outcome, totals_of}
 use Rattle.ga_summary.specs.Rows.{SummaryValue, totals_plus}
 use Rattle.ga_summary.specs.Sums.{IsSumOf}
-use Rattle.ga_logs.specs.Counting.{OutcomeIs, listed}
-use Rattle.ga_logs.specs.declared.setup.Setup.{Setup}
+use Rattle.ga_outcomes.specs.Counting.{OutcomeIs, listed}
+use Rattle.ga_outcomes.specs.declared.setup.Setup.{Setup}
 
 -- one outcome more, or none, was counted
 pub record CountsOne (start : Totals) (outcome : Option Outcome) (old new : SummaryValue) : Type 0 where

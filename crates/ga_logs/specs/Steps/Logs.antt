@@ -10,14 +10,14 @@ use Rattle.ga_resume.specs.declared.fault.PlaceFault.TheVariants.{FileFault, Fil
 use Rattle.ga_summary.specs.Rows.{SummaryValue}
 use Rattle.ga_summary.specs.declared.fault.MergeFault.{MergeFault}
 use Rattle.ga_summary.specs.declared.fault.MergeFault.TheVariants.{CounterFull, NoMemory as MergeNoMemory}
-use Rattle.ga_logs.specs.Counting.{CountsLines, FillsAmong}
+use Rattle.ga_outcomes.specs.Counting.{CountsLines, FillsAmong}
 use Rattle.ga_logs.specs.Following.{MissesLog, ReadsPortion}
 use Rattle.ga_logs.specs.Portions.{Follows, keeps}
 use Rattle.ga_logs.specs.declared.fault.CountFault.{CountFault}
 use Rattle.ga_logs.specs.declared.fault.CountFault.TheVariants.{Failed as LogFailed, Short as LogShort, Full, NoMemory as CountNoMemory}
 use Rattle.ga_logs.specs.declared.follow.Follow.{Follow}
 use Rattle.ga_logs.specs.declared.portion.Portion.{Portion}
-use Rattle.ga_logs.specs.declared.setup.Setup.{Setup}
+use Rattle.ga_outcomes.specs.declared.setup.Setup.{Setup}
 use Rattle.ga_logs.specs.declared.start.Start.{Start}
 
 -- the lines before become those and these, in a summary

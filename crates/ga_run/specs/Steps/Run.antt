@@ -10,13 +10,13 @@ use Rattle.ga_disk.specs.Stretch.{DiskWent}
 use Rattle.ga_keep.specs.Database.{AreBase, FailsKeeping, Finds, IsUntouched, KeptIf, LooksAtMost, follow_of, mode_of, start_of}
 use Rattle.ga_keep.specs.Steps.{Misses}
 use Rattle.ga_line.specs.declared.setup.LineSetup.{LineSetup}
-use Rattle.ga_logs.specs.Counting.{FillsAmong}
+use Rattle.ga_outcomes.specs.Counting.{FillsAmong}
 use Rattle.ga_logs.specs.Following.{MissesAt, ReadsSome}
 use Rattle.ga_logs.specs.Portions.{counted_lines}
 use Rattle.ga_logs.specs.declared.fault.CountFault.{CountFault}
 use Rattle.ga_logs.specs.declared.fault.CountFault.TheVariants.{Failed as LogFailed, Short as LogShort, Full, NoMemory as CountNoMemory}
 use Rattle.ga_logs.specs.declared.portion.Portion.{Portion}
-use Rattle.ga_logs.specs.declared.setup.Setup.{Setup}
+use Rattle.ga_outcomes.specs.declared.setup.Setup.{Setup}
 use Rattle.ga_ports.specs.Counts.{Rose}
 use Rattle.ga_ports.specs.Files.{FilesView}
 use Rattle.ga_ports.specs.Outs.{OutsView}

@@ -10,7 +10,7 @@ use Rattle.ga_summary.specs.OneLine.{record_totals}
 use Rattle.ga_summary.specs.Rows.{totals_plus}
 use Rattle.ga_summary.specs.Sound.{IsCountable}
 use Rattle.ga_logs.proofs.CountSteps.{can-have, countable, counts-as, on_ok-both, one-totals}
-use Rattle.ga_logs.proofs.Limits.{fits-less, fits-same}
+use Rattle.ga_outcomes.proofs.Limits.{fits-less, fits-same}
 use Rattle.ga_logs.proofs.counting.count_record.Goals as goal
 
 pub returns-then-is_excluded-clause-ok : goal.returns-then-is_excluded-clause-ok

@@ -1,4 +1,4 @@
-use Rattle.ga_logs.proofs.Limits.{fits-less, fits-same}
+use Rattle.ga_outcomes.proofs.Limits.{fits-less, fits-same}
 use Rattle.ga_logs.proofs.counting.merge_line.Goals as goal
 
 pub returns-clause-full : goal.returns-clause-full

@@ -2,7 +2,7 @@ use Rattle.std.proofs.Common.{◌≡◌, ◌∙◌, List, ℕ, [], Err, ap, sym,
 use Rattle.std.proofs.lemmas.Result.{err_from_is_err_and}
 use Rattle.ga_generate.specs.Lines.{generated}
 use Rattle.ga_line.specs.Lines.{lines}
-use Rattle.ga_logs.specs.Counting.{CountsLines, FillsAmong}
+use Rattle.ga_outcomes.specs.Counting.{CountsLines, FillsAmong}
 use Rattle.ga_logs.specs.Portions.{generated_lines}
 use Rattle.ga_logs.proofs.CountSteps.{counts-none}
 use Rattle.ga_logs.proofs.LogsSteps.{generated-stops}

@@ -3,7 +3,7 @@ use Rattle.ga_agents.specs.declared.row.Rule.{Rule}
 use Rattle.ga_line.specs.declared.setup.LineSetup.{LineSetup}
 use Rattle.ga_summary.specs.Outcomes.{Outcome}
 use Rattle.ga_words.specs.declared.settings.Settings.{Settings}
-use Rattle.ga_logs.specs.Counting.{ComesTo}
+use Rattle.ga_outcomes.specs.Counting.{ComesTo}
 use Rattle.ga_run.specs.Setups.{IsLineSetup, setup_of}
 use Rattle.ga_run.proofs.OneCount.{one-outcome, one-count, one-counter, not-both}
 use Rattle.ga_run.proofs.laws.one_count.Goals as goal

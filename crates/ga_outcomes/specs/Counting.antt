@@ -6,7 +6,7 @@ use Rattle.ga_base.specs.declared.key.Key.{Key}
 use Rattle.ga_base.specs.declared.record.Line.{Line}
 use Rattle.ga_base.specs.declared.record.Line.TheVariants.{Skipped, Failed, Good}
 use Rattle.ga_line.specs.Records.{IsLineOf}
-use Rattle.ga_logs.specs.declared.setup.Setup.{Setup}
+use Rattle.ga_outcomes.specs.declared.setup.Setup.{Setup}
 use Rattle.ga_panels.specs.Table.{AreKeysOf}
 use Rattle.ga_panels.specs.Visitors.{IsExcluded, visitor_in}
 use Rattle.ga_panels.specs.declared.setup.PanelSetup.{PanelSetup}

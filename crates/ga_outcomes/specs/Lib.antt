@@ -1,0 +1,2 @@
+-- What the lines of logs come to.
+pub mod Counting

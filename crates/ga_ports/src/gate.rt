@@ -1,0 +1,73 @@
+use std::hint::spin_loop;
+use std::marker::Sync;
+use std::sync::atomic::{AtomicBool, Ordering};
+
+/// How many times worker 0 looks whether worker 1 has passed, before it goes on.
+const TURNS: u32 = 100_000_000;
+
+/// What each worker of a batch passes once, right after it drew for the first time. Nothing that is counted depends on a gate:
+/// by one that holds a worker a test sees that others are at work meanwhile.
+pub trait Gate: Sync {
+    /// Lets this worker through, now or after a while.
+    fn pass(&self, worker: u32);
+}
+
+/// A gate at which nobody is held.
+#[derive(Clone, Copy, Debug, PartialEq, Eq)]
+pub struct NoGate;
+
+impl NoGate {
+    /// A gate at which nobody is held.
+    pub fn new() -> NoGate {
+        NoGate
+    }
+}
+
+impl Gate for NoGate {
+    fn pass(&self, _worker: u32) {}
+}
+
+/// A gate that holds worker 0 until worker 1 has passed, or for 10^8 turns.
+#[derive(Drop)]
+pub struct HoldGate {
+    /// Worker 1 has passed.
+    passed: AtomicBool,
+    /// Worker 0 saw that it had.
+    met: AtomicBool,
+}
+
+impl HoldGate {
+    /// A gate that nobody has passed.
+    pub fn new() -> HoldGate {
+        HoldGate {
+            passed: AtomicBool::new(false),
+            met: AtomicBool::new(false),
+        }
+    }
+
+    /// Whether worker 1 passed while worker 0 was held, or before.
+    pub fn met(&self) -> bool {
+        self.met.load(Ordering::SeqCst)
+    }
+
+    /// Waits for worker 1, and notes whether it came.
+    fn hold(&self) {
+        for _ in 0..TURNS {
+            if self.passed.load(Ordering::SeqCst) {
+                self.met.store(true, Ordering::SeqCst);
+                return;
+            }
+            spin_loop();
+        }
+    }
+}
+
+impl Gate for HoldGate {
+    fn pass(&self, worker: u32) {
+        match worker {
+            0 => self.hold(),
+            1 => self.passed.store(true, Ordering::SeqCst),
+            _ => {}
+        }
+    }
+}
