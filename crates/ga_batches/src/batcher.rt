@@ -86,7 +86,8 @@ impl Batcher {
 
     /// The whole lines held, each with its line feed. A line of more than `LINE_HELD` bytes stands as so many of its first.
     pub fn batch(&self) -> &[u8]
-        ensures { result.now ≡ self.now.batch }
+        ensures value { result.now ≡ self.now.batch }
+        ensures batcher { IsBatcher self.now }
     {
         &self.bytes[..self.begun]
     }

@@ -1,0 +1,11 @@
+pub mod Same
+pub mod Noted
+pub mod OneKey
+pub mod Rows
+pub mod Partly
+pub mod OneHit
+pub mod PairLists
+pub mod NotedSo
+pub mod NoLines
+pub mod OneLine
+pub mod Taking

@@ -1,0 +1,38 @@
+-- What one more line does to a tally.
+use Rattle.std.specs.Prelude.{ℕ, List, [], ◌∷◌, ◌++◌, Option, Some}
+use Rattle.ga_base.specs.declared.record.Line.{Line}
+use Rattle.ga_line.specs.Records.{IsLineOf}
+use Rattle.ga_panels.specs.declared.setup.PanelSetup.{PanelSetup}
+use Rattle.ga_summary.specs.Outcomes.{Outcome, totals_of}
+use Rattle.ga_summary.specs.Sound.{AllCountable, TotalsFit}
+use Rattle.ga_outcomes.specs.Counting.{OutcomeIs, listed}
+use Rattle.ga_tallies.specs.Tallies.{IsTallyOf, TallySeen}
+use Rattle.ga_outcomes.specs.declared.setup.Setup.{Setup}
+
+-- outcomes were counted behind those that the tally was of
+abbrev pub Adds : List Outcome → TallySeen → TallySeen → Type 0
+Adds outcomes old new = (before : List Outcome) → IsTallyOf before old → IsTallyOf (before ++ outcomes) new
+
+-- the totals with this outcome don't fit, whatever the tally is of
+abbrev pub IsTooMuch : Outcome → TallySeen → Type 0
+IsTooMuch outcome old = (before : List Outcome) → IsTallyOf before old → ¬ TotalsFit (totals_of (before ++ outcome ∷ []))
+
+-- what a line says was counted
+pub record TakesSaid (panels : PanelSetup) (said : Line) (old new : TallySeen) : Type 0 where
+  pub outcome : Option Outcome
+  pub is : OutcomeIs panels said outcome
+  pub countable : AllCountable (listed outcome [])
+  pub adds : Adds (listed outcome []) old new
+
+-- what a line says is too much
+pub record OverfillsSaid (panels : PanelSetup) (said : Line) (old : TallySeen) : Type 0 where
+  pub outcome : Outcome
+  pub is : OutcomeIs panels said (Some outcome)
+  pub full : IsTooMuch outcome old
+
+-- one line more was counted, or is too much
+abbrev pub TakesLine : Setup → List ℕ → TallySeen → TallySeen → Type 0
+TakesLine setup line old new = (said : Line) × IsLineOf setup.line line said × TakesSaid setup.panels said old new
+
+abbrev pub OverfillsLine : Setup → List ℕ → TallySeen → Type 0
+OverfillsLine setup line old = (said : Line) × IsLineOf setup.line line said × OverfillsSaid setup.panels said old

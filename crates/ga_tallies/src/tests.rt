@@ -1,0 +1,89 @@
+use crate::{Pair, Tally};
+use ga_agents::Rules;
+use ga_base::{FormatFault, PanelSet, Statuses, Sums, Text, Texts, Totals};
+use ga_dates::{DEFAULT_DATE, DEFAULT_TIME, compile_date, compile_time};
+use ga_format::{compile, format_text};
+use ga_hosts::Ranges;
+use ga_line::LineSetup;
+use ga_outcomes::Setup;
+use ga_panels::PanelSetup;
+use ga_shards::Keyed;
+use std::alloc::Global;
+use std::test::Fail;
+
+/// How lines in the common format are read.
+fn common(alloc: Global) -> Result<LineSetup, FormatFault> {
+    Ok(LineSetup {
+        format: compile(alloc, &Text::of(alloc, format_text("COMMON"))?)?,
+        date: compile_date(alloc, &Text::of(alloc, DEFAULT_DATE)?)?,
+        time: compile_time(alloc, &Text::of(alloc, DEFAULT_TIME)?)?,
+        no_ip_validation: false,
+        strict_status: false,
+        double_decode: false,
+        no_query: false,
+    })
+}
+
+/// How these are counted without any option, by day alone.
+fn setup(alloc: Global) -> Result<Setup, FormatFault> {
+    Ok(Setup {
+        line: common(alloc)?,
+        panels: PanelSetup {
+            rules: Rules::builtin(alloc),
+            ranges: Ranges::new(alloc),
+            statics: Texts::new(alloc),
+            all_static: false,
+            ignore_crawlers: false,
+            ignore_status: Statuses::new(alloc),
+            panels: PanelSet::none(),
+            count_4xx: false,
+            as_404: false,
+        },
+    })
+}
+
+/// Two visits, a line that is nobody's visit, a comment, and a line of another form, which isn't ended.
+const LINES: &[u8] = b"192.0.2.1 - - [01/Jan/2024:00:00:00 +0000] \"GET /a HTTP/1.1\" 200 10
+192.0.2.1 - - [01/Jan/2024:00:00:00 +0000] \"GET /b HTTP/1.1\" 200 10
+192.0.2.2 - - [01/Jan/2024:00:00:00 +0000] \"GET /c HTTP/1.1\" 404 5
+# a comment
+GET /d";
+
+#[test]
+fn counts_lines(rt: HostRuntime) -> Result<(), Fail> {
+    let alloc = rt.alloc();
+    let Ok(setup) = setup(alloc) else {
+        return Err(Fail::from(FormatFault::NoMemory));
+    };
+    let mut tally = Tally::new(alloc, Keyed::new(1, 2));
+    assert_eq!(rt; tally.count(alloc, &setup, LINES), Ok(()));
+    let parts = tally.into_parts();
+    assert_eq!(rt;
+        parts.totals,
+        Totals {
+            lines: 4,
+            failed: 1,
+            excluded: 0,
+            hits: 3,
+            bytes: 25,
+            micros: 0
+        }
+    );
+    assert_eq!(rt; parts.keys.len(), 1);
+    assert_eq!(rt; parts.visitors.len(), 1);
+    assert_eq!(rt;
+        parts.sums.as_slice(),
+        [Sums {
+            hits: 3,
+            bytes: 25,
+            micros: 0,
+            max_micros: 0
+        }]
+        .as_slice()
+    );
+    assert_eq!(rt;
+        parts.pairs.first().copied(),
+        Some(Pair { key: 0, visitor: 0 })
+    );
+    Ok(())
+}

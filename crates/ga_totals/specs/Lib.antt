@@ -1,0 +1,3 @@
+-- What a run has counted of its logs, in numbers.
+pub mod Totals
+pub mod Steps

@@ -1,0 +1,86 @@
+ghost use Rattle.std.specs.Prelude.{◌≡◌, All, IfOk, Some, map, slice_get};
+ghost use Rattle.std.specs.List.Sorted.{IsPermutation, IsSorted};
+ghost use Rattle.ga_totals.specs.Steps.Rows.{AreByKey, number_cmp};
+
+use ga_base::laws::key_order;
+use ga_base::{Key, NoMemory};
+use ga_shards::Dictionary;
+use std::alloc::Global;
+use std::cmp::Ordering;
+use std::marker::Model;
+
+/// A key with its number.
+#[derive(Drop)]
+pub(crate) struct Numbered<'a> {
+    /// The number.
+    number: u32,
+    /// The key, which the dictionary lends.
+    key: &'a Key,
+}
+
+impl<'a> Model for Numbered<'a> {
+    ghost use Rattle.ga_totals.specs.Steps.Rows.{NumberedKey};
+
+    ghost Value = { NumberedKey };
+
+    ghost view = { λ n. record { number = n.number; key = n.key.now } };
+}
+
+impl<'a> Numbered<'a> {
+    /// The number.
+    pub(crate) fn number(&self) -> u32
+        ensures { result ≡ self.now.number }
+    {
+        self.number
+    }
+
+    /// The key.
+    pub(crate) fn key(&self) -> &'a Key
+        ensures { result.now ≡ self.now.key }
+    {
+        self.key
+    }
+}
+
+/// The keys with their numbers, in the order of the keys.
+pub(crate) fn by_key<'a>(
+    alloc: Global,
+    keys: &'a Dictionary<Key>,
+) -> Result<Vec<Numbered<'a>>, NoMemory>
+    ensures { IfOk result (λ all. AreByKey keys.now all.items) }
+{
+    Ok(sorted(number_keys(alloc, keys)?))
+}
+
+/// The keys with their numbers.
+fn number_keys<'a>(alloc: Global, keys: &'a Dictionary<Key>) -> Result<Vec<Numbered<'a>>, NoMemory>
+    ensures keys { IfOk result (λ all. map (λ n. n.key) all.items ≡ keys.now) }
+    ensures numbers { IfOk result (λ all. All (λ n. slice_get keys.now n.number ≡ Some n.key) all.items) }
+{
+    let mut all = Vec::with_capacity(alloc, keys.len() as usize)?;
+    for number in 0..keys.len() {
+        all.push(Numbered {
+            number,
+            key: keys.item(number),
+        })?;
+    }
+    Ok(all)
+}
+
+/// In the order of the keys.
+fn sorted(all: Vec<Numbered<'_>>) -> Vec<Numbered<'_>>
+    ensures same { IsPermutation all.entry.items result.items }
+    ensures sorted { IsSorted number_cmp result.items }
+{
+    let mut all = all;
+    all.sort_unstable_by(|a, b| compare(a, b));
+    all
+}
+
+/// Where two stand to each other.
+fn compare(a: &Numbered<'_>, b: &Numbered<'_>) -> Ordering
+    ensures { result ≡ number_cmp a.now b.now }
+{
+    key_order();
+    a.key().cmp(b.key())
+}
