@@ -1,0 +1,17 @@
+pub mod PieceLines
+pub mod Alike
+pub mod DrawnPieces
+pub mod Answers
+pub mod Workers
+pub mod WeighedLines
+pub mod PutRows
+pub mod FillTables
+pub mod FilledTables
+pub mod Numbered
+pub mod OneWorker
+pub mod AllWorkers
+pub mod AllPairs
+pub mod Standing
+pub mod CanPutRows
+pub mod SumExists
+pub mod Tables

@@ -1,0 +1,47 @@
+use Rattle.std.proofs.Common.{◌≡◌, ℕ, ◌<◌, ◌≤◌, ◌∷◌, [], List, Bor, true, length, map, inl, inr, sym, ap, ◌∙◌, subst, arith, length-append}
+use Rattle.ga_draws.specs.Draws.{SeatSeen}
+use Rattle.ga_pool.specs.Steps.Drawing.{CountsDrawn, TalliesDrawn}
+use Rattle.ga_pool.proofs.DrawnPieces.{counts-more, counts-past}
+use Rattle.ga_pool.proofs.drawing.count_drawn.Goals as goal
+use Rattle.ga_pool.proofs.drawing.count_drawn.Goals.{else-loop-at-test, then-loop-at-test+then-number-pieces}
+use Rattle.std.proofs.lemmas.List.{get_or-map, length-map}
+use Rattle.std.proofs.lemmas.List.Elements.{Contains-push}
+use Rattle.ga_line.specs.Lines.{lines}
+use Rattle.ga_tallies.specs.Tallies.{TakesIn}
+
+pub loop-at-preserved : goal.loop-at-preserved
+loop-at-preserved g c =
+    let before = c.loop-at.invariant in
+    let seat = c.draw-number.ensures.seat in
+    let takes = c.in_default.ensures.counted in
+    let within : c.draw-number.result < length (map (λ (piece : Bor (List ℕ)). piece.now) c.args.pieces.now) = omega (arith, length-map c.args.pieces.now (λ (piece : Bor (List ℕ)). piece.now), c.if-number-pieces.false) in
+    record {
+      table = ap (λ (s : SeatSeen). s.table) seat ∙ before.table;
+      share = ap (λ (s : SeatSeen). s.view.share) seat ∙ before.share;
+      allowance = omega (arith, ap (λ (s : SeatSeen). s.view.allowance) seat, before.allowance);
+      drawn = omega (arith, ap (λ (s : SeatSeen). length s.view.drawn) seat, before.drawn, length-append c.loop-at.seat.view.drawn (c.draw-number.result ∷ []));
+      counts =
+          subst (λ (drawn : List ℕ). TalliesDrawn c.args.setup.now (map (λ (piece : Bor (List ℕ)). piece.now) c.args.pieces.now) drawn c.count.new.self) (sym (ap (λ (s : SeatSeen). s.view.drawn) seat))
+          (counts-more c.args.setup.now (map (λ (piece : Bor (List ℕ)). piece.now) c.args.pieces.now) c.loop-at.seat.view.drawn c.draw-number.result c.loop-at.tally c.count.new.self within before.counts
+          (subst (λ (piece : List ℕ). TakesIn c.args.setup.now (lines piece true) c.loop-at.tally c.count.new.self)
+          (sym (get_or-map (λ (piece : Bor (List ℕ)). piece.now) c.args.pieces.now c.draw-number.result _ [] c.if-number-pieces.false)) takes));
+    }
+
+pub returns-clause-tally : goal.returns-clause-tally
+returns-clause-tally g c =
+    let pieces = map (λ (piece : Bor (List ℕ)). piece.now) c.args.pieces.now in
+    let many = length-map c.args.pieces.now (λ (piece : Bor (List ℕ)). piece.now) in
+    let before = c.loop-at.invariant in
+    let t = c.loop-at.tally in
+    elim c.loop-at-test.branch [
+      | else-loop-at-test w ↦
+          subst (λ (s : SeatSeen). CountsDrawn c.args.setup.now pieces s.view.drawn t) (sym w.seat-is)
+          record { done = inl (omega (arith, many, before.drawn, w.loop-at-test.false)); counts = before.counts }
+      | then-loop-at-test+then-number-pieces w ↦
+          let past : length pieces ≤ w.draw-number.result = omega (arith, many, w.if-number-pieces.true) in
+          subst (λ (s : SeatSeen). CountsDrawn c.args.setup.now pieces s.view.drawn t) (sym (w.seat-is ∙ w.draw-number.ensures.seat))
+          record {
+            done = inr (w.draw-number.result, past, Contains-push c.loop-at.seat.view.drawn w.draw-number.result);
+            counts = counts-past c.args.setup.now pieces c.loop-at.seat.view.drawn w.draw-number.result t past before.counts;
+          }
+    ]

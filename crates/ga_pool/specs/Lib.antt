@@ -1,0 +1,4 @@
+-- A batch of lines counted by many workers.
+pub mod Stands
+pub mod Batches
+pub mod Steps

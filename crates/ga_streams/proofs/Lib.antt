@@ -1,0 +1,6 @@
+pub mod Batch
+pub mod Batches
+pub mod Counts
+pub mod Held
+pub mod Reading
+pub mod Taking

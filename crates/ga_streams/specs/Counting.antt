@@ -1,0 +1,43 @@
+-- What was counted of lines, batch after batch.
+use Rattle.std.specs.Prelude.{◌≡◌, ◌≤◌, ℕ, List, Option, Some, None}
+use Rattle.ga_base.specs.declared.counts.Totals.{Totals}
+use Rattle.ga_outcomes.specs.Counting.{Come, FillsAmong}
+use Rattle.ga_outcomes.specs.declared.setup.Setup.{Setup}
+use Rattle.ga_streams.specs.declared.full.Full.{Full}
+use Rattle.ga_streams.specs.declared.workers.Workers.{Workers}
+use Rattle.ga_summary.specs.Limits.{over}
+use Rattle.ga_summary.specs.Outcomes.{Outcome}
+use Rattle.ga_summary.specs.Sound.{AllCountable}
+use Rattle.ga_tallies.specs.Tallies.{IsTallyOf, TallySeen}
+
+-- so many workers, and so many lines a piece
+pub record AreWorkers (workers : Workers) : Type 0 where
+  pub some : 1 ≤ workers.jobs
+  pub jobs : workers.jobs ≤ 16
+  pub line : 1 ≤ workers.chunk
+  pub chunk : workers.chunk ≤ 32768
+
+-- what was counted, as contracts see it
+pub record CountingSeen : Type 0 where
+  -- what the counters began at
+  pub start : Totals
+  -- what was counted since, as long as no counter was full
+  pub total : TallySeen
+  -- the counter that is full
+  pub full : Option Full
+
+-- these lines are counted, and no counter passed its limit on the way
+pub record AreCounted (setup : Setup) (start : Totals) (all : List (List ℕ)) (total : TallySeen) : Type 0 where
+  pub outcomes : List Outcome
+  pub come : Come setup all outcomes
+  pub countable : AllCountable outcomes
+  pub fits : over start outcomes ≡ None
+  pub tally : IsTallyOf outcomes total
+
+-- these lines are counted, or they fill a counter, which is told
+abbrev pub HasCountedBy : Option Full → Setup → Totals → List (List ℕ) → TallySeen → Type 0
+HasCountedBy None setup start all total = AreCounted setup start all total
+HasCountedBy (Some full) setup start all total = FillsAmong setup start all full.which full.total
+
+abbrev pub HasCounted : Setup → List (List ℕ) → CountingSeen → Type 0
+HasCounted setup all c = HasCountedBy c.full setup c.start all c.total

@@ -1,0 +1,4 @@
+-- Streams of log bytes, counted batch by batch.
+pub mod Counting
+pub mod Streams
+pub mod Steps

@@ -1,0 +1,17 @@
+//! Streams of log bytes, counted batch by batch, by many workers.
+//!
+//! Start with `Counting`, what was counted so far. A stream is fed to it through a batcher: `feed` and `end`.
+//! `specs/Counting.antt` says what counted lines are, `specs/Streams.antt` what was counted of a stream.
+#![tactic(auto)]
+
+mod counting;
+mod full;
+pub mod laws;
+mod streams;
+mod tables;
+mod workers;
+
+pub use counting::Counting;
+pub use full::{CountingFault, Full};
+pub use streams::{end, feed};
+pub use workers::Workers;
