@@ -1,3 +1,5 @@
+ghost use Rattle.std.specs.Prelude.{◌≡◌, ◌≤◌};
+
 use crate::{PoolFault, count_batch};
 use ga_agents::Rules;
 use ga_base::{Counter, FormatFault, LIMIT, PanelSet, Statuses, Text, Texts, Totals};
@@ -11,6 +13,7 @@ use ga_ports::NoGate;
 use ga_shards::Keyed;
 use std::alloc::Global;
 use std::test::Fail;
+use std::thread::Threads;
 
 /// How lines in the common format are read.
 fn common(alloc: Global) -> Result<LineSetup, FormatFault> {
@@ -44,7 +47,9 @@ fn setup(alloc: Global) -> Result<Setup, FormatFault> {
 }
 
 /// Totals of so many lines.
-fn lines(lines: u64) -> Totals {
+fn lines(lines: u64) -> Totals
+    ensures { (result.lines ≡ lines) × (result.bytes ≡ 0) × (result.micros ≡ 0) }
+{
     Totals {
         lines,
         failed: 0,
@@ -61,8 +66,29 @@ const BATCH: &[u8] = b"192.0.2.1 - - [01/Jan/2024:00:00:00 +0000] \"GET /a HTTP/
 192.0.2.1 - - [01/Jan/2024:00:00:00 +0000] \"GET /c HTTP/1.1\" 200 5
 GET /d";
 
-/// How many workers count, and how many lines a piece has.
-const WAYS: [(u32, u32); 3] = [(1, 1), (2, 1), (4, 32768)];
+/// How many lines, failed lines, keys, visitors and pairs so many workers count, in pieces of so many lines.
+fn numbers<R: Threads + Sync>(
+    rt: &R,
+    alloc: Global,
+    setup: &Setup,
+    jobs: u32,
+    chunk: u32,
+) -> Result<[u64; 5], PoolFault>
+    requires jobs { (1 ≤ jobs) × (jobs ≤ 16) }
+    requires chunk { 1 ≤ chunk }
+{
+    let keyed = Keyed::new(1, u64::from(jobs));
+    let before = lines(0);
+    let gate = NoGate::new();
+    let counted = count_batch(rt, alloc, keyed, setup, &before, BATCH, jobs, chunk, &gate)?;
+    Ok([
+        counted.totals.lines,
+        counted.totals.failed,
+        u64::from(counted.keys.len()),
+        u64::from(counted.visitors.len()),
+        counted.pairs.len(),
+    ])
+}
 
 #[test]
 fn workers_count_as_one(rt: HostRuntime) -> Result<(), Fail> {
@@ -70,25 +96,10 @@ fn workers_count_as_one(rt: HostRuntime) -> Result<(), Fail> {
     let Ok(setup) = setup(alloc) else {
         return Err(Fail::from(FormatFault::NoMemory));
     };
-    for (jobs, chunk) in WAYS {
-        let keyed = Keyed::new(1, u64::from(jobs));
-        let Ok(counted) = count_batch(
-            &rt,
-            alloc,
-            keyed,
-            &setup,
-            &lines(0),
-            BATCH,
-            jobs,
-            chunk,
-            &NoGate::new(),
-        ) else {
-            return Err(Fail::from(FormatFault::NoMemory));
-        };
-        assert_eq!(rt; (counted.totals.lines, counted.totals.failed), (4, 1));
-        assert_eq!(rt; (counted.keys.len(), counted.visitors.len()), (1, 1));
-        assert_eq!(rt; counted.pairs.len(), 1);
-    }
+    let all = Ok([4, 1, 1, 1, 1]);
+    assert!(rt; numbers(&rt, alloc, &setup, 1, 1) == all);
+    assert!(rt; numbers(&rt, alloc, &setup, 2, 1) == all);
+    assert!(rt; numbers(&rt, alloc, &setup, 4, 32768) == all);
     Ok(())
 }
 
@@ -98,12 +109,13 @@ fn a_full_counter_is_told(rt: HostRuntime) -> Result<(), Fail> {
     let Ok(setup) = setup(alloc) else {
         return Err(Fail::from(FormatFault::NoMemory));
     };
+    let before = lines(LIMIT - 2);
     let answer = count_batch(
         &rt,
         alloc,
         Keyed::new(1, 2),
         &setup,
-        &lines(LIMIT - 2),
+        &before,
         BATCH,
         2,
         1,
