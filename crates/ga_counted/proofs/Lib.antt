@@ -1,0 +1,4 @@
+pub mod NamesUnder
+pub mod Visits
+pub mod Strictly
+pub mod OneSummary

@@ -1,0 +1,2 @@
+-- A summary from tables.
+pub mod Rows
