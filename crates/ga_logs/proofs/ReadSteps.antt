@@ -3,7 +3,7 @@ use Rattle.std.proofs.Common.{◌≡◌, ◌≢◌, ℕ, ◌+◌, ◌-◌, ◌�
 use Rattle.std.specs.List.{AllByRecursion}
 use Rattle.ga_base.specs.declared.entry.Entry.{Entry}
 use Rattle.ga_ports.specs.Counts.{raised, NoneDue}
-use Rattle.ga_ports.specs.Files.{Contents, FilesView, content_of, told, is_absent, asks, calls_once}
+use Rattle.ga_ports.specs.Files.{Contents, FilesView, content_of, told, is_absent}
 use Rattle.ga_ports.specs.Stretch.{FilesStay}
 use Rattle.ga_resume.specs.Entries.{IsChoice}
 use Rattle.ga_resume.specs.Reading.{after_reads, part_of, ReadsPart, StopsAfter, StopsWithin}
@@ -12,7 +12,7 @@ use Rattle.ga_resume.specs.declared.fault.PlaceFault.TheVariants.{FileFault, Fil
 use Rattle.ga_resume.specs.declared.segment.Segment.{Segment}
 use Rattle.ga_logs.specs.Following.{AsksFor, CanServe, CanServeOne, HandsOut, IsCause, MissesLog, ReadsPortion}
 use Rattle.ga_logs.specs.Portions.{Begins, IsPortionOf, front_of}
-use Rattle.ga_logs.specs.Steps.Reading.{BeginsLog, front_size}
+use Rattle.ga_logs.specs.Steps.Reading.{BeginsLog, OpensLog, front_size, opened}
 use Rattle.ga_logs.specs.declared.follow.Follow.{Follow}
 use Rattle.ga_logs.specs.declared.follow.Follow.TheVariants.{Whole, ToEnd, ToLastLine}
 
@@ -47,10 +47,6 @@ if_some-both P Q R (Some x) step p q = step x p q
 
 raised-twice : (c a b : ℕ) → raised (raised c a) b ≡ raised c (a + b)
 raised-twice c a b = omega arith
-
--- the view once a name was opened
-abbrev pub opened : List ℕ → FilesView → FilesView
-opened name v = record v { is_open = true; bytes = told name v.contents; measured = None; counts = asks false (calls_once v.counts) }
 
 -- a stretch of reads of the open file, whatever came of it
 pub record Went (count : ℕ) (old new : FilesView) : Type 0 where
@@ -103,21 +99,28 @@ starts-within Whole es s begins = omega (arith, begins.0)
 starts-within ToEnd es s begins = choice-within es s.front s.end s.from s.entry begins.choice
 starts-within ToLastLine es s begins = choice-within es s.front s.end s.from s.entry begins.choice
 
-module _ (follow : Follow) (es : List Entry) (name : List ℕ) (a b m c : FilesView) (s : Segment) (there : is_absent name a.contents ≡ false) (is : b ≡ opened name a) (begun : BeginsLog follow es b m s) where
-  bytes-told : b.bytes ≡ told name a.contents
-  bytes-told = ap (λ (x : FilesView). x.bytes) is
+-- a log was opened by the same entries
+pub opens-by : (follow : Follow) (es fs : List Entry) (name : List ℕ) (a m : FilesView) (s : Segment) → es ≡ fs → OpensLog follow es name a m s → OpensLog follow fs name a m s
+opens-by follow es fs name a m s same opens = subst (λ (xs : List Entry). OpensLog follow xs name a m s) same opens
+
+module _ (follow : Follow) (es : List Entry) (name : List ℕ) (a m c : FilesView) (s : Segment) (opens : OpensLog follow es name a m s) where
+  there : is_absent name a.contents ≡ false
+  there = opens.present
+
+  begun : BeginsLog follow es (opened name a) m s
+  begun = opens.begins
 
   front-told : IfSome (told name a.contents) (λ bytes. s.front ≡ front_of follow bytes)
-  front-told = subst (λ (o : Option (List ℕ)). IfSome o (λ bytes. s.front ≡ front_of follow bytes)) bytes-told begun.front
+  front-told = begun.front
 
   end-told : IfSome (told name a.contents) (λ bytes. s.end ≡ length bytes)
-  end-told = subst (λ (o : Option (List ℕ)). IfSome o (λ bytes. s.end ≡ length bytes)) bytes-told begun.end
+  end-told = begun.end
 
   -- nothing changed but which file is open and the counts
   others : {n : ℕ} → Went n m c → c ≡ record a { is_open = c.is_open; bytes = c.bytes; measured = c.measured; counts = c.counts }
   others went =
       let whole : c ≡ record a { is_open = true; bytes = told name a.contents; measured = Some s.end; counts = c.counts } =
-      went.others ∙ ap (λ (x : FilesView). record x { counts = c.counts }) begun.files ∙ ap (λ (x : FilesView). record x { measured = Some s.end; counts = c.counts }) is in
+      went.others ∙ ap (λ (x : FilesView). record x { counts = c.counts }) begun.files in
       whole ∙ ap (λ (x : FilesView). record a { is_open = x.is_open; bytes = x.bytes; measured = x.measured; counts = c.counts }) (sym whole)
 
   -- the log was asked for, and its segment or a part of it was read
@@ -125,14 +128,13 @@ module _ (follow : Follow) (es : List Entry) (name : List ℕ) (a b m c : FilesV
   asks-for n le went =
       let size : c.measured ≡ Some s.end = ap (λ (x : FilesView). x.measured) went.others ∙ ap (λ (x : FilesView). x.measured) begun.files in
       record {
-        asked = went.asked ∙ ap (λ (x : FilesView). x.counts.asked) begun.files ∙ ap (λ (x : FilesView). x.counts.asked) is;
-        absent = rw there (went.absent ∙ ap (λ (x : FilesView). x.counts.absent) begun.files ∙ ap (λ (x : FilesView). x.counts.absent) is);
-        sizes = rw size (went.sizes ∙ ap (λ (x : FilesView). x.counts.sizes) begun.files ∙ ap (λ (x : FilesView). raised x.counts.sizes s.end) is);
+        asked = went.asked ∙ ap (λ (x : FilesView). x.counts.asked) begun.files;
+        absent = rw there (went.absent ∙ ap (λ (x : FilesView). x.counts.absent) begun.files);
+        sizes = rw size (went.sizes ∙ ap (λ (x : FilesView). x.counts.sizes) begun.files);
         given = (
           front_size follow s.end + n,
           rw size (hands-out follow es (told name a.contents) s n begun.begins front-told le),
-          went.given ∙ ap (λ (x : FilesView). raised x.counts.given n) begun.files
-              ∙ ap (λ (x : FilesView). raised (raised x.counts.given (front_size follow s.end)) n) is ∙ raised-twice a.counts.given (front_size follow s.end) n,
+          went.given ∙ ap (λ (x : FilesView). raised x.counts.given n) begun.files ∙ raised-twice a.counts.given (front_size follow s.end) n,
         );
         measured = rw size end-told;
         others = others went;
@@ -143,7 +145,7 @@ module _ (follow : Follow) (es : List Entry) (name : List ℕ) (a b m c : FilesV
   reads-portion bytes read =
       let within = starts-within follow es s begun.begins in
       let went = went-ok (s.end - s.from) m c read.files in
-      let same : m.bytes ≡ told name a.contents = ap (λ (x : FilesView). x.bytes) begun.files ∙ bytes-told in
+      let same : m.bytes ≡ told name a.contents = ap (λ (x : FilesView). x.bytes) begun.files in
       let part = subst (λ (o : Option (List ℕ)). IfSome o (λ log. bytes ≡ part_of s.from s.end log)) same read.bytes in
       record {
         asks = asks-for (s.end - s.from) (omega arith) went;
@@ -158,9 +160,9 @@ module _ (follow : Follow) (es : List Entry) (name : List ℕ) (a b m c : FilesV
             }) front-told (if_some-both (λ log. s.end ≡ length log) (λ log. bytes ≡ part_of s.from s.end log) (λ log. (s.end ≡ length log) × (bytes ≡ part_of s.from s.end log))
             (told name a.contents) (λ log size e. (size, e)) end-told part);
         size = ap (λ (x : FilesView). x.measured) went.others ∙ ap (λ (x : FilesView). x.measured) begun.files;
-        faults = ap (λ (x : FilesView). x.counts.faults) read.files ∙ ap (λ (x : FilesView). x.counts.faults) begun.files ∙ ap (λ (x : FilesView). x.counts.faults) is;
-        shorts = ap (λ (x : FilesView). x.counts.shorts) read.files ∙ ap (λ (x : FilesView). x.counts.shorts) begun.files ∙ ap (λ (x : FilesView). x.counts.shorts) is;
-        short_at = ap (λ (x : FilesView). x.counts.short_at) read.files ∙ ap (λ (x : FilesView). x.counts.short_at) begun.files ∙ ap (λ (x : FilesView). x.counts.short_at) is;
+        faults = ap (λ (x : FilesView). x.counts.faults) read.files ∙ ap (λ (x : FilesView). x.counts.faults) begun.files;
+        shorts = ap (λ (x : FilesView). x.counts.shorts) read.files ∙ ap (λ (x : FilesView). x.counts.shorts) begun.files;
+        short_at = ap (λ (x : FilesView). x.counts.short_at) read.files ∙ ap (λ (x : FilesView). x.counts.short_at) begun.files;
         present = there;
       }
 
@@ -173,7 +175,7 @@ module _ (follow : Follow) (es : List Entry) (name : List ℕ) (a b m c : FilesV
   }
     where
       untold : m.bytes ≡ None → a.contents ≡ None
-      untold e = by-contents a.contents (sym bytes-told ∙ sym (ap (λ (x : FilesView). x.bytes) begun.files) ∙ e) there
+      untold e = by-contents a.contents (sym (ap (λ (x : FilesView). x.bytes) begun.files) ∙ e) there
         where
           by-contents : (contents : Option Contents) → told name contents ≡ None → is_absent name contents ≡ false → contents ≡ None
           by-contents None e absent = refl
@@ -185,14 +187,14 @@ module _ (follow : Follow) (es : List Entry) (name : List ℕ) (a b m c : FilesV
 
       by-fault : (fault : PlaceFault) → StopsAfter n m c fault → IsCause name a c fault
       by-fault FileFault e = (
-        ap (λ (x : FilesView). x.counts.faults) e ∙ ap (λ (x : FilesView). raised x.counts.faults 1) begun.files ∙ ap (λ (x : FilesView). raised x.counts.faults 1) is,
-        ap (λ (x : FilesView). x.counts.shorts) e ∙ ap (λ (x : FilesView). x.counts.shorts) begun.files ∙ ap (λ (x : FilesView). x.counts.shorts) is,
-        ap (λ (x : FilesView). x.counts.short_at) e ∙ ap (λ (x : FilesView). x.counts.short_at) begun.files ∙ ap (λ (x : FilesView). x.counts.short_at) is,
+        ap (λ (x : FilesView). x.counts.faults) e ∙ ap (λ (x : FilesView). raised x.counts.faults 1) begun.files,
+        ap (λ (x : FilesView). x.counts.shorts) e ∙ ap (λ (x : FilesView). x.counts.shorts) begun.files,
+        ap (λ (x : FilesView). x.counts.short_at) e ∙ ap (λ (x : FilesView). x.counts.short_at) begun.files,
       )
       by-fault (FileShort at) (none, e) = (
-        ap (λ (x : FilesView). x.counts.shorts) e ∙ ap (λ (x : FilesView). raised x.counts.shorts 1) begun.files ∙ ap (λ (x : FilesView). raised x.counts.shorts 1) is,
+        ap (λ (x : FilesView). x.counts.shorts) e ∙ ap (λ (x : FilesView). raised x.counts.shorts 1) begun.files,
         ap (λ (x : FilesView). x.counts.short_at) e,
         untold none,
-        ap (λ (x : FilesView). x.counts.faults) e ∙ ap (λ (x : FilesView). x.counts.faults) begun.files ∙ ap (λ (x : FilesView). x.counts.faults) is,
+        ap (λ (x : FilesView). x.counts.faults) e ∙ ap (λ (x : FilesView). x.counts.faults) begun.files,
       )
-      by-fault NoMemory e = (ap (λ (x : FilesView). x.counts.faults) e ∙ ap (λ (x : FilesView). x.counts.faults) begun.files ∙ ap (λ (x : FilesView). x.counts.faults) is, ap (λ (x : FilesView). x.counts.shorts) e ∙ ap (λ (x : FilesView). x.counts.shorts) begun.files ∙ ap (λ (x : FilesView). x.counts.shorts) is, ap (λ (x : FilesView). x.counts.short_at) e ∙ ap (λ (x : FilesView). x.counts.short_at) begun.files ∙ ap (λ (x : FilesView). x.counts.short_at) is, there)
+      by-fault NoMemory e = (ap (λ (x : FilesView). x.counts.faults) e ∙ ap (λ (x : FilesView). x.counts.faults) begun.files, ap (λ (x : FilesView). x.counts.shorts) e ∙ ap (λ (x : FilesView). x.counts.shorts) begun.files, ap (λ (x : FilesView). x.counts.short_at) e ∙ ap (λ (x : FilesView). x.counts.short_at) begun.files, there)

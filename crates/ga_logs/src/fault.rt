@@ -1,10 +1,10 @@
 ghost use Rattle.std.specs.Prelude.{◌≡◌};
-ghost use Rattle.ga_logs.specs.Steps.Logs.{fault_of_log, fault_of_merge};
+ghost use Rattle.ga_logs.specs.Steps.Logs.{fault_of_counting, fault_of_full, fault_of_log};
 ghost use Rattle.ga_logs.specs.declared.fault.CountFault.TheVariants.{NoMemory as WantsMemory};
 
 use ga_base::{Counter, NoMemory};
 use ga_resume::PlaceFault;
-use ga_summary::MergeFault;
+use ga_streams::{CountingFault, Full};
 
 /// Why logs weren't counted.
 #[derive(Clone, Copy, Debug, PartialEq, Eq)]
@@ -32,13 +32,22 @@ impl CountFault {
     }
 }
 
-impl From<MergeFault> for CountFault {
-    ghost from_gives = { λ merge e. e ≡ fault_of_merge merge };
+impl From<Full> for CountFault {
+    ghost from_gives = { λ full e. e ≡ fault_of_full full };
 
-    fn from(fault: MergeFault) -> CountFault {
+    fn from(full: Full) -> CountFault {
+        let Full { which, total } = full;
+        CountFault::Full { which, total }
+    }
+}
+
+impl From<CountingFault> for CountFault {
+    ghost from_gives = { λ fault e. e ≡ fault_of_counting fault };
+
+    fn from(fault: CountingFault) -> CountFault {
         match fault {
-            MergeFault::CounterFull { which, total } => CountFault::Full { which, total },
-            MergeFault::NoMemory => CountFault::NoMemory,
+            CountingFault::Full(full) => CountFault::from(full),
+            CountingFault::NoMemory => CountFault::NoMemory,
         }
     }
 }

@@ -1,10 +1,10 @@
 //! The logs of a run: which part of each is read, by the entries that earlier runs left, and the sum of its lines.
 //!
-//! Start with `count_logs`. `specs/Portions.antt` says which part of a log is counted and what becomes of the entries,
-//! and `specs/Following.antt` what it is to read logs one after the other.
+//! Start with `count_logs`. A log is read in slices, and its lines are counted batch by batch. `specs/Portions.antt` says
+//! which part of a log is counted and what becomes of the entries, and `specs/Following.antt` what it is to read logs one
+//! after the other.
 #![tactic(auto)]
 
-mod counting;
 mod fault;
 mod follow;
 pub mod laws;
@@ -12,6 +12,7 @@ mod logs;
 mod portion;
 mod reading;
 mod start;
+mod streaming;
 #[cfg(test)]
 mod tests;
 

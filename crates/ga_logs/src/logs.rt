@@ -1,141 +1,155 @@
-ghost use Rattle.std.specs.Prelude.{◌≡◌, ◌+◌, IfOk, IfErr, OnOk, length};
+ghost use Rattle.std.specs.Prelude.{◌≡◌, ◌≢◌, ◌+◌, ◌≤◌, ℕ, List, IfOk, IfErr, OnOk};
 ghost use Rattle.ga_ports.specs.Stretch.{FilesWent};
-ghost use Rattle.ga_outcomes.specs.Counting.{CountsLines};
+ghost use Rattle.ga_resume.specs.declared.fault.PlaceFault.TheVariants.{FileFault};
+ghost use Rattle.ga_streams.specs.Counting.{AreWorkers};
+ghost use Rattle.ga_summary.specs.Limits.{LinesAdd};
+ghost use Rattle.ga_summary.specs.Sound.{TotalsFit};
 ghost use Rattle.ga_logs.specs.Following.{CanServe, CanServeOne};
 ghost use Rattle.ga_logs.specs.Logs.{CountsLogs, NoneFailed, StopsLogs};
 ghost use Rattle.ga_logs.specs.Portions.{AreEnded, Begins, Follows, generated_lines};
-ghost use Rattle.ga_logs.specs.Steps.Logs.{CountsOneLog, StopsGenerated, StopsOneLog};
-ghost use Rattle.ga_resume.specs.Segment.{IsSegment};
+ghost use Rattle.ga_logs.specs.Steps.Logs.{CountsOneLog, StopsOneLog};
+ghost use Rattle.ga_logs.specs.Steps.Streaming.{Adds, HasCountedSome};
 
-use crate::counting::count_bytes;
-use crate::{CountFault, Follow, Portion, Start, read_portion};
-use bstr::ByteSlice;
-use ga_base::{Entries, NoMemory, Text, Totals};
+use crate::reading::open_log;
+use crate::streaming::{count_part, count_text};
+use crate::{CountFault, Follow, Start};
+use ga_base::{Entries, NoMemory, Text};
 use ga_generate::generate;
 use ga_outcomes::Setup;
-use ga_ports::Files;
 use ga_ports::laws::files_stay;
-use ga_resume::advance;
-use ga_summary::{MergeFault, Summary};
+use ga_ports::{Files, Gate};
+use ga_resume::{PlaceFault, Segment, advance};
+use ga_streams::{Counting, Workers};
+use ga_summary::Summary;
 use std::alloc::Global;
-
-/// The byte that ends a line.
-const LINE_FEED: u8 = b'\n';
+use std::thread::Threads;
 
 /// The sum of the generator's lines, where so many are asked for, and of the lines of these logs, which are read one after
 /// the other, each from where the start says. The entries go with them; after an `Err` they are those of some of the logs.
-pub fn count_logs<F: Files>(
+/// Nothing that is answered depends on the workers or on the gate.
+pub fn count_logs<R: Threads + Sync, G: Gate, F: Files>(
+    rt: &R,
+    gate: &G,
     alloc: Global,
     setup: &Setup,
+    workers: Workers,
     start: Start,
     generated: Option<u32>,
     names: &[Text],
     entries: &mut Entries,
     files: &mut F,
 ) -> Result<Summary, CountFault>
+    requires workers { AreWorkers workers }
+    requires fit { TotalsFit start.totals }
+    requires lines { LinesAdd start.totals }
     ensures ok { IfOk result (CountsLogs setup.now start generated names.now entries.old entries.new (F.view files.old) (F.view files.new)) }
     ensures stops { IfErr result (StopsLogs setup.now start generated names.now entries.old (F.view files.old) (F.view files.new)) }
     ensures calls { FilesWent (F.view files.old) (F.view files.new) }
     ensures sure { CanServe names.now (F.view files.old) → IfErr result NoneFailed }
 {
     files_stay();
-    let mut summary = count_generated(alloc, setup, start.totals, generated)?;
+    let mut counting = Counting::new(alloc, workers, start.totals);
+    count_generated(rt, gate, alloc, setup, workers, generated, &mut counting)?;
     for (place, name) in names.iter().enumerate() {
-        count_one(
+        // No log is read once a counter is full.
+        if let Some(full) = counting.full() {
+            return Err(CountFault::from(full));
+        }
+        match count_one(
+            rt,
+            gate,
             alloc,
             setup,
-            start,
-            place as u64,
+            workers,
+            start.follow,
             name,
             entries,
             files,
-            &mut summary,
-        )?;
+            &mut counting,
+        ) {
+            Ok(()) => {}
+            Err(fault) => return Err(CountFault::of_log(place as u64, fault)),
+        }
     }
-    Ok(summary)
+    let total = counting.sum()?;
+    Ok(total)
 }
 
-/// The sum of the generator's lines, where so many are asked for.
-fn count_generated(
+/// Counts the generator's lines, where so many are asked for.
+fn count_generated<R: Threads + Sync, G: Gate>(
+    rt: &R,
+    gate: &G,
     alloc: Global,
     setup: &Setup,
-    start: Totals,
+    workers: Workers,
     generated: Option<u32>,
-) -> Result<Summary, MergeFault>
-    ensures ok { IfOk result (CountsLines setup.now start (generated_lines generated)) }
-    ensures stops { IfErr result (StopsGenerated setup.now start (generated_lines generated)) }
+    counting: &mut Counting,
+) -> Result<(), NoMemory>
+    requires { AreWorkers workers }
+    ensures { OnOk result (Adds setup.now (generated_lines generated) counting.old counting.new) }
 {
-    let mut sum = Summary::empty(alloc);
     let Some(n) = generated else {
-        return Ok(sum);
+        return Ok(());
     };
     let log = generate(alloc, n)?;
-    count_bytes(alloc, setup, start, log.bytes(), true, &mut sum)?;
-    Ok(sum)
+    count_text(rt, gate, alloc, setup, workers, log.bytes(), counting)
 }
 
 /// Reads the part of a log that wasn't counted yet, counts its lines and moves the entries on.
-fn count_one<F: Files>(
+fn count_one<R: Threads + Sync, G: Gate, F: Files>(
+    rt: &R,
+    gate: &G,
     alloc: Global,
     setup: &Setup,
-    start: Start,
-    place: u64,
+    workers: Workers,
+    follow: Follow,
     name: &Text,
     entries: &mut Entries,
     files: &mut F,
-    summary: &mut Summary,
-) -> Result<(), CountFault>
-    ensures ok { OnOk result (CountsOneLog setup.now start name.now entries.old entries.new (F.view files.old) (F.view files.new) summary.old summary.new) }
-    ensures stops { IfErr result (StopsOneLog setup.now start place name.now entries.old (F.view files.old) (F.view files.new) summary.old) }
+    counting: &mut Counting,
+) -> Result<(), PlaceFault>
+    requires workers { AreWorkers workers }
+    requires counted { HasCountedSome setup.now counting.old }
+    ensures ok { OnOk result (CountsOneLog setup.now follow name.now entries.old entries.new (F.view files.old) (F.view files.new) counting.old counting.new) }
+    ensures stops { IfErr result (StopsOneLog follow entries.old name.now (F.view files.old) (F.view files.new)) }
     ensures calls { FilesWent (F.view files.old) (F.view files.new) }
-    ensures sure { CanServeOne name.now (F.view files.old) → IfErr result NoneFailed }
+    ensures sure { CanServeOne name.now (F.view files.old) → IfErr result (λ fault. fault ≢ FileFault) }
 {
-    let portion = match read_portion(alloc, start.follow, entries.items(), name, files) {
-        Ok(portion) => portion,
-        Err(fault) => return Err(CountFault::of_log(place, fault)),
-    };
-    let bytes = portion.bytes.bytes();
-    count_bytes(
+    // What is known of calls of the files, for the proof alone: the call does nothing.
+    files_stay();
+    let segment = open_log(alloc, follow, entries.items(), name, files)?;
+    let ended = count_part(
+        rt,
+        gate,
         alloc,
         setup,
-        start.totals,
-        bytes,
-        start.follow.keeps(),
-        summary,
+        workers,
+        segment.from,
+        segment.end,
+        follow.keeps(),
+        files,
+        counting,
     )?;
-    follow_log(alloc, start.follow, &portion, entries)?;
+    follow_log(alloc, follow, &segment, ended, entries)?;
     Ok(())
 }
 
-/// Moves the entries on, behind what was counted of a portion.
+/// Moves the entries on, behind what was counted of a log: of its bytes so many are those of ended lines.
 fn follow_log(
     alloc: Global,
     follow: Follow,
-    portion: &Portion,
+    segment: &Segment,
+    ended: u64,
     entries: &mut Entries,
 ) -> Result<(), NoMemory>
-    requires begins { Begins follow entries.old portion.now.segment }
-    requires long { portion.now.segment.from + length portion.now.bytes ≡ portion.now.segment.end }
-    ensures ok { OnOk result (Follows follow portion.now entries.old entries.new) }
+    requires begins { Begins follow entries.old segment.now }
+    requires within { segment.now.from + ended ≤ segment.now.end }
+    ensures ok { OnOk result ((bytes : List ℕ) → AreEnded bytes ended → Follows follow (record { segment = segment.now; bytes = bytes }) entries.old entries.new) }
 {
-    let segment = &portion.segment;
+    let end = segment.end;
     match follow {
         Follow::Whole => Ok(()),
-        Follow::ToEnd => advance(alloc, entries, segment, segment.end),
-        Follow::ToLastLine => {
-            let bytes = portion.bytes.bytes();
-            let rest = bytes.len() as u64 - ended(bytes);
-            advance(alloc, entries, segment, segment.end - rest)
-        }
-    }
-}
-
-/// How many of these bytes are those of ended lines.
-fn ended(bytes: &[u8]) -> u64
-    ensures { AreEnded bytes.now result }
-{
-    match bytes.rfind_byte(LINE_FEED) {
-        Some(at) => at as u64 + 1,
-        None => 0,
+        Follow::ToEnd => advance(alloc, entries, segment, end),
+        Follow::ToLastLine => advance(alloc, entries, segment, segment.from + ended),
     }
 }

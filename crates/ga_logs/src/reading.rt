@@ -3,7 +3,7 @@ ghost use Rattle.ga_ports.specs.Counts.{NoneDue};
 ghost use Rattle.ga_ports.specs.Stretch.{FilesWent};
 ghost use Rattle.ga_resume.specs.declared.fault.PlaceFault.TheVariants.{FileFault};
 ghost use Rattle.ga_logs.specs.Following.{CanServeOne, MissesLog, ReadsPortion};
-ghost use Rattle.ga_logs.specs.Steps.Reading.{BeginsLog, MissesBegin};
+ghost use Rattle.ga_logs.specs.Steps.Reading.{BeginsLog, MissesBegin, OpensLog};
 
 use crate::{Follow, Portion};
 use ga_base::{Bytes, Entry, Text};
@@ -28,13 +28,30 @@ pub fn read_portion<F: Files>(
 {
     // What is known of calls of the files, for the proof alone: the call does nothing.
     files_stay();
-    files.open(name)?;
-    let segment = begin(alloc, follow, entries, files)?;
+    let segment = open_log(alloc, follow, entries, name, files)?;
     let bytes = read_part(alloc, files, segment.from, segment.end)?;
     Ok(Portion {
         segment,
         bytes: Bytes::from(bytes),
     })
+}
+
+/// Opens the log of this name, and says where a run begins it, by these entries.
+pub(crate) fn open_log<F: Files>(
+    alloc: Global,
+    follow: Follow,
+    entries: &[Entry],
+    name: &Text,
+    files: &mut F,
+) -> Result<Segment, PlaceFault>
+    ensures ok { IfOk result (OpensLog follow entries.now name.now (F.view files.old) (F.view files.new)) }
+    ensures failed { IfErr result (MissesLog follow entries.now name.now (F.view files.old) (F.view files.new)) }
+    ensures calls { FilesWent (F.view files.old) (F.view files.new) }
+    ensures sure { CanServeOne name.now (F.view files.old) → IfErr result (λ fault. fault ≢ FileFault) }
+{
+    files_stay();
+    files.open(name)?;
+    begin(alloc, follow, entries, files)
 }
 
 /// Where a run begins the open file.

@@ -7,7 +7,8 @@ use ga_hosts::Ranges;
 use ga_line::LineSetup;
 use ga_outcomes::Setup;
 use ga_panels::PanelSetup;
-use ga_ports::MemFiles;
+use ga_ports::{MemFiles, NoGate};
+use ga_streams::Workers;
 use std::alloc::Global;
 use std::test::Fail;
 
@@ -20,6 +21,9 @@ const NONE: Totals = Totals {
     bytes: 0,
     micros: 0,
 };
+
+/// Two workers, who take four lines at a time.
+const WORKERS: Workers = Workers { jobs: 2, chunk: 4 };
 
 /// How lines in the common format are read.
 fn common(alloc: Global) -> Result<LineSetup, FormatFault> {
@@ -99,8 +103,11 @@ fn follows_a_log(rt: HostRuntime) -> Result<(), Fail> {
             totals: NONE,
         };
         let counted = count_logs(
+            &rt,
+            &NoGate::new(),
             alloc,
             &setup,
+            WORKERS,
             start,
             None,
             names.items(),

@@ -1,3 +1,3 @@
 mod Choices
-mod PartReads
+pub mod PartReads
 mod Placements

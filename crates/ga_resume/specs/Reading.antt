@@ -19,8 +19,15 @@ pub record ReadsPart (from end : ℕ) (old new : FilesView) (part : List ℕ) : 
   pub bytes : IfSome old.bytes (λ bytes. part ≡ part_of from end bytes)
   pub files : new ≡ after_reads new.counts.calls (end - from) old
 
+-- so many bytes of the open file, from a place on, were read to the front of a buffer
+pub record ReadsSlice (at n : ℕ) (buffer : List ℕ) (old new : FilesView) : Type 0 where
+  pub some : 0 < n
+  pub within : n ≤ length buffer
+  pub bytes : IfSome old.bytes (λ bytes. take n buffer ≡ take n (drop at bytes))
+  pub files : new ≡ after_reads new.counts.calls n old
+
 -- so many bytes of the open file, from a place on, were appended to the part
-pub record ReadsSlice (at n room : ℕ) (old new : FilesView) (part part' : List ℕ) : Type 0 where
+pub record AppendsSlice (at n room : ℕ) (old new : FilesView) (part part' : List ℕ) : Type 0 where
   pub some : 0 < n
   pub within : n ≤ room
   pub long : length part' ≡ length part + n

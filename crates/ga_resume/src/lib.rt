@@ -15,7 +15,7 @@ mod segment;
 pub use fault::PlaceFault;
 pub use following::advance;
 pub use placing::place;
-pub use reading::read_part;
+pub use reading::{read_part, read_slice, slice_buffer};
 pub use segment::{FRONT, Segment};
 
 #[cfg(test)]

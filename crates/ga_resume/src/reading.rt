@@ -1,7 +1,7 @@
 ghost use Rattle.std.specs.Prelude.{◌≡◌, ◌≢◌, ◌-◌, ◌≤◌, ◌<◌, IfOk, IfErr, IfSome, IsSome, IsTrue, length};
 ghost use Rattle.ga_ports.specs.Counts.{NoneDue};
 ghost use Rattle.ga_ports.specs.Stretch.{FilesWent};
-ghost use Rattle.ga_resume.specs.Reading.{ReadsPart, ReadsSlice, StopsWithin};
+ghost use Rattle.ga_resume.specs.Reading.{AppendsSlice, ReadsPart, ReadsSlice, StopsAfter, StopsWithin};
 ghost use Rattle.ga_resume.specs.declared.fault.PlaceFault.TheVariants.{FileFault};
 
 use crate::PlaceFault;
@@ -34,7 +34,7 @@ pub fn read_part<F: Files>(
 }
 
 /// A place for the bytes of one read.
-fn slice_buffer(alloc: Global) -> Result<Vec<u8>, AllocError>
+pub fn slice_buffer(alloc: Global) -> Result<Vec<u8>, AllocError>
     ensures { IfOk result (λ buffer. 0 < length buffer.items) }
 {
     vec![in alloc; 0u8; SLICE]
@@ -65,14 +65,14 @@ fn read_slices<F: Files>(
     let mut at = from;
     while at < end {
         let room = (end - at).min(buffer.len() as u64) as usize;
-        let count = read_slice(files, at, &mut buffer[..room], &mut part)?;
+        let count = append_slice(files, at, &mut buffer[..room], &mut part)?;
         at += count as u64;
     }
     Ok(part)
 }
 
 /// Reads bytes of the open file from a place below its size, and appends them to the part. It answers how many came.
-fn read_slice<F: Files>(
+fn append_slice<F: Files>(
     files: &mut F,
     at: u64,
     buffer: &mut [u8],
@@ -83,8 +83,26 @@ fn read_slice<F: Files>(
     requires measured { IsSome (F.view files.old).measured }
     requires told { IfSome (F.view files.old).bytes (λ bytes. at < length bytes) }
     requires room { 0 < length buffer.old }
-    ensures ok { IfOk result (λ count. ReadsSlice at count (length buffer.old) (F.view files.old) (F.view files.new) part.old.items part.new.items) }
+    ensures ok { IfOk result (λ count. AppendsSlice at count (length buffer.old) (F.view files.old) (F.view files.new) part.old.items part.new.items) }
     ensures failed { IfErr result (λ fault. StopsWithin (length buffer.old) (F.view files.old) (F.view files.new) fault) }
+    ensures calls { FilesWent (F.view files.old) (F.view files.new) }
+    ensures sure { NoneDue (F.view files.old).listed (F.view files.old).counts.calls → IfErr result (λ fault. fault ≢ FileFault) }
+{
+    let count = read_slice(files, at, buffer)?;
+    part.extend_from_slice(&buffer[..count])?;
+    Ok(count)
+}
+
+/// Reads bytes of the open file from a place below its size, and answers how many: one at least. They stand at the front of
+/// the buffer. After an `Err` none was handed out.
+pub fn read_slice<F: Files>(files: &mut F, at: u64, buffer: &mut [u8]) -> Result<usize, PlaceFault>
+    requires is_open { IsTrue (F.view files.old).is_open }
+    requires below { IfSome (F.view files.old).measured (λ size. at < size) }
+    requires measured { IsSome (F.view files.old).measured }
+    requires told { IfSome (F.view files.old).bytes (λ bytes. at < length bytes) }
+    requires room { 0 < length buffer.old }
+    ensures ok { IfOk result (λ count. ReadsSlice at count buffer.new (F.view files.old) (F.view files.new)) }
+    ensures failed { IfErr result (λ fault. StopsAfter 0 (F.view files.old) (F.view files.new) fault) }
     ensures calls { FilesWent (F.view files.old) (F.view files.new) }
     ensures sure { NoneDue (F.view files.old).listed (F.view files.old).counts.calls → IfErr result (λ fault. fault ≢ FileFault) }
 {
@@ -92,6 +110,5 @@ fn read_slice<F: Files>(
     if count == 0 {
         return Err(PlaceFault::FileShort { at });
     }
-    part.extend_from_slice(&buffer[..count])?;
     Ok(count)
 }

@@ -16,7 +16,7 @@ use Rattle.ga_outcomes.proofs.Limits.{all-within, no-counter}
 use Rattle.ga_ports.specs.Files.{FilesView}
 use Rattle.ga_resume.specs.declared.fault.PlaceFault.TheVariants.{NoMemory as PlaceNoMemory}
 use Rattle.ga_store.specs.Database.{DbValue, empty_db}
-use Rattle.ga_summary.specs.Limits.{or_else, over, passes}
+use Rattle.ga_summary.specs.Limits.{LinesAdd, or_else, over, passes}
 use Rattle.ga_summary.specs.Outcomes.{Hit, Outcome, Counted, hits_of, totals_of}
 use Rattle.ga_summary.specs.Outcomes as outcomes
 use Rattle.ga_summary.specs.Rows.{SummaryValue, totals_plus}
@@ -54,13 +54,20 @@ fits-on t (o ∷ os) fit e = by o (fits-on more os (all-within more parts.0) par
       micros = omega (arith, h.micros, sum_by-cons (λ (x : Hit). x.micros) hit (hits_of os), sum_by-cons (λ (x : Hit). x.micros) hit []);
     }
 
--- what a run counts on from fits
-base-fits : (s : Settings) (stored : DbValue) → IsSummary stored.summary → TotalsFit (base_of s stored).summary.totals
+-- what a run counts on from fits, and its lines add up
+pub base-fits : (s : Settings) (stored : DbValue) → IsSummary stored.summary → TotalsFit (base_of s stored).summary.totals
 base-fits s stored sound = by s.restore
   where
     by : (b : Bool) → TotalsFit (if b then stored else empty_db).summary.totals
     by true = sound.sound.totals.fit
     by false = record { lines = omega arith; bytes = omega arith; micros = omega arith }
+
+pub base-adds : (s : Settings) (stored : DbValue) → IsSummary stored.summary → LinesAdd (base_of s stored).summary.totals
+base-adds s stored sound = by s.restore
+  where
+    by : (b : Bool) → LinesAdd (if b then stored else empty_db).summary.totals
+    by true = sound.sound.totals.lines
+    by false = refl
 
 -- so the whole passes no limit
 pub whole-fits : (setup : Setup) (s : Settings) (stored : DbValue) (all : List (List ℕ)) (sum : SummaryValue) → IsSummary stored.summary → CountsLines setup (start_of s stored).totals all sum

@@ -1,5 +1,5 @@
 -- Two runs with the same words over the same told files and sides end alike.
-use Rattle.std.proofs.Common.{◌≡◌, ◌≢◌, ◌⊎◌, ◌||◌, ℕ, Bool, List, [], ◌∷◌, ◌++◌, refl, ap, sym, ◌∙◌, subst, inl, inr, Option, Some, None, IfSome, false, true, map, Ok}
+use Rattle.std.proofs.Common.{◌≡◌, ◌≢◌, ◌⊎◌, ◌||◌, ℕ, Bool, List, [], ◌∷◌, ◌++◌, refl, ap, sym, ◌∙◌, subst, inl, inr, Option, Some, None, IfSome, false, true, map, Err, Ok}
 use Rattle.std.proofs.lemmas.Bool.{false≢true}
 use Rattle.std.specs.List.{AllByRecursion}
 use Rattle.ga_base.specs.declared.entry.Entry.{Entry}
@@ -24,17 +24,23 @@ use Rattle.ga_agents.specs.declared.row.Rule.{Rule}
 use Rattle.ga_run.specs.Ends.{Ends, HasReport, SaysOnly}
 use Rattle.ga_run.specs.Inputs.{inputs_of, rules_file}
 use Rattle.ga_run.specs.Keeping.{FindsThere, IsKeptSince, KeepsSince, KeptSince}
-use Rattle.ga_run.specs.OneRun.{Alike, HasDatabase, HaveSameInputs, IsUntroubled, RunView, SameDatabase, Wrote}
+use Rattle.ga_run.specs.OneRun.{Alike, DifferInWorkers, HasDatabase, HaveSameInputs, IsUntroubled, RunView, SameDatabase, Wrote, with_workers}
 use Rattle.ga_run.specs.Printing.{TakesOrStops, but_errors, delivered, report_file, target_of}
-use Rattle.ga_run.specs.Run.{AreRefused, HasGoodInput, HaveSetup, IsTrouble, NothingWasRead, RunsOver}
-use Rattle.ga_run.specs.Setups.{IsLineSetup}
+use Rattle.ga_run.specs.Run.{AreRefused, HasGoodInput, HaveRefused, HaveSetup, IsTrouble, NothingWasRead, RunsOver}
+use Rattle.ga_run.specs.Setups.{IsLineSetup, IsRefused}
 use Rattle.ga_run.specs.Statuses.{fault_line, IsFaultLine, NamesFailed}
 use Rattle.ga_run.specs.Told.{Answers, CountsTold, HasBadLine, RulesAreTold, Yield}
 use Rattle.ga_run.specs.Told.Answers.{answers_rules, answers_damage, answers_full, answers_generation, answers_done}
+use Rattle.ga_base.specs.declared.formats.FormatFault.{FormatFault}
+use Rattle.ga_store.specs.declared.mode.Mode.{Mode}
+use Rattle.ga_summary.specs.Rows.{SummaryValue}
+use Rattle.ga_run.specs.declared.status.Which.{Which}
+use Rattle.ga_run.specs.declared.status.Which.TheVariants.{Log, Date, Time}
 use Rattle.ga_run.specs.declared.status.Status.{Status}
 use Rattle.ga_run.specs.declared.status.Status.TheVariants.{Done, BadWords, BadFormat, BadRules, FileFault, FileShort, DiskFault, DbDamaged, OutFault, CounterFull, NoMemory}
 use Rattle.ga_run.proofs.Endings.{stops-rose}
 use Rattle.ga_run.proofs.OneAnswer.{OneDatabase}
+use Rattle.ga_run.proofs.WordLaw.{OneWords}
 use Rattle.ga_run.proofs.Telling.{ReadAsTold, answers, done-answers, found-there, seen-same, yield-of}
 
 -- ---- what is told of files with the same contents
@@ -136,8 +142,8 @@ nameless (OutFault to at) h = absurd (h tt)
 nameless (CounterFull which total) h = λ words name e. e
 nameless NoMemory h = absurd (h tt)
 
-one-line : (words : List (List ℕ)) (status : Status) (line other : List ℕ) → Nameless status → IsFaultLine words status line → IsFaultLine words status other → line ≡ other
-one-line words status line other none h k = h.is ∙ ap (λ (name : List ℕ). fault_line name status) (none words h.name h.names ∙ sym (none words k.name k.names)) ∙ sym k.is
+one-line : (words words' : List (List ℕ)) (status : Status) (line other : List ℕ) → Nameless status → IsFaultLine words status line → IsFaultLine words' status other → line ≡ other
+one-line words words' status line other none h k = h.is ∙ ap (λ (name : List ℕ). fault_line name status) (none words h.name h.names ∙ sym (none words' k.name k.names)) ∙ sym k.is
 
 -- a target without a fault took all
 taken : (text : List ℕ) (old new : TargetView) → ¬ Rose old.faults new.faults → TakesOrStops text old new → new ≡ takes text old
@@ -151,15 +157,15 @@ output-still words sides r u None = u.output
 output-still words sides r u (Some name) = u.file
 
 -- the database that a run left, by what it yields and what these sides had
-pub record IsLeftBy (s : Settings) (sides : Sides) (yield : Yield) (db : DbValue) : Type 0 where
+pub record IsLeftBy (mode : Mode) (sides : Sides) (yield : Yield) (db : DbValue) : Type 0 where
   pub summary : db.summary ≡ yield.whole
   pub entries : db.entries ≡ map entry_value yield.entries
   pub stored : DbValue
   pub had : DbOf sides (reads_as stored)
-  pub next : IsNext (mode_of s) stored db
+  pub next : IsNext mode stored db
 
 abbrev LeftBy : Settings → RunView → Yield → Type 0
-LeftBy s r yield = (sides : Sides) → r.old.disk.seen ≡ Some sides → (db : DbValue) → HasDatabase r.new db → IsLeftBy s sides yield db
+LeftBy s r yield = (sides : Sides) → r.old.disk.seen ≡ Some sides → (db : DbValue) → HasDatabase r.new db → IsLeftBy (mode_of s) sides yield db
 
 -- what was found there is what the sides had, where the run persists
 found-had : (s : Settings) (d d' : DiskView) (stored : DbValue) → s.persist ≡ true → FindsThere s d d' stored → (sides : Sides) → d.seen ≡ Some sides → DbOf sides (reads_as stored)
@@ -294,7 +300,7 @@ next-same s x y db db' e h k =
     let h' = subst (λ (v : DbValue). IsNext (mode_of s) v db) e h in
     (h'.generation ∙ sym k.generation, h'.records ∙ sym k.records)
 
-module _ (database : OneDatabase) (words : List (List ℕ)) (sides : Sides) (a b : RunView) (u : IsUntroubled words sides a) (v : IsUntroubled words sides b) where
+module _ (database : OneDatabase) (words words' : List (List ℕ)) (sides : Sides) (a b : RunView) (u : IsUntroubled words sides a) (v : IsUntroubled words' sides b) where
   -- with one status and one report, all is alike
   alike : (status : Status) → Nameless status → a.status ≡ status → b.status ≡ status → (report : Option (Option (List ℕ) × List ℕ)) → Wrote report a.old.outs a.new.outs → Wrote report b.old.outs b.new.outs
       → (a.old.disk.seen ≡ Some sides → b.old.disk.seen ≡ Some sides → SameDatabase a.new b.new) → Alike sides a b
@@ -302,7 +308,7 @@ module _ (database : OneDatabase) (words : List (List ℕ)) (sides : Sides) (a b
       let here = u.is_run.reports.line in
       let there = v.is_run.reports.line in
       let lines : there.0 ≡ here.0 =
-      one-line words status there.0 here.0 unnamed (subst (λ (st : Status). IsFaultLine words st there.0) f there.1) (subst (λ (st : Status). IsFaultLine words st here.0) e here.1) in
+      one-line words' words status there.0 here.0 unnamed (subst (λ (st : Status). IsFaultLine words' st there.0) f there.1) (subst (λ (st : Status). IsFaultLine words st here.0) e here.1) in
       record {
         status = e ∙ sym f;
         report = report;
@@ -322,21 +328,74 @@ module _ (database : OneDatabase) (words : List (List ℕ)) (sides : Sides) (a b
       (v.is_run.reports.refused (λ done. undone (sym f ∙ done)) (λ to at failed. unfailed to at (sym f ∙ failed)))
       (still-same database sides a b (ap (λ (d : DiskView). d.seen) still.disk.view) (ap (λ (d : DiskView). d.seen) still'.disk.view))
 
+-- ---- other workers
+
+module _ (line : LineSetup) (s : Settings) (jobs chunk : ℕ) where
+  -- the same settings but for the workers
+  abbrev other : Settings
+  other = with_workers jobs chunk s
+
+  setup-by : IsLineSetup s line → IsLineSetup other line
+  setup-by h = record {
+    format = h.format;
+    date = h.date;
+    time = h.time;
+    no_ip_validation = h.no_ip_validation;
+    strict_status = h.strict_status;
+    double_decode = h.double_decode;
+    no_query = h.no_query;
+  }
+
+  counts-by : (rules : List Rule) (stored : DbValue) (files : FilesView) (whole : SummaryValue) (entries : List Entry) → CountsTold line other rules stored files whole entries
+      → CountsTold line s rules stored files whole entries
+  counts-by rules stored files whole entries h = record {
+    entries = h.entries;
+    begin = h.begin;
+    portions = h.portions;
+    told = h.told;
+    run = h.run;
+    counts = h.counts;
+    is_whole = h.is_whole;
+  }
+
+  answers-by : (files : FilesView) (sides : Sides) (status : Status) (yield : Option Yield) → Answers line other files sides status yield → Answers line s files sides status yield
+  answers-by files sides status yield (answers_rules h) = answers_rules (record { name = h.name; named = h.named; text = h.text; told = h.told; bad = h.bad })
+  answers-by files sides status yield (answers_damage rules told uses h) = answers_damage rules told uses h
+  answers-by files sides status yield (answers_full rules stored told has h) = answers_full rules stored told has (record {
+    entries = h.entries;
+    begin = h.begin;
+    portions = h.portions;
+    told = h.told;
+    fills = h.fills;
+  })
+  answers-by files sides status yield (answers_generation rules stored whole entries told has h lacks) =
+      answers_generation rules stored whole entries told has (counts-by rules stored files whole entries h) lacks
+  answers-by files sides status yield (answers_done rules stored {yield = own} told has h room is) =
+      answers_done rules stored told has (counts-by rules stored files own.whole own.entries h) room (record { report = is.report; is_report = is.is_report; written = is.written })
+
+refused-by : (s : Settings) (jobs chunk : ℕ) (which : Which) (fault : FormatFault) → IsRefused s which fault → IsRefused (with_workers jobs chunk s) which fault
+refused-by s jobs chunk Log fault h = h
+refused-by s jobs chunk Date fault h = h
+refused-by s jobs chunk Time fault h = h
+
 -- what the law of answers says of settings
 abbrev pub OneAnswer : Type 0
 OneAnswer = (s : Settings) (line : LineSetup) → IsLineSetup s line → (files : FilesView) (sides : Sides) (a b : Status) (yielded other : Option Yield) → Answers line s files sides a yielded
     → Answers line s files sides b other → (a ≡ b) × (yielded ≡ other)
 
-module _ (answer : OneAnswer) (law : ReadAsTold) (database : OneDatabase) (words : List (List ℕ)) (sides : Sides) (a b : RunView) (u : IsUntroubled words sides a) (v : IsUntroubled words sides b)
-    (same : HaveSameInputs words a b) where
-  -- both ran over their inputs
-  module _ (s : Settings) (line : LineSetup) (says : WordsOf words (Ok s)) (is : IsLineSetup s line) where
+module _ (answer : OneAnswer) (law : ReadAsTold) (database : OneDatabase) (words words' : List (List ℕ)) (sides : Sides) (a b : RunView) (u : IsUntroubled words sides a)
+    (v : IsUntroubled words' sides b) (same : HaveSameInputs words a b) where
+  -- both ran over their inputs, by the same settings but for the workers
+  module _ (s : Settings) (line : LineSetup) (jobs chunk : ℕ) (says : WordsOf words (Ok s)) (is : IsLineSetup s line) (says' : WordsOf words' (Ok (with_workers jobs chunk s))) where
+    is' : IsLineSetup (with_workers jobs chunk s) line
+    is' = setup-by line s jobs chunk is
+
     shown-alike : (yield : Option Yield) → a.status ≡ b.status → Shows s a yield → Shows s b yield → Alike sides a b
     shown-alike None e (quiet, still) (quiet', still') =
-        alike database words sides a b u v b.status (nameless b.status (settled law database words sides s line says is b v b.status refl)) e refl None quiet quiet'
+        alike database words words' sides a b u v b.status (nameless b.status (settled law database words' sides (with_workers jobs chunk s) line says' is' b v b.status refl)) e refl None quiet quiet'
         (still-same database sides a b still still')
     shown-alike (Some yield) e (printed, left) (printed', left') =
-        alike database words sides a b u v b.status (nameless b.status (settled law database words sides s line says is b v b.status refl)) e refl
+        alike database words words' sides a b u v b.status (nameless b.status (settled law database words' sides (with_workers jobs chunk s) line says' is' b v b.status refl)) e refl
         (Some (report_file s.generate s.output.name, yield.text)) printed printed' (by left left')
       where
         by : Left s a yield → Left s b yield → a.old.disk.seen ≡ Some sides → b.old.disk.seen ≡ Some sides → SameDatabase a.new b.new
@@ -358,22 +417,50 @@ module _ (answer : OneAnswer) (law : ReadAsTold) (database : OneDatabase) (words
     both-alike : Alike sides a b
     both-alike =
         let (yield, answers-a, shows-a) = ended law database words sides s line says is a u in
-        let (other, answers-b, shows-b) = ended law database words sides s line says is b v in
-        let one = answer s line is a.old.files sides a.status b.status yield other answers-a (answers-along line s a.old.files b.old.files (same s says) sides b.status other answers-b) in
+        let (other, answers-b, shows-b) = ended law database words' sides (with_workers jobs chunk s) line says' is' b v in
+        let alike-b = answers-by line s jobs chunk b.old.files sides b.status other answers-b in
+        let one = answer s line is a.old.files sides a.status b.status yield other answers-a (answers-along line s a.old.files b.old.files (same s says) sides b.status other alike-b) in
         shown-alike yield one.0 shows-a (subst (λ (y : Option Yield). Shows s b y) (sym one.1) shows-b)
 
+-- both have the same words
+module _ (answer : OneAnswer) (law : ReadAsTold) (database : OneDatabase) (words : List (List ℕ)) (sides : Sides) (a b : RunView) (u : IsUntroubled words sides a) (v : IsUntroubled words sides b)
+    (same : HaveSameInputs words a b) where
   pub one-run : Alike sides a b
   one-run = by u.is_run.reads.decided
     where
       refused : AreRefused words → Alike sides a b
       refused (inl (fault, bad)) =
-          refused-alike database words sides a b u v (BadWords fault) (λ ws name e. e) (λ e. cc) (λ to at e. cc) ((u.is_run.reads.bad_words fault).1 (bad, u.fed)) ((v.is_run.reads.bad_words fault).1 (bad, v.fed))
+          refused-alike database words words sides a b u v (BadWords fault) (λ ws name e. e) (λ e. cc) (λ to at e. cc) ((u.is_run.reads.bad_words fault).1 (bad, u.fed)) ((v.is_run.reads.bad_words fault).1 (bad, v.fed))
           (u.is_run.reads.untouched (inl (fault, bad))) (v.is_run.reads.untouched (inl (fault, bad)))
       refused (inr (which, fault, bad)) =
-          refused-alike database words sides a b u v (BadFormat which fault) (λ ws name e. e) (λ e. cc) (λ to at e. cc) ((u.is_run.reads.bad_format which fault).1 (bad, u.fed))
+          refused-alike database words words sides a b u v (BadFormat which fault) (λ ws name e. e) (λ e. cc) (λ to at e. cc) ((u.is_run.reads.bad_format which fault).1 (bad, u.fed))
           ((v.is_run.reads.bad_format which fault).1 (bad, v.fed)) (u.is_run.reads.untouched (inr (which, fault, bad))) (v.is_run.reads.untouched (inr (which, fault, bad)))
 
       by : AreRefused words ⊎ HaveSetup words ⊎ (a.status ≡ NoMemory) → Alike sides a b
       by (inl h) = refused h
-      by (inr (inl (s, says, (line, is)))) = both-alike s line says is
+      by (inr (inl (s, says, (line, is)))) = both-alike answer law database words words sides a b u v same s line s.jobs s.chunk says is says
+      by (inr (inr e)) = absurd (u.fed e)
+
+-- their words say the same but for the workers
+module _ (reading : OneWords) (answer : OneAnswer) (law : ReadAsTold) (database : OneDatabase) (words words' : List (List ℕ)) (sides : Sides) (a b : RunView) (u : IsUntroubled words sides a)
+    (v : IsUntroubled words' sides b) (same : HaveSameInputs words a b) (say : DifferInWorkers words words') where
+  one-settings : (s : Settings) → WordsOf words (Ok s) → s ≡ say.settings
+  one-settings s says = let e = reading words (Ok s) (Ok say.settings) says say.says in cc
+
+  pub one-run-by : Alike sides a b
+  one-run-by = by u.is_run.reads.decided
+    where
+      refused : AreRefused words → Alike sides a b
+      refused (inl (fault, bad)) = let e = reading words (Ok say.settings) (Err fault) say.says bad in absurd (cc e)
+      refused (inr (which, fault, (s, says, bad))) =
+          let bad' : IsRefused say.settings which fault = subst (λ (s : Settings). IsRefused s which fault) (one-settings s says) bad in
+          let here : HaveRefused words which fault = (say.settings, say.says, bad') in
+          let there : HaveRefused words' which fault = (with_workers say.jobs say.chunk say.settings, say.says', refused-by say.settings say.jobs say.chunk which fault bad') in
+          refused-alike database words words' sides a b u v (BadFormat which fault) (λ ws name e. e) (λ e. cc) (λ to at e. cc) ((u.is_run.reads.bad_format which fault).1 (here, u.fed))
+          ((v.is_run.reads.bad_format which fault).1 (there, v.fed)) (u.is_run.reads.untouched (inr (which, fault, here))) (v.is_run.reads.untouched (inr (which, fault, there)))
+
+      by : AreRefused words ⊎ HaveSetup words ⊎ (a.status ≡ NoMemory) → Alike sides a b
+      by (inl h) = refused h
+      by (inr (inl (s, says, (line, is)))) =
+          both-alike answer law database words words' sides a b u v same say.settings line say.jobs say.chunk say.says (subst (λ (s : Settings). IsLineSetup s line) (one-settings s says) is) say.says'
       by (inr (inr e)) = absurd (u.fed e)

@@ -10,6 +10,10 @@ same-is (Ok s) (Err fault) same = absurd same
 same-is (Err fault) (Ok t) same = absurd same
 same-is (Err fault) (Err other) same = ap Err same
 
+-- what the law of words says of them
+abbrev pub OneWords : Type 0
+OneWords = (words : List (List ℕ)) (a b : Result Settings WordFault) → WordsOf words a → WordsOf words b → a ≡ b
+
 pub one-words : ((words : List (List ℕ)) (answer other : Result Settings WordFault) → WordsOf words answer → WordsOf words other → IsSame answer other)
-    → (words : List (List ℕ)) (a b : Result Settings WordFault) → WordsOf words a → WordsOf words b → a ≡ b
+    → OneWords
 one-words law words a b h k = same-is a b (law words a b h k)

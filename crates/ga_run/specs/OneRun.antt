@@ -43,6 +43,18 @@ abbrev pub HaveSameInputs : List (List ℕ) → RunView → RunView → Type 0
 HaveSameInputs words a b = (s : Settings) → WordsOf words (Ok s)
     → AllByRecursion (λ name. told name a.old.files.contents ≡ told name b.old.files.contents) (inputs_of s)
 
+-- the same settings but for the workers: other jobs, and other lines that a job takes at once
+abbrev pub with_workers : ℕ → ℕ → Settings → Settings
+with_workers jobs chunk s = record s { jobs = jobs; chunk = chunk }
+
+-- two command lines say the same settings but for the workers
+pub record DifferInWorkers (words words' : List (List ℕ)) : Type 0 where
+  pub settings : Settings
+  pub jobs : ℕ
+  pub chunk : ℕ
+  pub says : WordsOf words (Ok settings)
+  pub says' : WordsOf words' (Ok (with_workers jobs chunk settings))
+
 -- what a run wrote as its report: nothing, or a text to a file of some name or to standard output
 abbrev pub Wrote : Option (Option (List ℕ) × List ℕ) → OutsView → OutsView → Type 0
 Wrote None old new = new ≡ but_errors new old

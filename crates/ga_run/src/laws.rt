@@ -13,7 +13,7 @@ ghost use Rattle.ga_ports.specs.Outs.{OutsView};
 ghost use Rattle.ga_summary.specs.Rows.{SummaryValue};
 ghost use Rattle.ga_words.specs.WordsOf.{WordsOf};
 ghost use Rattle.ga_words.specs.declared.settings.Settings.{Settings as TheSettings};
-ghost use Rattle.ga_run.specs.OneRun.{Alike, HaveSameInputs, IsUntroubled, RunView, run_of};
+ghost use Rattle.ga_run.specs.OneRun.{Alike, DifferInWorkers, HaveSameInputs, IsUntroubled, RunView, run_of};
 ghost use Rattle.ga_run.specs.Reports.{IsTextOf};
 ghost use Rattle.ga_run.specs.Setups.{IsLineSetup, setup_of};
 ghost use Rattle.ga_run.specs.Steps.Setups.{ComeTo};
@@ -90,6 +90,22 @@ pub fn one_answer()
     one_portion();
     one_following();
     one_text();
+}
+
+/// A run ends alike by any workers: two runs whose words say the same but for `--jobs` and `--chunk-size`, over told files with
+/// the same contents and the same told sides, have one status, the same report in the same place, the same bytes written to
+/// standard error, and the same database, where no count of a fault rose and no memory was wanted.
+pub fn one_run_by_any_workers<D: Disk, E: Disk>()
+    ensures { (words words' : List (List ℕ)) (sides : Sides) (files files' others others' : FilesView) (disk disk' : D) (other other' : E)
+        (outs outs' targets targets' : OutsView) (status end : TheStatus)
+        → let a : RunView = run_of (world_of files (D.view disk) (D.images disk) outs) (world_of files' (D.view disk') (D.images disk') outs') status in
+        let b : RunView = run_of (world_of others (E.view other) (E.images other) targets) (world_of others' (E.view other') (E.images other') targets') end in
+        DifferInWorkers words words' → IsUntroubled words sides a → IsUntroubled words' sides b → HaveSameInputs words a b → Alike sides a b }
+{
+    one_answer();
+    one_database();
+    one_reading_of_words();
+    read_as_told();
 }
 
 /// Two runs with the same words, over told files with the same contents and the same told sides, end alike where no count of a

@@ -8,6 +8,7 @@ ghost use Rattle.ga_logs.specs.Following.{CanServe};
 ghost use Rattle.ga_print.specs.Json.{json_text};
 ghost use Rattle.ga_report.specs.Printable.{IsPrintable};
 ghost use Rattle.ga_store.specs.Reading.{db_value};
+ghost use Rattle.ga_streams.specs.Counting.{AreWorkers};
 ghost use Rattle.ga_summary.specs.Sound.{IsSummary};
 ghost use Rattle.ga_run.specs.Course.{HasCounted};
 ghost use Rattle.ga_run.specs.Printing.{report_file, target_of};
@@ -15,7 +16,7 @@ ghost use Rattle.ga_run.specs.Reports.{IsTextOf, text_as};
 ghost use Rattle.ga_run.specs.Run.{IsRun};
 ghost use Rattle.ga_run.specs.Statuses.{target_name};
 ghost use Rattle.ga_run.specs.World.{world_of};
-ghost use Rattle.ga_run.specs.Steps.Run.{CountedValue, EndsInputs, EndsLast, EndsReport, EndsRun, IsReady, NoFileFailed, StopsCounting, failed_name, input_name};
+ghost use Rattle.ga_run.specs.Steps.Run.{CountedValue, EndsInputs, EndsLast, EndsReport, EndsRun, IsReady, NoFileFailed, StopsCounting, failed_name, input_name, workers_said};
 
 use crate::faults::tell;
 use crate::printing::deliver;
@@ -31,14 +32,16 @@ use ga_logs::count_logs;
 use ga_logs::laws::read_as_told;
 use ga_outcomes::Setup;
 use ga_ports::laws::files_stay;
-use ga_ports::{Files, Outs, To};
+use ga_ports::{Files, Gate, Outs, To};
 use ga_print::{csv, json};
 use ga_report::{Report, rows};
 use ga_store::Db;
+use ga_streams::Workers;
 use ga_summary::Summary;
 use ga_words::laws::one_reading;
 use ga_words::{Kind, Settings, read_words};
 use std::alloc::Global;
+use std::thread::Threads;
 
 /// What a run counted, and what it began with.
 #[derive(Debug, Drop)]
@@ -57,13 +60,16 @@ struct Counted {
 ///
 /// The browsers file is read first, where one is named; then the database is recovered, where it is used, and the logs are
 /// counted in their order, each opened once. With `--persist` the run is kept; then the report goes where `-o` says. With any
-/// status but `Done` a fault line goes to standard error.
-pub fn goaccess_run<F: Files, D: Disk, O: Outs>(
+/// status but `Done` a fault line goes to standard error. Lines are counted by as many threads as `--jobs` says; nothing that
+/// the run does depends on how many they are, on which of them takes which lines, or on the gate that they ask.
+pub fn goaccess_run<R: Threads + Sync, F: Files, D: Disk, O: Outs, G: Gate>(
+    rt: &R,
     alloc: Global,
     words: &[Text],
     files: &mut F,
     disk: &mut D,
     outs: &mut O,
+    gate: &G,
 ) -> Status
     ensures { IsRun words.now
         (world_of (F.view files.old) (D.view disk.old) (D.images disk.old) (O.view outs.old))
@@ -80,7 +86,7 @@ pub fn goaccess_run<F: Files, D: Disk, O: Outs>(
             status
         }
         Ok(settings) => {
-            let status = run_settings(alloc, &settings, files, disk, outs);
+            let status = run_settings(rt, gate, alloc, &settings, files, disk, outs);
             tell(outs, failed_name(&settings, &status), &status);
             status
         }
@@ -135,7 +141,9 @@ fn report_file(settings: &Settings) -> Option<&Text>
 }
 
 /// Runs as the settings say: their formats first, then the inputs.
-fn run_settings<F: Files, D: Disk, O: Outs>(
+fn run_settings<R: Threads + Sync, G: Gate, F: Files, D: Disk, O: Outs>(
+    rt: &R,
+    gate: &G,
     alloc: Global,
     settings: &Settings,
     files: &mut F,
@@ -147,14 +155,16 @@ fn run_settings<F: Files, D: Disk, O: Outs>(
         (world_of (F.view files.new) (D.view disk.new) (D.images disk.new) (O.view outs.new)) result }
 {
     match line_setup(alloc, settings) {
-        Ok(line) => run_inputs(alloc, line, settings, files, disk, outs),
+        Ok(line) => run_inputs(rt, gate, alloc, line, settings, files, disk, outs),
         Err(SetupFault::Refused { which, fault }) => Status::BadFormat { which, fault },
         Err(SetupFault::NoMemory) => Status::NoMemory,
     }
 }
 
 /// Reads the inputs that the settings name, keeps the run and delivers the report.
-fn run_inputs<F: Files, D: Disk, O: Outs>(
+fn run_inputs<R: Threads + Sync, G: Gate, F: Files, D: Disk, O: Outs>(
+    rt: &R,
+    gate: &G,
     alloc: Global,
     line: LineSetup,
     settings: &Settings,
@@ -176,14 +186,16 @@ fn run_inputs<F: Files, D: Disk, O: Outs>(
         return Status::NoMemory;
     };
     let setup = Setup { line, panels };
-    match count(alloc, &setup, settings, files, disk) {
+    match count(rt, gate, alloc, &setup, settings, files, disk) {
         Ok(counted) => finish(alloc, settings, &counted, disk, outs),
         Err(status) => status,
     }
 }
 
 /// Finds the database, where it is used, and counts the logs from there on.
-fn count<F: Files, D: Disk>(
+fn count<R: Threads + Sync, G: Gate, F: Files, D: Disk>(
+    rt: &R,
+    gate: &G,
     alloc: Global,
     setup: &Setup,
     settings: &Settings,
@@ -202,8 +214,11 @@ fn count<F: Files, D: Disk>(
     sound(&stored.summary);
     let names = settings.logs.items();
     let run = count_logs(
+        rt,
+        gate,
         alloc,
         setup,
+        workers_of(settings),
         start,
         settings.generate,
         names,
@@ -217,6 +232,17 @@ fn count<F: Files, D: Disk>(
         whole,
         entries,
     })
+}
+
+/// Who counts lines, as the settings say. The words of a command line give no others than there may be.
+fn workers_of(settings: &Settings) -> Workers
+    ensures value { AreWorkers (workers_said settings.now) → result ≡ workers_said settings.now }
+    ensures within { AreWorkers result }
+{
+    Workers {
+        jobs: settings.jobs.clamp(1, 16),
+        chunk: settings.chunk.clamp(1, 32_768),
+    }
 }
 
 /// Each summary is sound.

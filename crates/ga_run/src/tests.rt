@@ -1,13 +1,15 @@
 use crate::{Status, goaccess_run};
 use ga_base::{NoMemory, Text, Texts};
 use ga_disk::{Disk, MemDisk};
-use ga_ports::{MemFiles, MemOuts, To};
+use ga_ports::{MemFiles, MemOuts, NoGate, To};
 use std::alloc::Global;
 use std::test::Fail;
+use std::thread::Threads;
 
 mod faults;
 mod histories;
 mod reports;
+mod workers;
 
 /// The names of a case's files, in the order in which it has them.
 const NAMES: [&str; 3] = ["a.log", "b.log", "agents.txt"];
@@ -28,22 +30,34 @@ impl World {
     }
 
     /// How a run ends, and what its targets took.
-    fn run(&mut self, alloc: Global, words: &str) -> Result<(Status, MemOuts), NoMemory> {
+    fn run<R: Threads + Sync>(
+        &mut self,
+        rt: &R,
+        alloc: Global,
+        words: &str,
+    ) -> Result<(Status, MemOuts), NoMemory> {
         let words = words_of(alloc, words)?;
         let mut outs = MemOuts::new(alloc);
         let status = goaccess_run(
+            rt,
             alloc,
             words.items(),
             &mut self.files,
             &mut self.disk,
             &mut outs,
+            &NoGate::new(),
         );
         Ok((status, outs))
     }
 
     /// The exit status of a run, and what all its targets took.
-    fn answer(&mut self, alloc: Global, words: &str) -> Result<Vec<u8>, NoMemory> {
-        let (status, outs) = self.run(alloc, words)?;
+    fn answer<R: Threads + Sync>(
+        &mut self,
+        rt: &R,
+        alloc: Global,
+        words: &str,
+    ) -> Result<Vec<u8>, NoMemory> {
+        let (status, outs) = self.run(rt, alloc, words)?;
         let mut answer = Vec::new(alloc);
         let code = format!(in alloc; "{}\n", status.code())?;
         answer.extend_from_slice(code.as_bytes())?;
@@ -53,8 +67,14 @@ impl World {
         Ok(answer)
     }
 
-    /// Takes one step of a history: whether it comes out as it says.
-    fn step(&mut self, alloc: Global, step: &str) -> Result<bool, NoMemory> {
+    /// Takes one step of a history, each run by these workers: whether it comes out as it says.
+    fn step<R: Threads + Sync>(
+        &mut self,
+        rt: &R,
+        alloc: Global,
+        workers: &str,
+        step: &str,
+    ) -> Result<bool, NoMemory> {
         let Some((head, rest)) = step.split_once("\n-----\n") else {
             return Ok(false);
         };
@@ -68,7 +88,8 @@ impl World {
                 .rename(&Text::of(alloc, from)?, &Text::of(alloc, to)?)?;
             return Ok(true);
         }
-        Ok(self.answer(alloc, head)?.as_slice() == rest.as_bytes())
+        let words = format!(in alloc; "{workers}{head}")?;
+        Ok(self.answer(rt, alloc, &words)?.as_slice() == rest.as_bytes())
     }
 }
 
@@ -92,8 +113,23 @@ fn world_of(alloc: Global, contents: &str) -> Result<World, NoMemory> {
     Ok(world)
 }
 
-/// Whether a case ends as it says.
-fn ends_as_said(alloc: Global, case: &str) -> Result<bool, NoMemory> {
+/// How many jobs count, and how many lines each takes at once: as many as a run has where no word says it, and others.
+const WORKERS: [&str; 6] = [
+    "",
+    "--jobs=2|--chunk-size=1|",
+    "--jobs=2|",
+    "--jobs=2|--chunk-size=32768|",
+    "--jobs=16|--chunk-size=1|",
+    "--jobs=16|--chunk-size=32768|",
+];
+
+/// Whether a case ends as it says, by these workers.
+fn ends_as_said<R: Threads + Sync>(
+    rt: &R,
+    alloc: Global,
+    workers: &str,
+    case: &str,
+) -> Result<bool, NoMemory> {
     let Some((words, rest)) = case.split_once("\n-----\n") else {
         return Ok(false);
     };
@@ -101,27 +137,35 @@ fn ends_as_said(alloc: Global, case: &str) -> Result<bool, NoMemory> {
         return Ok(false);
     };
     let mut world = world_of(alloc, contents)?;
-    Ok(world.answer(alloc, words)?.as_slice() == answer.as_bytes())
+    let words = format!(in alloc; "{workers}{words}")?;
+    Ok(world.answer(rt, alloc, &words)?.as_slice() == answer.as_bytes())
 }
 
-/// The first case that ends otherwise than it says, or says nothing.
-fn first_wrong(alloc: Global, cases: &'static str) -> Result<Option<&'static str>, NoMemory> {
+/// The first case that ends otherwise than it says by these workers, or says nothing.
+fn first_wrong<R: Threads + Sync>(
+    rt: &R,
+    alloc: Global,
+    workers: &str,
+    cases: &'static str,
+) -> Result<Option<&'static str>, NoMemory> {
     for case in cases.split("\n=====\n") {
-        if !ends_as_said(alloc, case)? {
+        if !ends_as_said(rt, alloc, workers, case)? {
             return Ok(Some(case));
         }
     }
     Ok(None)
 }
 
-/// The first step of a history that comes out otherwise than it says.
-fn first_wrong_step(
+/// The first step of a history that comes out otherwise than it says, by these workers.
+fn first_wrong_step<R: Threads + Sync>(
+    rt: &R,
     alloc: Global,
+    workers: &str,
     history: &'static str,
 ) -> Result<Option<&'static str>, NoMemory> {
     let mut world = World::new(alloc);
     for step in history.split("\n~~~~~\n") {
-        if !world.step(alloc, step)? {
+        if !world.step(rt, alloc, workers, step)? {
             return Ok(Some(step));
         }
     }
@@ -130,15 +174,25 @@ fn first_wrong_step(
 
 #[test]
 fn runs_answer_as_worked_out(rt: HostRuntime) -> Result<(), Fail> {
-    assert_eq!(rt; first_wrong(rt.alloc(), reports::REPORTS)?, None);
-    assert_eq!(rt; first_wrong(rt.alloc(), faults::FAULTS)?, None);
+    let alloc = rt.alloc();
+    for workers in WORKERS {
+        assert_eq!(rt; first_wrong(&rt, alloc, workers, reports::REPORTS)?, None);
+        assert_eq!(rt;
+            first_wrong(&rt, alloc, workers, faults::FILE_FAULTS)?,
+            None
+        );
+    }
+    assert_eq!(rt; first_wrong(&rt, alloc, "", faults::WORD_FAULTS)?, None);
     Ok(())
 }
 
 #[test]
 fn tracked_runs_answer_as_worked_out(rt: HostRuntime) -> Result<(), Fail> {
-    for history in histories::HISTORIES.split("\n=====\n") {
-        assert_eq!(rt; first_wrong_step(rt.alloc(), history)?, None);
+    let alloc = rt.alloc();
+    for workers in WORKERS {
+        for history in histories::HISTORIES.split("\n=====\n") {
+            assert_eq!(rt; first_wrong_step(&rt, alloc, workers, history)?, None);
+        }
     }
     Ok(())
 }
@@ -147,7 +201,7 @@ fn tracked_runs_answer_as_worked_out(rt: HostRuntime) -> Result<(), Fail> {
 fn makes_the_reports_file_once(rt: HostRuntime) -> Result<(), Fail> {
     let alloc = rt.alloc();
     let mut world = world_of(alloc, "")?;
-    let (_, outs) = world.run(alloc, "--log-format=COMMON|-o|out.csv|a.log")?;
+    let (_, outs) = world.run(&rt, alloc, "--log-format=COMMON|-o|out.csv|a.log")?;
     let name = Text::of(alloc, "out.csv")?;
     assert_eq!(rt; outs.times_made(), 1);
     assert_eq!(rt; outs.last_made(), Some(&name));
@@ -163,7 +217,8 @@ fn a_run_whose_output_fails_is_kept(rt: HostRuntime) -> Result<(), Fail> {
     let mut outs = MemOuts::new(alloc);
     outs.set_room(To::Stdout, 10);
     let World { files, disk } = &mut world;
-    let status = goaccess_run(alloc, words.items(), files, disk, &mut outs);
+    let gate = NoGate::new();
+    let status = goaccess_run(&rt, alloc, words.items(), files, disk, &mut outs, &gate);
     let (to, at) = (To::Stdout, 10);
     assert_eq!(rt; status, Status::OutFault { to, at });
     assert_eq!(rt; str::from_utf8(outs.taken(To::Stdout)), Ok("{\"browsers"));
@@ -178,7 +233,7 @@ fn a_damaged_side_is_told(rt: HostRuntime) -> Result<(), Fail> {
     let mut world = world_of(alloc, "")?;
     world.disk.open(&Text::of(alloc, "/tmp")?)?;
     world.disk.write_at(0, 0, b"O and no database")?;
-    let answer = world.answer(alloc, "--restore")?;
+    let answer = world.answer(&rt, alloc, "--restore")?;
     assert_eq!(rt;
         str::from_utf8(&answer),
         Ok("6\ngoaccess: database: side 0 damaged at 1\n")

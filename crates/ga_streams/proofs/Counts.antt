@@ -1,5 +1,5 @@
 -- Lines counted behind lines.
-use Rattle.std.proofs.Common.{◌≡◌, ℕ, Bool, false, List, [], ◌∷◌, ◌++◌, Option, Some, None, refl, sym, ap, ◌∙◌, subst, arith, append_assoc}
+use Rattle.std.proofs.Common.{◌≡◌, ℕ, Bool, false, List, [], ◌∷◌, ◌++◌, length, Option, Some, None, refl, sym, ap, ◌∙◌, subst, arith, append_assoc}
 use Rattle.std.proofs.lemmas.List.Elements.{All-append}
 use Rattle.std.proofs.lemmas.Bool.{true≢false}
 use Rattle.std.specs.Prelude.{All, is_some}
@@ -114,3 +114,21 @@ fills-behind setup start before all old which total was h = record {
 pub unfilled-by : (o : Option Full) (b : Bool) → b ≡ is_some o → b ≡ false → o ≡ None
 unfilled-by None b is not = refl
 unfilled-by (Some full) b is not = absurd (true≢false (sym is ∙ not))
+
+-- ---- no lines at all
+
+no-outcomes : (os : List Outcome) → length os ≡ 0 → [] ≡ os
+no-outcomes [] none = refl
+no-outcomes (o ∷ os) none = absurd (omega (arith, none))
+
+-- what is a tally of no lines stands for what was one of none
+pub has-fresh : (setup : Setup) (start : Totals) (before : List (List ℕ)) (old new : TallySeen) → old.totals.lines ≡ 0 → IsTallyOf [] new → (o : Option Full)
+    → HasCountedBy o setup start before old → HasCountedBy o setup start before new
+has-fresh setup start before old new none is (Some full) h = h
+has-fresh setup start before old new none is None h = record {
+  outcomes = h.outcomes;
+  come = h.come;
+  countable = h.countable;
+  fits = h.fits;
+  tally = subst (λ (os : List Outcome). IsTallyOf os new) (no-outcomes h.outcomes (sym (ap (λ (t : Totals). t.lines) h.tally.totals) ∙ none)) is;
+}

@@ -1,9 +1,12 @@
 -- What only the contracts of private functions and their proofs say.
 use Rattle.std.specs.Prelude.{◌<◌, ℕ, length, ◌-◌, ◌/◌, ◌%◌, ◌==◌, Bool, true, false, List, ◌++◌, filter, map, if◌then◌else◌}
+use Rattle.std.specs.Hash as hash
+use Rattle.std.specs.Hash.DefaultHasher.{finish, initial, write}
 use Rattle.ga_batches.specs.Batches.{BatcherSeen, held}
 use Rattle.ga_outcomes.specs.declared.setup.Setup.{Setup}
 use Rattle.ga_pool.specs.Batches.{CountsBatch}
 use Rattle.ga_pool.specs.declared.counted.Counted.{Counted}
+use Rattle.ga_shards.specs.declared.keyed.Keyed.{Keyed}
 use Rattle.ga_streams.specs.Counting.{CountingSeen, HasCounted}
 use Rattle.ga_summary.specs.Rows.{totals_plus}
 
@@ -32,3 +35,9 @@ TakesIn old new counted = (setup : Setup) (before all : List (List ℕ)) → Cou
 -- a batcher can take a byte more
 abbrev pub HasRoom : BatcherSeen → Type 0
 HasRoom b = length (held b) < b.limit
+
+-- the words of a digest of the first bytes, and of the same with the size
+abbrev pub keyed_from : List ℕ → ℕ → Keyed
+keyed_from front size =
+    let read = write initial front in
+    record { first = finish read; second = finish (write read (hash.le_bytes 8 size)) }

@@ -10,6 +10,7 @@ ghost use Rattle.ga_summary.specs.Limits.{LinesAdd};
 ghost use Rattle.ga_summary.specs.Rows.{totals_plus};
 ghost use Rattle.ga_summary.specs.Sound.{TotalsFit};
 
+use crate::keys::keyed_by;
 use crate::tables::{pairs_in, sums_in};
 use crate::{CountingFault, Full, Workers};
 use ga_base::{NoMemory, Totals};
@@ -18,7 +19,7 @@ use ga_pool::{Counted, PoolFault, count_batch};
 use ga_ports::Gate;
 use ga_shards::Keyed;
 use ga_summary::Summary;
-use ga_totals::Total;
+use ga_totals::{Total, plus};
 use std::alloc::Global;
 use std::marker::Model;
 use std::thread::Threads;
@@ -29,7 +30,7 @@ pub struct Counting {
     alloc: Global,
     /// How batches are counted.
     workers: Workers,
-    /// How maps hash.
+    /// How maps hash: by what stands in the first batch.
     keyed: Keyed,
     /// What the counters began at.
     start: Totals,
@@ -58,13 +59,14 @@ impl Model for Counting {
 
 impl Counting {
     /// Nothing is counted yet. The counters begin at `start`, and none may pass `LIMIT`.
-    pub fn new(alloc: Global, workers: Workers, keyed: Keyed, start: Totals) -> Counting
+    pub fn new(alloc: Global, workers: Workers, start: Totals) -> Counting
         requires workers { AreWorkers workers }
         requires fit { TotalsFit start }
         requires lines { LinesAdd start }
         ensures start { result.start ≡ start }
         ensures none { (setup : TheSetup) → HasCounted setup [] result }
     {
+        let keyed = keyed_by(b"");
         Counting {
             alloc,
             workers,
@@ -77,6 +79,33 @@ impl Counting {
 
     /// Counts the lines of a batch, the last also where no line feed ends it.
     pub fn count<R: Threads + Sync, G: Gate>(
+        &mut self,
+        rt: &R,
+        gate: &G,
+        setup: &Setup,
+        batch: &[u8],
+    ) -> Result<(), NoMemory>
+        requires { length batch.now ≤ 2 ^ 24 }
+        ensures start { OnOk result (self.new.start ≡ self.old.start) }
+        ensures counted { OnOk result ((before : List (List ℕ)) → HasCounted setup.now before self.old → HasCounted setup.now (before ++ lines batch.now true) self.new) }
+    {
+        self.rekey(batch);
+        self.count_on(rt, gate, setup, batch)
+    }
+
+    /// Lets maps hash by what stands in this batch, as long as no line was counted.
+    fn rekey(&mut self, batch: &[u8])
+        ensures start { self.new.start ≡ self.old.start }
+        ensures counted { (setup : TheSetup) (before : List (List ℕ)) → HasCounted setup before self.old → HasCounted setup before self.new }
+    {
+        if self.total.totals().lines == 0 {
+            self.keyed = keyed_by(batch);
+            self.total = Total::new(self.alloc, self.keyed);
+        }
+    }
+
+    /// Counts the lines of a batch, behind those that were counted.
+    fn count_on<R: Threads + Sync, G: Gate>(
         &mut self,
         rt: &R,
         gate: &G,
@@ -125,6 +154,13 @@ impl Counting {
         }
     }
 
+    /// The counter that the lines fill, where they fill one.
+    pub fn full(&self) -> Option<Full>
+        ensures { result ≡ self.now.full }
+    {
+        self.full
+    }
+
     /// The sum of all lines that were counted.
     pub fn sum(&self) -> Result<Summary, CountingFault>
         ensures ok { IfOk result (λ sum. (setup : TheSetup) (all : List (List ℕ)) → HasCounted setup all self.now → CountsLines setup self.now.start all sum) }
@@ -135,21 +171,5 @@ impl Counting {
             Some(full) => Err(CountingFault::Full(full)),
             None => Ok(self.total.summary(self.alloc)?),
         }
-    }
-}
-
-/// The counters of both together.
-fn plus(a: Totals, b: Totals) -> Totals
-    requires fit { TotalsFit (totals_plus a b) }
-    requires lines { LinesAdd a × LinesAdd b }
-    ensures { result ≡ totals_plus a b }
-{
-    Totals {
-        lines: a.lines + b.lines,
-        failed: a.failed + b.failed,
-        excluded: a.excluded + b.excluded,
-        hits: a.hits + b.hits,
-        bytes: a.bytes + b.bytes,
-        micros: a.micros + b.micros,
     }
 }

@@ -6,6 +6,7 @@
 
 mod counting;
 mod full;
+mod keys;
 pub mod laws;
 mod streams;
 mod tables;

@@ -9,7 +9,7 @@ mod rows;
 mod taking;
 mod total;
 
-pub use total::Total;
+pub use total::{Total, plus};
 
 #[cfg(test)]
 mod tests;

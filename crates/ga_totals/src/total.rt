@@ -124,8 +124,8 @@ impl Total {
     }
 }
 
-/// Both together.
-fn plus(a: Totals, b: Totals) -> Totals
+/// The counters of both together, of two whose sum passes no limit.
+pub fn plus(a: Totals, b: Totals) -> Totals
     requires fit { TotalsFit (totals_plus a b) }
     requires lines { LinesAdd a × LinesAdd b }
     ensures value { result ≡ totals_plus a b }

@@ -24,5 +24,12 @@ fn main(rt: HostRuntime) -> ExitCode {
     let mut files = RealFiles::new(&rt);
     let mut disk = RealDisk::new(&rt, rt.alloc());
     let mut outs = RealOuts::new(&rt, &stdout, &stderr);
-    program(rt.alloc(), env::args(&rt), &mut files, &mut disk, &mut outs)
+    program(
+        &rt,
+        rt.alloc(),
+        env::args(&rt),
+        &mut files,
+        &mut disk,
+        &mut outs,
+    )
 }

@@ -11,16 +11,18 @@ use crate::answers::{answer_to, show};
 use crate::words::{WordsFault, words};
 use ga_base::Texts;
 use ga_disk::Disk;
-use ga_ports::{Files, Outs, To};
+use ga_ports::{Files, NoGate, Outs, To};
 use ga_run::{goaccess_run, print};
 use std::alloc::Global;
 use std::env::Args;
 use std::io;
 use std::process::ExitCode;
+use std::thread::Threads;
 
 /// The program over the arguments of its command line, if they can be had, and over these files, this disk and these
-/// targets. The exit status is that of the answer or the run.
-pub fn program<F: Files, D: Disk, O: Outs>(
+/// targets. The exit status is that of the answer or the run. A run's lines are counted by threads of `rt`.
+pub fn program<R: Threads + Sync, F: Files, D: Disk, O: Outs>(
+    rt: &R,
     alloc: Global,
     arguments: io::Result<Args>,
     files: &mut F,
@@ -36,7 +38,7 @@ pub fn program<F: Files, D: Disk, O: Outs>(
 {
     let code = match arguments {
         Ok(given) => match words(alloc, given) {
-            Ok(words) => over_words(alloc, &words, files, disk, outs),
+            Ok(words) => over_words(rt, alloc, &words, files, disk, outs),
             Err(_) => without_words(outs, WordsFault::NoMemory),
         },
         Err(error) => without_words(outs, WordsFault::from(error)),
@@ -45,7 +47,8 @@ pub fn program<F: Files, D: Disk, O: Outs>(
 }
 
 /// Answers of itself, or runs, as the words say.
-fn over_words<F: Files, D: Disk, O: Outs>(
+fn over_words<R: Threads + Sync, F: Files, D: Disk, O: Outs>(
+    rt: &R,
     alloc: Global,
     words: &Texts,
     files: &mut F,
@@ -58,7 +61,10 @@ fn over_words<F: Files, D: Disk, O: Outs>(
 {
     match answer_to(words.items()) {
         Some(answer) => show(outs, answer),
-        None => goaccess_run(alloc, words.items(), files, disk, outs).code(),
+        None => {
+            let gate = NoGate::new();
+            goaccess_run(rt, alloc, words.items(), files, disk, outs, &gate).code()
+        }
     }
 }
 

@@ -31,6 +31,7 @@ use Rattle.ga_store.specs.Reading.{db_value}
 use Rattle.ga_store.specs.declared.db.Db.{Db}
 use Rattle.ga_store.specs.declared.fault.StoreFault.{StoreFault}
 use Rattle.ga_store.specs.declared.fault.StoreFault.TheVariants.{CounterFull as StoreFull, Damaged, DiskFault as StoreFailed, NoMemory as StoreNoMemory}
+use Rattle.ga_streams.specs.declared.workers.Workers.{Workers}
 use Rattle.ga_words.specs.declared.fault.WordFault.{WordFault}
 use Rattle.ga_words.specs.declared.fault.WordFault.TheVariants.{NoMemory as WordNoMemory}
 use Rattle.ga_words.specs.declared.settings.Settings.{Settings}
@@ -62,6 +63,11 @@ failed_name s (FileFault file) = input_name s file
 failed_name s (FileShort file at) = input_name s file
 failed_name s (OutFault to at) = target_name (report_file s.generate s.output.name)
 failed_name s _ = []
+
+-- ---- who counts
+
+abbrev pub workers_said : Settings → Workers
+workers_said s = record { jobs = s.jobs; chunk = s.chunk }
 
 -- ---- statuses of faults
 

@@ -1,8 +1,8 @@
-/// Runs that fail, a line of `=` between two: the words with a bar between two; the files `a.log`, `b.log` and
+/// Runs whose words say no run, in the form of `REPORTS`: the words with a bar between two; the files `a.log`, `b.log` and
 /// `agents.txt`, as many as are there, a line of `+` between two; and what the run answers, which is its exit status and
-/// then what standard output, standard error and the report's file took. The answers were worked out by a program in
-/// another language.
-pub const FAULTS: &str = "\
+/// then what standard output, standard error and the report's file took. A line of `=` stands between two runs. The answers
+/// were worked out by a program in another language.
+pub const WORD_FAULTS: &str = "\
 --browsers-file=agents.txt|--log-format=COMMON|-o|csv|a.log
 -----
 192.0.2.1 - - [01/Jan/2024:00:00:00 +0000] \"GET /a HTTP/1.1\" 200 10
@@ -16,24 +16,6 @@ Foo
 -----
 1
 goaccess: browsers file, line 2: not a rule
-
-=====
--o|nothing.csv|--log-format=COMMON|a.log|nothing.log
------
-192.0.2.1 - - [01/Jan/2024:00:00:00 +0000] \"GET /a HTTP/1.1\" 200 10
-
------
-2
-goaccess: nothing.log: read failed
-
-=====
---log-format=COMMON|-o|csv|--browsers-file=nothing.txt|a.log
------
-192.0.2.1 - - [01/Jan/2024:00:00:00 +0000] \"GET /a HTTP/1.1\" 200 10
-
------
-2
-goaccess: nothing.txt: read failed
 
 =====
 --log-format=COMMON|--date-format=%d|--browsers-file=nothing.txt|a.log
@@ -52,34 +34,6 @@ goaccess: date format, byte 2: bad directive
 -----
 1
 goaccess: log format, byte 0: no delimiter
-
-=====
---log-format=COMMON|a.log|nothing.log
------
-192.0.2.1 - - [01/Jan/2024:00:00:00 +0000] \"GET /a HTTP/1.1\" 200 1000000000000000000
-192.0.2.1 - - [01/Jan/2024:00:00:00 +0000] \"GET /a HTTP/1.1\" 200 1000000000000000000
-192.0.2.1 - - [01/Jan/2024:00:00:00 +0000] \"GET /a HTTP/1.1\" 200 1000000000000000000
-192.0.2.1 - - [01/Jan/2024:00:00:00 +0000] \"GET /a HTTP/1.1\" 200 1000000000000000000
-192.0.2.1 - - [01/Jan/2024:00:00:00 +0000] \"GET /a HTTP/1.1\" 200 1000000000000000000
-
------
-5
-goaccess: counter full: bytes 5000000000000000000
-
-=====
---log-format=COMMON|a.log|b.log
------
-192.0.2.1 - - [01/Jan/2024:00:00:00 +0000] \"GET /a HTTP/1.1\" 200 1000000000000000000
-192.0.2.1 - - [01/Jan/2024:00:00:00 +0000] \"GET /a HTTP/1.1\" 200 1000000000000000000
-192.0.2.1 - - [01/Jan/2024:00:00:00 +0000] \"GET /a HTTP/1.1\" 200 1000000000000000000
-
-+++++
-192.0.2.1 - - [01/Jan/2024:00:00:00 +0000] \"GET /a HTTP/1.1\" 200 1000000000000000000
-192.0.2.1 - - [01/Jan/2024:00:00:00 +0000] \"GET /a HTTP/1.1\" 200 1000000000000000000
-
------
-5
-goaccess: counter full: bytes 5000000000000000000
 
 =====
 --bogus
@@ -264,4 +218,66 @@ goaccess: word 0: conflict
 -----
 1
 goaccess: log format: no date
+";
+
+/// Runs that fail over their files, in the same form.
+pub const FILE_FAULTS: &str = "\
+-o|nothing.csv|--log-format=COMMON|a.log|nothing.log
+-----
+192.0.2.1 - - [01/Jan/2024:00:00:00 +0000] \"GET /a HTTP/1.1\" 200 10
+
+-----
+2
+goaccess: nothing.log: read failed
+
+=====
+--log-format=COMMON|-o|csv|--browsers-file=nothing.txt|a.log
+-----
+192.0.2.1 - - [01/Jan/2024:00:00:00 +0000] \"GET /a HTTP/1.1\" 200 10
+
+-----
+2
+goaccess: nothing.txt: read failed
+
+=====
+--log-format=COMMON|a.log|nothing.log
+-----
+192.0.2.1 - - [01/Jan/2024:00:00:00 +0000] \"GET /a HTTP/1.1\" 200 1000000000000000000
+192.0.2.1 - - [01/Jan/2024:00:00:00 +0000] \"GET /a HTTP/1.1\" 200 1000000000000000000
+192.0.2.1 - - [01/Jan/2024:00:00:00 +0000] \"GET /a HTTP/1.1\" 200 1000000000000000000
+192.0.2.1 - - [01/Jan/2024:00:00:00 +0000] \"GET /a HTTP/1.1\" 200 1000000000000000000
+192.0.2.1 - - [01/Jan/2024:00:00:00 +0000] \"GET /a HTTP/1.1\" 200 1000000000000000000
+
+-----
+5
+goaccess: counter full: bytes 5000000000000000000
+
+=====
+--log-format=COMMON|a.log|b.log
+-----
+192.0.2.1 - - [01/Jan/2024:00:00:00 +0000] \"GET /a HTTP/1.1\" 200 1000000000000000000
+192.0.2.1 - - [01/Jan/2024:00:00:00 +0000] \"GET /a HTTP/1.1\" 200 1000000000000000000
+192.0.2.1 - - [01/Jan/2024:00:00:00 +0000] \"GET /a HTTP/1.1\" 200 1000000000000000000
+
++++++
+192.0.2.1 - - [01/Jan/2024:00:00:00 +0000] \"GET /a HTTP/1.1\" 200 1000000000000000000
+192.0.2.1 - - [01/Jan/2024:00:00:00 +0000] \"GET /a HTTP/1.1\" 200 1000000000000000000
+
+-----
+5
+goaccess: counter full: bytes 5000000000000000000
+
+=====
+--log-format=COMMON|a.log
+-----
+192.0.2.1 - - [01/Jan/2024:00:00:00 +0000] \"GET /a HTTP/1.1\" 200 1000000000000000000
+192.0.2.1 - - [01/Jan/2024:00:00:00 +0000] \"GET /a HTTP/1.1\" 200 1000000000000000000
+192.0.2.1 - - [01/Jan/2024:00:00:00 +0000] \"GET /a HTTP/1.1\" 200 1000000000000000000
+192.0.2.1 - - [01/Jan/2024:00:00:00 +0000] \"GET /a HTTP/1.1\" 200 1000000000000000000
+192.0.2.1 - - [01/Jan/2024:00:00:00 +0000] \"GET /a HTTP/1.1\" 200 1000000000000000000
+192.0.2.1 - - [01/Jan/2024:00:00:00 +0000] \"GET /a HTTP/1.1\" 200 1000000000000000000
+
+-----
+5
+goaccess: counter full: bytes 5000000000000000000
 ";

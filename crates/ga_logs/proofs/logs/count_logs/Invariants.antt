@@ -1,6 +1,6 @@
 use Rattle.std.proofs.Common.{◌≤◌, length, take}
 use Rattle.ga_ports.specs.Stretch.{FilesWent}
-use Rattle.ga_logs.specs.Logs.{CountsLogs}
+use Rattle.ga_logs.specs.Steps.Logs.{HasCountedLogs}
 use Rattle.ga_logs.proofs.logs.count_logs.Given as goal
 
 abbrev pub invariant-loop-place : goal.invariant-loop-place
@@ -8,6 +8,6 @@ invariant-loop-place g l =
     let view = g.F.Files.view in
     record {
       within : l.place ≤ length l.names;
-      counted : CountsLogs l.setup l.start l.fn.generated (take l.place l.names) l.initial.entries l.entries (view l.initial.files) (view l.files) l.summary;
+      counted : HasCountedLogs l.setup l.start l.fn.generated (take l.place l.names) l.initial.entries l.entries (view l.initial.files) (view l.files) l.counting;
       went : FilesWent (view l.initial.files) (view l.files);
     }

@@ -8,8 +8,5 @@ returns-in_err-count-clause-calls g c = one_files_call (read_call c.read_at.ensu
 pub returns-then-count-eq0-clause-calls : goal.returns-then-count-eq0-clause-calls
 returns-then-count-eq0-clause-calls g c = one_files_call (read_call c.read_at.ensures.reads c.read_at.ensures.exact)
 
-pub returns-in_err-extend_from_slice-clause-calls : goal.returns-in_err-extend_from_slice-clause-calls
-returns-in_err-extend_from_slice-clause-calls g c = one_files_call (read_call c.read_at.ensures.reads c.read_at.ensures.exact)
-
 pub returns-clause-calls : goal.returns-clause-calls
 returns-clause-calls g c = one_files_call (read_call c.read_at.ensures.reads c.read_at.ensures.exact)

@@ -20,14 +20,14 @@ loop-at-init g c =
       bytes = if_some-all (λ bytes. c.new-part.result.items ≡ take (c.args.from - c.args.from) (drop c.args.from bytes)) _ (λ bytes. empty ∙ sym (nothing c.args.from bytes));
     }
 
-pub read_slice-requires-clause-below : goal.read_slice-requires-clause-below
-read_slice-requires-clause-below g c =
+pub append_slice-requires-clause-below : goal.append_slice-requires-clause-below
+append_slice-requires-clause-below g c =
     let same = measured-after_reads (c.loop-at.at - c.args.from) (g.F.Files.view c.args.files.now) (g.F.Files.view c.loop-at.files) c.loop-at.invariant.files in
     let below = if_some-map (λ size. c.args.end ≤ size) (λ size. c.loop-at.at < size) _ (λ size e. omega (arith, e)) c.requires.within in
     subst (λ o. IfSome o (λ size. c.loop-at.at < size)) (sym same) below
 
-pub read_slice-requires-clause-told : goal.read_slice-requires-clause-told
-read_slice-requires-clause-told g c =
+pub append_slice-requires-clause-told : goal.append_slice-requires-clause-told
+append_slice-requires-clause-told g c =
     let same = bytes-after_reads (c.loop-at.at - c.args.from) (g.F.Files.view c.args.files.now) (g.F.Files.view c.loop-at.files) c.loop-at.invariant.files in
     let told = if_some-map (λ bytes. c.args.end ≤ length bytes) (λ bytes. c.loop-at.at < length bytes) _ (λ bytes e. omega (arith, e)) c.requires.told in
     subst (λ o. IfSome o (λ bytes. c.loop-at.at < length bytes)) (sym same) told
@@ -38,17 +38,17 @@ loop-at-preserved g c =
     let begun = c.loop-at.invariant.begun in
     let far : (c.loop-at.at - c.args.from) + c.in_ok-count.count ≡ c.loop-at.at + c.in_ok-count.count - c.args.from = omega (arith, begun) in
     let same = bytes-after_reads (c.loop-at.at - c.args.from) (g.F.Files.view c.args.files.now) (g.F.Files.view c.loop-at.files) c.loop-at.invariant.files in
-    let bytes = subst (λ o. IfSome o (λ bytes. c.read_slice.new.part.items ≡ c.loop-at.part.items ++ take c.in_ok-count.count (drop c.loop-at.at bytes))) same ok.bytes in
+    let bytes = subst (λ o. IfSome o (λ bytes. c.append_slice.new.part.items ≡ c.loop-at.part.items ++ take c.in_ok-count.count (drop c.loop-at.at bytes))) same ok.bytes in
     record {
       within = omega (arith, ok.within, length-take {A = ℕ});
       begun = omega (arith, begun);
       so_far = omega (arith, ok.long, begun, c.loop-at.invariant.so_far);
-      went = files_then c.loop-at.invariant.went c.read_slice.ensures.calls;
-      files = subst (λ n. g.F.Files.view c.read_slice.new.files ≡ after_reads (g.F.Files.view c.read_slice.new.files).counts.calls n (g.F.Files.view c.args.files.now)) far
-          (reads-more (c.loop-at.at - c.args.from) c.in_ok-count.count (g.F.Files.view c.args.files.now) (g.F.Files.view c.loop-at.files) (g.F.Files.view c.read_slice.new.files) c.loop-at.invariant.files ok.files);
+      went = files_then c.loop-at.invariant.went c.append_slice.ensures.calls;
+      files = subst (λ n. g.F.Files.view c.append_slice.new.files ≡ after_reads (g.F.Files.view c.append_slice.new.files).counts.calls n (g.F.Files.view c.args.files.now)) far
+          (reads-more (c.loop-at.at - c.args.from) c.in_ok-count.count (g.F.Files.view c.args.files.now) (g.F.Files.view c.loop-at.files) (g.F.Files.view c.append_slice.new.files) c.loop-at.invariant.files ok.files);
       bytes =
           if_some-both (λ bytes. c.loop-at.part.items ≡ take (c.loop-at.at - c.args.from) (drop c.args.from bytes)) _
-          (λ bytes. c.read_slice.new.part.items ≡ take (c.loop-at.at + c.in_ok-count.count - c.args.from) (drop c.args.from bytes)) _
+          (λ bytes. c.append_slice.new.part.items ≡ take (c.loop-at.at + c.in_ok-count.count - c.args.from) (drop c.args.from bytes)) _
           (λ bytes e h. part-more c.args.from c.loop-at.at c.in_ok-count.count bytes c.loop-at.part.items _ begun e h) c.loop-at.invariant.bytes bytes;
     }
 
@@ -60,7 +60,7 @@ returns-in_err-count-clause-failed g c =
     (omega (arith, length-take {A = ℕ}, c.loop-at.invariant.begun)) stops)
 
 pub returns-in_err-count-clause-calls : goal.returns-in_err-count-clause-calls
-returns-in_err-count-clause-calls g c = files_then c.loop-at.invariant.went c.read_slice.ensures.calls
+returns-in_err-count-clause-calls g c = files_then c.loop-at.invariant.went c.append_slice.ensures.calls
 
 pub returns-in_err-count-clause-sure : goal.returns-in_err-count-clause-sure
 returns-in_err-count-clause-sure g c =

@@ -1,10 +1,12 @@
-use Rattle.std.proofs.Common.{ℕ, List, refl, subst}
+use Rattle.std.proofs.Common.{ℕ, List, refl, subst, sym}
 use Rattle.std.proofs.lemmas.Result.{err_from_is_err_and}
 use Rattle.ga_logs.specs.Logs.{CountsLogs, StopsLogs}
 use Rattle.ga_logs.specs.declared.start.Start.{Start}
 use Rattle.ga_ports.specs.Stretch.{no_files_call}
 use Rattle.ga_store.specs.Reading.{db_value}
-use Rattle.ga_run.proofs.Counting.{hungry-last, stops-as, whole-fits}
+use Rattle.ga_summary.specs.Limits.{LinesAdd}
+use Rattle.ga_summary.specs.Sound.{TotalsFit}
+use Rattle.ga_run.proofs.Counting.{base-adds, base-fits, hungry-last, stops-as, whole-fits}
 use Rattle.ga_run.proofs.run.count.Goals as goal
 
 pub returns-in_err-stored-clause-files_went : goal.returns-in_err-stored-clause-files_went
@@ -12,6 +14,12 @@ returns-in_err-stored-clause-files_went g c = no_files_call
 
 pub returns-in_err-entries-clause-files_went : goal.returns-in_err-entries-clause-files_went
 returns-in_err-entries-clause-files_went g c = no_files_call
+
+pub count_logs-requires-clause-fit : goal.count_logs-requires-clause-fit
+count_logs-requires-clause-fit g c = λ _ _. subst (λ (start : Start). TotalsFit start.totals) (sym c.start-start.ensures) (base-fits c.args.settings.now (db_value c.in_ok-stored.stored) c.sound.ensures)
+
+pub count_logs-requires-clause-lines : goal.count_logs-requires-clause-lines
+count_logs-requires-clause-lines g c = λ _ _. subst (λ (start : Start). LinesAdd start.totals) (sym c.start-start.ensures) (base-adds c.args.settings.now (db_value c.in_ok-stored.stored) c.sound.ensures)
 
 pub returns-in_err-run-clause-stops : goal.returns-in_err-run-clause-stops
 returns-in_err-run-clause-stops g c =

@@ -7,7 +7,7 @@ use Rattle.ga_streams.specs.Counting.{CountingSeen, HasCounted, HasCountedBy}
 use Rattle.ga_streams.specs.declared.full.Full.{Full}
 use Rattle.ga_summary.specs.Rows.{totals_plus}
 use Rattle.std.proofs.Common.{Option, true}
-use Rattle.ga_streams.proofs.counting.Counting.count.Goals as goal
+use Rattle.ga_streams.proofs.counting.Counting.count_on.Goals as goal
 
 pub returns-in-Err-CounterFull-clause-counted : goal.returns-in-Err-CounterFull-clause-counted
 returns-in-Err-CounterFull-clause-counted g c before was =
@@ -20,6 +20,6 @@ returns-in-Err-CounterFull-clause-counted g c before was =
     let held : HasCounted setup before (record { start = inside.start; total = inside.total; full = inside.full }) =
     subst (λ (v : CountingSeen). HasCounted setup before v) (sym c.self.view_is) was in
     let counted = subst (λ (f : Option Full). HasCountedBy f setup inside.start before inside.total) unfilled held in
-    let from : c.plus-before.result ≡ totals_plus inside.start inside.total.totals = c.plus-before.ensures ∙ ap (totals_plus inside.start) c.totals.ensures.value in
+    let from : c.plus-before.result ≡ totals_plus inside.start inside.total.totals = c.plus-before.ensures.value ∙ ap (totals_plus inside.start) c.totals.ensures.value in
     fills-behind setup inside.start before all inside.total which value counted
     (subst (λ (t : Totals). FillsAmong setup t all which value) from (c.in-Err-CounterFull.ensures.full which value (cc c.in-Err-CounterFull.field-0-is)))
