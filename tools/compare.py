@@ -298,7 +298,7 @@ def option(rng):
         b"--max-items": ([b"1", b"2", b"3", b"0000000002", b"4294967295", b"367"], [b"0", b"4294967296", b"00000000001", b"+1", b"", b"-1"]),
         b"--jobs": ([b"1", b"16", b"08", b"2"], [b"0", b"17", b"x", b"", b"00000000016"]),
         b"--chunk-size": ([b"1", b"2", b"32768", b"7"], [b"0", b"32769", b"1k", b"", b"00000000001"]),
-        b"--db-path": ([b"x", b"/tmp"], [b""]),
+        b"--db-path": ([b"folder"], [b""]),
         b"--browsers-file": ([b"agents.txt"] * 9 + [b"other.txt"] * 4 + [b"nothing.txt"], [b""]),
     }
     if name not in values:
@@ -358,6 +358,9 @@ def make(rng, narrow):
     text, date, time = formats(rng)
     setup = setup_of(text, date, time)
     words = (narrow_words if narrow else wide_words)(rng, text, date, time)
+    if b"--persist" in words or b"--restore" in words:
+        # a database of the run's own, which is empty
+        words.insert(0, b"--db-path=folder")
     files = {}
     for name in sorted({word for word in words if word in LOGS} | {b"a.log"}):
         files[os.path.normpath(name)] = log(rng, setup)
@@ -370,6 +373,8 @@ def make(rng, narrow):
 
 
 FOLDERS = [b"folder", b"folder.json"]
+# what a database's sides are called; tools/try-database looks into them
+SIDES = [b"goaccess-0.db", b"goaccess-1.db"]
 
 
 def expected(words, files, library=oracle):
@@ -377,7 +382,7 @@ def expected(words, files, library=oracle):
     def read(name):
         return files.get(os.path.normpath(name)) if b"a.log/" not in name else None
 
-    status, out, err, made = library.run_words(words, read)
+    status, out, err, made = library.run_words(words, read, library.Database())
     after = dict(files)
     if made is not None:
         name, text = made
@@ -403,7 +408,7 @@ def answered(program, words, files, folder):
         return None
     after = {}
     for at, _, names in os.walk(folder):
-        for name in names:
+        for name in sorted(set(names) - set(SIDES)):
             path = os.path.join(at, name)
             with open(path, "rb") as left:
                 after[os.path.relpath(path, folder)] = left.read()

@@ -177,6 +177,7 @@ OVER_WORDS = [
     of(['--log-format=%h%d "%r"', "nothing.log"], A),
     of([COMMON, "a.log", "nothing.log"], line(size=BIG) * 5),
     of([COMMON, "a.log", "b.log"], line(size=BIG) * 3, line(size=BIG) * 2),
+    of([COMMON, "a.log"], line(size=BIG) * 6),
 ] + [(words, files) for words, files in FAULTS]
 
 
@@ -219,24 +220,31 @@ def texts_of(cases):
     return texts
 
 
-def write(name, doc, const, texts):
+def const_of(doc, const, texts):
     table = b"\n=====\n".join(texts).decode("utf-8")
+    return doc + f'pub const {const}: &str = "\\\n' + quoted(table) + '";\n'
+
+
+def write(name, *consts):
     with open(name, "w", encoding="utf-8", newline="") as out:
-        out.write(doc + f'pub const {const}: &str = "\\\n' + quoted(table) + '";\n')
-    return len(texts)
+        out.write("\n".join(const_of(*const) for const in consts))
+    return sum(len(texts) for _, _, texts in consts)
 
 
-def ends_well(text):
-    """Whether the run of a case ends with status 0."""
-    return text.split(b"\n-----\n")[2].startswith(b"0\n")
+def status_of(text):
+    """The exit status of the run of a case."""
+    return int(text.split(b"\n-----\n")[2].split(b"\n", 1)[0])
 
 
 def write_words(folder):
     texts = texts_of(OVER_WORDS)
-    reports = [text for text in texts if ends_well(text)]
-    faults = [text for text in texts if not ends_well(text)]
-    written = write(os.path.join(folder, "reports.rt"), DOC_WORDS.format("print"), "REPORTS", reports)
-    return written + write(os.path.join(folder, "faults.rt"), DOC_WORDS.format("fail"), "FAULTS", faults)
+    good, bad, others = ([text for text in texts if is_of(status_of(text))] for is_of in (lambda s: s == 0, lambda s: s == 1, lambda s: s > 1))
+    written = write(os.path.join(folder, "reports.rt"), (DOC_WORDS, "REPORTS", good))
+    return written + write(
+        os.path.join(folder, "faults.rt"),
+        (DOC_FAULTS, "WORD_FAULTS", bad),
+        ("/// Runs that fail over their files, in the same form.\n", "FILE_FAULTS", others),
+    )
 
 
 TRACKED = [COMMON, "-o", "csv", "--restore", "--persist"]
@@ -302,8 +310,14 @@ DOC_LINES = """\
 /// is its exit status and then what standard output, standard error and the report's file took. The answers were worked
 /// out by a program in another language; the first log is that of examples/access.log.
 """
+DOC_FAULTS = """\
+/// Runs whose words say no run, in the form of `REPORTS`: the words with a bar between two; the files `a.log`, `b.log` and
+/// `agents.txt`, as many as are there, a line of `+` between two; and what the run answers, which is its exit status and
+/// then what standard output, standard error and the report's file took. A line of `=` stands between two runs. The answers
+/// were worked out by a program in another language.
+"""
 DOC_WORDS = """\
-/// Runs that {}, a line of `=` between two: the words with a bar between two; the files `a.log`, `b.log` and
+/// Runs that print, a line of `=` between two: the words with a bar between two; the files `a.log`, `b.log` and
 /// `agents.txt`, as many as are there, a line of `+` between two; and what the run answers, which is its exit status and
 /// then what standard output, standard error and the report's file took. The answers were worked out by a program in
 /// another language.
@@ -317,7 +331,7 @@ def main():
         print(write_runs(sys.argv[2]), "runs")
         return
     if sys.argv[1] == "lines":
-        count = write(sys.argv[2], DOC_LINES, "CASES", texts_of((words, {"a.log": log}) for words, log in OVER_LINES))
+        count = write(sys.argv[2], (DOC_LINES, "CASES", texts_of((words, {"a.log": log}) for words, log in OVER_LINES)))
     else:
         count = write_words(sys.argv[2])
     print(count, "runs")

@@ -1,4 +1,4 @@
-mod DayKeys
+pub mod DayKeys
 mod Excluded
 mod OneList
 mod PanelSteps

@@ -8,7 +8,7 @@ use ga_draws::{DrawSeat, Draws};
 use ga_outcomes::Setup;
 use ga_ports::Gate;
 use ga_shards::Keyed;
-use ga_tallies::{Tally, TallyFault};
+use ga_tallies::{Agents, Tally, TallyFault};
 use std::alloc::Global;
 use std::thread::{self, Threads};
 
@@ -101,13 +101,14 @@ fn count_drawn<G: Gate>(
 {
     let Turn { worker, mut seat } = turn;
     let mut tally = Tally::new(alloc, keyed);
+    let mut agents = Agents::new(alloc);
     for at in 0..pieces.len() + 1 {
         let number = draws.draw(&mut seat) as usize;
         pass(gate, worker, at == 0);
         if number >= pieces.len() {
             break;
         }
-        if let Err(fault) = tally.count(alloc, setup, pieces[number]) {
+        if let Err(fault) = tally.count(alloc, setup, &mut agents, pieces[number]) {
             return Drawn {
                 seat,
                 tally: Err(fault),

@@ -6,6 +6,9 @@ pub mod Partly
 pub mod OneHit
 pub mod PairLists
 pub mod NotedSo
+pub mod KeysOnKeys
+pub mod MadePlaces
 pub mod NoLines
 pub mod OneLine
+pub mod FactsHit
 pub mod Taking

@@ -1,6 +1,8 @@
 -- How pairs and rows of sums are put down, one more.
-use Rattle.std.specs.Prelude.{◌⊎◌, ℕ, ◌+◌, ◌-◌, ◌≡◌, ◌^◌, min, max, nat_lt, if◌then◌else◌, List, [], ◌∷◌, ◌++◌, length, set, slice_index_or}
+use Rattle.std.specs.Prelude.{◌⊎◌, ℕ, ◌+◌, ◌-◌, ◌≡◌, ◌^◌, min, max, nat_lt, if◌then◌else◌, List, [], ◌∷◌, ◌++◌, length, set, slice_index_or, All, IfSome, Option}
 use Rattle.std.specs.List.{Contains}
+use Rattle.ga_tallies.specs.Tallies.{pair_of}
+use Rattle.ga_tallies.specs.declared.pairs.Pair.{Pair}
 use Rattle.ga_base.specs.declared.counts.Sums.{Sums}
 
 -- a pair came to the others
@@ -13,6 +15,10 @@ pub record AddsPair (pair : ℕ × ℕ) (old new : List (ℕ × ℕ)) : Type 0 w
 pub record HoldTheSame (old new : List (ℕ × ℕ)) : Type 0 where
   pub kept : (pair : ℕ × ℕ) → Contains old pair → Contains new pair
   pub only : (pair : ℕ × ℕ) → Contains new pair → Contains old pair
+
+-- the pairs at these places are among the others
+abbrev pub AreThere : List (ℕ × ℕ) → List (Option Pair) → Type 0
+AreThere pairs places = All (λ place. IfSome place (λ pair. Contains pairs (pair_of pair))) places
 
 -- a sum that stops at the greatest number
 abbrev pub stopped : ℕ → ℕ → ℕ

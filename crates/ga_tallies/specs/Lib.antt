@@ -1,4 +1,6 @@
 -- What is counted of lines, in numbers.
 pub mod Tallies
 pub mod Adding
+pub mod Agents
+pub mod Refs
 pub mod Steps

@@ -1,19 +1,26 @@
 ghost use Rattle.std.specs.Prelude.{◌≡◌, ◌++◌, ◌∷◌, [], ◌≤◌, IfOk, List, OnOk, IsErrOf};
+ghost use Rattle.std.specs.Option.{option_map};
+ghost use Rattle.ga_base.specs.Records.{record_in};
 ghost use Rattle.ga_base.specs.declared.record.Line.TheVariants.{Good as SaysRecord};
 ghost use Rattle.ga_line.specs.Bounds.{RecordBounds};
-ghost use Rattle.ga_panels.specs.Form.{AreKeysOfDay};
+ghost use Rattle.ga_panels.specs.Known.{AreFactsOf, record_of, setup_of};
+ghost use Rattle.ga_panels.specs.Visitors as visits;
 ghost use Rattle.ga_summary.specs.Limits.{LinesAdd};
 ghost use Rattle.ga_summary.specs.OneLine.{record_sums, record_totals};
-ghost use Rattle.ga_summary.specs.Outcomes.{Counted, hit_of};
+ghost use Rattle.ga_summary.specs.Outcomes.{Counted};
 ghost use Rattle.ga_summary.specs.Rows.{totals_plus};
 ghost use Rattle.ga_summary.specs.Sound.{TotalsFit};
-ghost use Rattle.ga_tallies.specs.Steps.OneLine.{Adds, IsTooMuch, OverfillsLine, OverfillsSaid, TakesLine, TakesSaid};
+ghost use Rattle.ga_tallies.specs.Agents.{AreAgents};
+ghost use Rattle.ga_tallies.specs.Refs.{visitor_of};
+ghost use Rattle.ga_tallies.specs.Steps.OneLine.{Adds, IsTooMuch, OverfillsLine, OverfillsSaid, TakesLine, TakesSaid, hit_told};
 
-use crate::{Tally, TallyFault};
-use ga_base::{Keys, LIMIT, Line, Record, Sums, Totals, Visitor};
-use ga_line::read_line;
+use crate::visitor_ref::VisitorRef;
+use crate::{Agents, Tally, TallyFault};
+use ga_base::{LIMIT, NoMemory, RecordRef, Sums, Totals};
+use ga_line::{LineView, read_view};
 use ga_outcomes::Setup;
-use ga_panels::{PanelSetup, is_excluded, keys_of, visitor_of};
+use ga_panels::{PanelSetup, RecordFacts};
+use ga_requests::referral_of;
 use std::alloc::Global;
 
 /// The totals of one failed line.
@@ -42,15 +49,18 @@ impl Tally {
         &mut self,
         alloc: Global,
         setup: &Setup,
+        agents: &mut Agents,
         line: &[u8],
     ) -> Result<(), TallyFault>
+        requires known { AreAgents setup.now.panels.rules agents.old }
         ensures counted { OnOk result (TakesLine setup.now line.now self.old self.new) }
         ensures full { IsErrOf result TallyFault.Full → OverfillsLine setup.now line.now self.old }
+        ensures known { AreAgents setup.now.panels.rules agents.new }
     {
-        match read_line(alloc, &setup.line, line)? {
-            Line::Skipped => Ok(()),
-            Line::Failed => self.add_totals(FAILED),
-            Line::Good(rec) => self.count_record(alloc, &setup.panels, &rec),
+        match read_view(alloc, &setup.line, line)? {
+            LineView::Skipped => Ok(()),
+            LineView::Failed => self.add_totals(FAILED),
+            LineView::Good(view) => self.count_record(alloc, &setup.panels, agents, view.as_ref()),
         }
     }
 
@@ -59,35 +69,40 @@ impl Tally {
         &mut self,
         alloc: Global,
         panels: &PanelSetup,
-        rec: &Record,
+        agents: &mut Agents,
+        rec: RecordRef<'_>,
     ) -> Result<(), TallyFault>
-        requires { RecordBounds rec.now }
-        ensures counted { OnOk result (TakesSaid panels.now (SaysRecord rec.now) self.old self.new) }
-        ensures full { IsErrOf result TallyFault.Full → OverfillsSaid panels.now (SaysRecord rec.now) self.old }
+        requires bounds { RecordBounds (record_in rec) }
+        requires known { AreAgents panels.now.rules agents.old }
+        ensures counted { OnOk result
+            (TakesSaid panels.now (SaysRecord (record_in rec.entry)) self.old self.new) }
+        ensures full { IsErrOf result TallyFault.Full →
+            OverfillsSaid panels.now (SaysRecord (record_in rec.entry)) self.old }
+        ensures known { AreAgents panels.now.rules agents.new }
     {
-        if is_excluded(panels, rec) {
+        agents.learn(alloc, &panels.rules, rec.agent)?;
+        let facts = facts_of(alloc, panels, agents, rec)?;
+        if facts.is_excluded() {
             return self.add_totals(EXCLUDED);
         }
-        let keys = keys_of(alloc, panels, rec)?;
-        let visitor = visitor_of(panels, rec)?;
-        self.count_hit(keys, visitor, rec)
+        self.count_facts(alloc, &facts, &rec)
     }
 
-    /// Counts a record under these keys, for this visitor.
-    fn count_hit(
+    /// Counts a record with these facts under its keys, for its visitor.
+    fn count_facts(
         &mut self,
-        keys: Keys,
-        visitor: Option<Visitor>,
-        rec: &Record,
+        alloc: Global,
+        facts: &RecordFacts<'_>,
+        rec: &RecordRef<'_>,
     ) -> Result<(), TallyFault>
-        requires bounds { RecordBounds rec.now }
-        requires form { AreKeysOfDay rec.now.date keys }
-        ensures counted { OnOk result (Adds (Counted (hit_of keys visitor rec.now) ∷ []) self.old self.new) }
-        ensures full { IsErrOf result TallyFault.Full → IsTooMuch (Counted (hit_of keys visitor rec.now)) self.old }
+        requires bounds { RecordBounds (record_in rec.now) }
+        requires values { record_of facts.now ≡ record_in rec.now }
+        ensures counted { OnOk result (Adds (Counted (hit_told facts.now) ∷ []) self.old self.new) }
+        ensures full { IsErrOf result TallyFault.Full → IsTooMuch (Counted (hit_told facts.now)) self.old }
     {
         self.add_totals(totals_of(rec))?;
-        let place = self.note_visitor(visitor)?;
-        self.note_keys(keys, place, sums_of(rec))?;
+        let place = self.note_visitor(alloc, visitor_in(facts, rec))?;
+        self.note_keys(alloc, facts, place, sums_of(rec))?;
         Ok(())
     }
 
@@ -108,6 +123,38 @@ impl Tally {
     }
 }
 
+/// A record with its facts. What its agent is comes from the agents that are known.
+fn facts_of<'a>(
+    alloc: Global,
+    panels: &'a PanelSetup,
+    agents: &'a Agents,
+    rec: RecordRef<'a>,
+) -> Result<RecordFacts<'a>, NoMemory>
+    requires bounds { RecordBounds (record_in rec) }
+    requires known { AreAgents panels.now.rules agents.now }
+    ensures { IfOk result (AreFactsOf panels.now (record_in rec.entry)) }
+{
+    let class = agents.class_of(&panels.rules, rec.agent);
+    let referral = referral_of(alloc, rec.referrer)?;
+    Ok(RecordFacts::with(panels, rec, class, referral))
+}
+
+/// Whose visit a record with these facts is.
+fn visitor_in<'a>(facts: &RecordFacts<'_>, rec: &RecordRef<'a>) -> Option<VisitorRef<'a>>
+    requires { record_of facts.now ≡ record_in rec.now }
+    ensures { option_map visitor_of result
+        ≡ visits.visitor_in (setup_of facts.now) (record_in rec.now) }
+{
+    if !facts.is_visit() {
+        return None;
+    }
+    Some(VisitorRef {
+        host: rec.host,
+        date: rec.date,
+        agent: rec.agent,
+    })
+}
+
 /// Both together.
 fn plus(a: Totals, b: Totals) -> Totals
     requires fit { TotalsFit a × TotalsFit b }
@@ -126,8 +173,8 @@ fn plus(a: Totals, b: Totals) -> Totals
 }
 
 /// The totals of one counted record.
-fn totals_of(rec: &Record) -> Totals
-    ensures { result ≡ record_totals rec.now }
+fn totals_of(rec: &RecordRef<'_>) -> Totals
+    ensures { result ≡ record_totals (record_in rec.now) }
 {
     Totals {
         lines: 1,
@@ -140,8 +187,8 @@ fn totals_of(rec: &Record) -> Totals
 }
 
 /// The sums of one counted record.
-fn sums_of(rec: &Record) -> Sums
-    ensures { result ≡ record_sums rec.now }
+fn sums_of(rec: &RecordRef<'_>) -> Sums
+    ensures { result ≡ record_sums (record_in rec.now) }
 {
     let micros = rec.micros.unwrap_or(0);
     Sums {

@@ -1,46 +1,104 @@
-ghost use Rattle.std.specs.Prelude.{◌≡◌, Some, true, IfOk, OnOk, slice_get};
-ghost use Rattle.ga_shards.specs.Numbers.{noted, place_of};
+ghost use Rattle.std.specs.Prelude.{◌≡◌, IfOk, OnOk};
+ghost use Rattle.std.specs.Option.{option_map};
+ghost use Rattle.ga_panels.specs.Refs.{key_of};
+ghost use Rattle.ga_panels.specs.Table.{group_keys, with_group};
 ghost use Rattle.ga_tallies.specs.Adding.{added_at, with_line};
-ghost use Rattle.ga_tallies.specs.Steps.Notes.{NotesKey, NotesKeys, NotesVisitor};
+ghost use Rattle.ga_tallies.specs.Refs.{visitor_of};
+ghost use Rattle.ga_tallies.specs.Steps.Notes.{NotesKey, NotesKeys, NotesVisitor, keys_told};
 
+use crate::numbers::{key_number, visitor_number};
+use crate::visitor_ref::VisitorRef;
 use crate::{Pair, Tally};
-use ga_base::{Key, Keys, NoMemory, Noted, Sums, Visitor};
-use ga_shards::Dictionary;
-
-/// So many items a dictionary holds. A batch has at most 2^24 bytes, so no tally comes to that.
-const MOST: u32 = u32::MAX - 1;
+use ga_base::{NoMemory, Sums};
+use ga_panels::{KeyRef, PANELS, RecordFacts};
+use std::alloc::Global;
 
 impl Tally {
     /// Notes the visitor of a line, where it has one, and gives its number.
-    pub(crate) fn note_visitor(&mut self, visitor: Option<Visitor>) -> Result<Option<u32>, NoMemory>
-        ensures { IfOk result (λ place. NotesVisitor visitor place self.old self.new) }
+    pub(crate) fn note_visitor(
+        &mut self,
+        alloc: Global,
+        visitor: Option<VisitorRef<'_>>,
+    ) -> Result<Option<u32>, NoMemory>
+        ensures { IfOk result
+            (λ place. NotesVisitor (option_map visitor_of visitor.entry) place self.old self.new) }
     {
         match visitor {
             None => Ok(None),
-            Some(visitor) => Ok(Some(note(&mut self.visitors, visitor)?)),
+            Some(visitor) => {
+                let number = visitor_number(
+                    alloc,
+                    &mut self.visitors,
+                    &mut self.visitor_hints,
+                    &visitor,
+                )?;
+                Ok(Some(number))
+            }
         }
     }
 
-    /// Notes the keys of a line, each with the line's sums and the number of its visitor.
+    /// Notes the keys of a record, panel by panel, each with the line's sums and the number of its visitor.
     pub(crate) fn note_keys(
         &mut self,
-        keys: Keys,
+        alloc: Global,
+        facts: &RecordFacts<'_>,
         visitor: Option<u32>,
         line: Sums,
     ) -> Result<(), NoMemory>
-        ensures { OnOk result (NotesKeys keys visitor line self.old self.new) }
+        ensures { OnOk result (NotesKeys (keys_told facts.now) visitor line self.old self.new) }
     {
-        for key in keys.into_vec() {
-            self.note_key(key, visitor, line)?;
+        for panel in PANELS {
+            self.note_entry(alloc, facts.key_in(panel), visitor, line)?;
         }
         Ok(())
     }
 
-    /// Notes one key of a line.
-    fn note_key(&mut self, key: Key, visitor: Option<u32>, line: Sums) -> Result<(), NoMemory>
-        ensures { OnOk result (NotesKey key visitor line self.old self.new) }
+    /// Notes the key of an entry, if there is one, and before it that of its group, if it has one.
+    fn note_entry(
+        &mut self,
+        alloc: Global,
+        entry: Option<KeyRef<'_>>,
+        visitor: Option<u32>,
+        line: Sums,
+    ) -> Result<(), NoMemory>
+        ensures { OnOk result
+            (NotesKeys (with_group (option_map key_of entry.entry)) visitor line self.old self.new) }
     {
-        let number = note(&mut self.keys, key)?;
+        let Some(entry) = entry else {
+            return Ok(());
+        };
+        self.note_group(alloc, &entry, visitor, line)?;
+        self.note_key(alloc, &entry, visitor, line)
+    }
+
+    /// Notes the key of an entry's group, if it has one.
+    fn note_group(
+        &mut self,
+        alloc: Global,
+        entry: &KeyRef<'_>,
+        visitor: Option<u32>,
+        line: Sums,
+    ) -> Result<(), NoMemory>
+        ensures { OnOk result
+            (NotesKeys (group_keys (key_of entry.now) entry.now.parent.now) visitor line self.old self.new) }
+    {
+        match entry.group() {
+            None => Ok(()),
+            Some(group) => self.note_key(alloc, &group, visitor, line),
+        }
+    }
+
+    /// Notes one key of a line.
+    fn note_key(
+        &mut self,
+        alloc: Global,
+        key: &KeyRef<'_>,
+        visitor: Option<u32>,
+        line: Sums,
+    ) -> Result<(), NoMemory>
+        ensures { OnOk result (NotesKey (key_of key.now) visitor line self.old self.new) }
+    {
+        let number = key_number(alloc, &mut self.keys, &mut self.key_hints, key)?;
         add_line(&mut self.sums, number, line)?;
         match visitor {
             None => Ok(()),
@@ -50,18 +108,6 @@ impl Tally {
             }),
         }
     }
-}
-
-/// Notes an item, and gives its number. A dictionary that is full answers want of memory.
-fn note<T: Noted + Drop>(items: &mut Dictionary<T>, item: T) -> Result<u32, NoMemory>
-    ensures value { IfOk result (λ local. local ≡ place_of T.eq items.old item) }
-    ensures noted { OnOk result (items.new ≡ noted T.eq items.old item) }
-    ensures known { IfOk result (λ local. (known : T) × (slice_get items.new local ≡ Some known) × (T.eq item known ≡ true)) }
-{
-    if items.len() >= MOST {
-        return Err(NoMemory);
-    }
-    items.note(item)
 }
 
 /// Adds a line's sums to the row at a place, or puts them behind the rows where none is there yet.

@@ -1,10 +1,12 @@
 ghost use Rattle.std.specs.Prelude.{◌≡◌, [], true, OnOk, IsErrOf};
 ghost use Rattle.ga_line.specs.Lines.{lines};
 ghost use Rattle.ga_summary.specs.Sound.{TotalsFit};
+ghost use Rattle.ga_tallies.specs.Agents.{AreAgents};
 ghost use Rattle.ga_tallies.specs.Tallies.{IsTallyOf, Overfills, TakesIn, seen_in};
 
+use crate::hints::Hints;
 use crate::pairs::PairList;
-use crate::{TallyFault, TallyParts};
+use crate::{Agents, TallyFault, TallyParts};
 use ga_base::{Key, Sums, Totals, Visitor};
 use ga_line::Lines;
 use ga_outcomes::Setup;
@@ -26,6 +28,10 @@ pub struct Tally {
     pub(crate) sums: Vec<Sums>,
     /// The keys' visitors.
     pub(crate) pairs: PairList,
+    /// Where the keys that came lately stand.
+    pub(crate) key_hints: Hints,
+    /// Where the visitors that came lately stand.
+    pub(crate) visitor_hints: Hints,
 }
 
 impl Model for Tally {
@@ -58,16 +64,27 @@ impl Tally {
             visitors: Dictionary::new(alloc, keyed),
             sums: Vec::new(alloc),
             pairs: PairList::new(alloc),
+            key_hints: Hints::new(alloc),
+            visitor_hints: Hints::new(alloc),
         }
     }
 
-    /// Counts the lines of these bytes, the last also where no line feed ends it. After an `Err` the tally may only be dropped.
-    pub fn count(&mut self, alloc: Global, setup: &Setup, bytes: &[u8]) -> Result<(), TallyFault>
+    /// Counts the lines of these bytes, the last also where no line feed ends it. What their agents are is taken from `agents`,
+    /// which learns those that it doesn't know. After an `Err` the tally may only be dropped.
+    pub fn count(
+        &mut self,
+        alloc: Global,
+        setup: &Setup,
+        agents: &mut Agents,
+        bytes: &[u8],
+    ) -> Result<(), TallyFault>
+        requires known { AreAgents setup.now.panels.rules agents.old }
         ensures counted { OnOk result (TakesIn setup.now (lines bytes.now true) self.old self.new) }
         ensures full { IsErrOf result TallyFault.Full → Overfills setup.now (lines bytes.now true) self.old }
+        ensures known { AreAgents setup.now.panels.rules agents.new }
     {
         for line in Lines::of(bytes, true) {
-            self.count_line(alloc, setup, line)?;
+            self.count_line(alloc, setup, agents, line)?;
         }
         Ok(())
     }

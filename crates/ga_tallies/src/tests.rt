@@ -1,4 +1,4 @@
-use crate::{Pair, Tally};
+use crate::{Agents, Pair, Tally};
 use ga_agents::Rules;
 use ga_base::{FormatFault, PanelSet, Statuses, Sums, Text, Texts, Totals};
 use ga_dates::{DEFAULT_DATE, DEFAULT_TIME, compile_date, compile_time};
@@ -56,7 +56,8 @@ fn counts_lines(rt: HostRuntime) -> Result<(), Fail> {
         return Err(Fail::from(FormatFault::NoMemory));
     };
     let mut tally = Tally::new(alloc, Keyed::new(1, 2));
-    assert_eq!(rt; tally.count(alloc, &setup, LINES), Ok(()));
+    let mut agents = Agents::new(alloc);
+    assert_eq!(rt; tally.count(alloc, &setup, &mut agents, LINES), Ok(()));
     let parts = tally.into_parts();
     assert_eq!(rt;
         parts.totals,

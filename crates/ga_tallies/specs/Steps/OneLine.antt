@@ -2,10 +2,14 @@
 use Rattle.std.specs.Prelude.{ℕ, List, [], ◌∷◌, ◌++◌, Option, Some}
 use Rattle.ga_base.specs.declared.record.Line.{Line}
 use Rattle.ga_line.specs.Records.{IsLineOf}
+use Rattle.ga_panels.specs.Known.{record_of, setup_of}
+use Rattle.ga_panels.specs.Visitors.{visitor_in}
+use Rattle.ga_panels.specs.declared.record_facts.RecordFacts.{RecordFacts}
 use Rattle.ga_panels.specs.declared.setup.PanelSetup.{PanelSetup}
-use Rattle.ga_summary.specs.Outcomes.{Outcome, totals_of}
+use Rattle.ga_summary.specs.Outcomes.{Hit, Outcome, hit_of, totals_of}
 use Rattle.ga_summary.specs.Sound.{AllCountable, TotalsFit}
 use Rattle.ga_outcomes.specs.Counting.{OutcomeIs, listed}
+use Rattle.ga_tallies.specs.Steps.Notes.{keys_told}
 use Rattle.ga_tallies.specs.Tallies.{IsTallyOf, TallySeen}
 use Rattle.ga_outcomes.specs.declared.setup.Setup.{Setup}
 
@@ -16,6 +20,10 @@ Adds outcomes old new = (before : List Outcome) → IsTallyOf before old → IsT
 -- the totals with this outcome don't fit, whatever the tally is of
 abbrev pub IsTooMuch : Outcome → TallySeen → Type 0
 IsTooMuch outcome old = (before : List Outcome) → IsTallyOf before old → ¬ TotalsFit (totals_of (before ++ outcome ∷ []))
+
+-- what a record with these facts counts for
+abbrev pub hit_told : RecordFacts → Hit
+hit_told facts = hit_of (keys_told facts) (visitor_in (setup_of facts) (record_of facts)) (record_of facts)
 
 -- what a line says was counted
 pub record TakesSaid (panels : PanelSetup) (said : Line) (old new : TallySeen) : Type 0 where

@@ -20,6 +20,7 @@ loop-at-preserved g c =
       share = ap (λ (s : SeatSeen). s.view.share) seat ∙ before.share;
       allowance = omega (arith, ap (λ (s : SeatSeen). s.view.allowance) seat, before.allowance);
       drawn = omega (arith, ap (λ (s : SeatSeen). length s.view.drawn) seat, before.drawn, length-append c.loop-at.seat.view.drawn (c.draw-number.result ∷ []));
+      agents = c.in_default.ensures.known;
       counts =
           subst (λ (drawn : List ℕ). TalliesDrawn c.args.setup.now (map (λ (piece : Bor (List ℕ)). piece.now) c.args.pieces.now) drawn c.count.new.self) (sym (ap (λ (s : SeatSeen). s.view.drawn) seat))
           (counts-more c.args.setup.now (map (λ (piece : Bor (List ℕ)). piece.now) c.args.pieces.now) c.loop-at.seat.view.drawn c.draw-number.result c.loop-at.tally c.count.new.self within before.counts

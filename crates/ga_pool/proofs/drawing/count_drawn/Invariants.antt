@@ -1,5 +1,6 @@
 use Rattle.std.proofs.Common.{◌≡◌, ◌+◌, ◌-◌, length, map}
 use Rattle.ga_pool.specs.Steps.Drawing.{TalliesDrawn}
+use Rattle.ga_tallies.specs.Agents.{AreAgents}
 use Rattle.ga_pool.proofs.drawing.count_drawn.Given as goal
 
 abbrev pub invariant-loop-at : goal.invariant-loop-at
@@ -8,5 +9,6 @@ invariant-loop-at g l = record {
   share : l.seat.view.share ≡ 1;
   allowance : l.seat.view.allowance ≡ length l.pieces + 1 - l.at;
   drawn : length l.seat.view.drawn ≡ l.at;
+  agents : AreAgents l.setup.panels.rules l.agents;
   counts : TalliesDrawn l.setup (map (λ piece. piece.now) l.pieces) l.seat.view.drawn l.tally;
 }

@@ -1,16 +1,15 @@
-use Rattle.std.proofs.Common.{◌≡◌, sym, ap, ◌∙◌, subst, map, ℕ, List, [], ◌∷◌, ◌++◌}
-use Rattle.std.proofs.lemmas.List.{map_push}
-use Rattle.ga_tallies.specs.Adding.{AddsPair, HoldTheSame}
+use Rattle.std.proofs.Common.{sym, subst}
+use Rattle.std.proofs.lemmas.Result.{on_ok_weaker}
+use Rattle.ga_tallies.specs.Adding.{AddsPair}
 use Rattle.ga_tallies.specs.Tallies.{pair_of}
-use Rattle.ga_tallies.proofs.PairLists.{holds-itself, pair-added}
+use Rattle.ga_tallies.proofs.PairLists.{pair-added, pair-there}
 use Rattle.ga_tallies.proofs.pairs.PairList.add.Goals as goal
-use Rattle.ga_tallies.proofs.pairs.PairList.add.Goals.{then-len-self, else-len-self}
+
+pub returns-then-is_recent : goal.returns-then-is_recent
+returns-then-is_recent c = pair-there c.args.self.now (pair_of c.args.pair) (c.is_recent.ensures c.if-is_recent.true)
 
 pub returns : goal.returns
 returns c =
-    let held : HoldTheSame c.args.self.now c.if-len-self.self =
-    elim c.if-len-self.branch [ then-len-self w ↦ subst (HoldTheSame c.args.self.now) (sym w.self-is) w.drop_equals.ensures | else-len-self w ↦ subst (HoldTheSame c.args.self.now) (sym w.self-is) (holds-itself c.args.self.now) ] in
-    let added = pair-added c.args.self.now c.if-len-self.self (pair_of c.args.pair) held in
-    let list : c.if-len-self.self ++ pair_of c.args.pair ∷ [] ≡ map pair_of c.push.new.self.items =
-    sym (ap (map pair_of) c.in_ok-push.ensures.items ∙ map_push pair_of c.self-2.inside.pairs.items c.args.pair ∙ ap (λ (l : List (ℕ × ℕ)). l ++ pair_of c.args.pair ∷ []) c.self-2.view_is) in
-    subst (AddsPair (pair_of c.args.pair) c.args.self.now) list added
+    let pair = pair_of c.args.pair in
+    on_ok_weaker c.push.result (λ is.
+    subst (AddsPair pair c.args.self.now) (sym is) (pair-added c.args.self.now c.thin_out.new.self pair c.thin_out.ensures)) c.push.ensures

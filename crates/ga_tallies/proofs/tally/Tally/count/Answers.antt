@@ -9,6 +9,7 @@ loop-line-init c =
     let whole = c.into_iter-line-iterator.ensures.into_iter_gives ∙ c.of-line-items.ensures in
     record {
       counted = λ new takes. subst (λ all. TakesIn c.args.setup.now all c.args.self.now new) whole takes;
+      known = c.requires.known;
       full = λ full. subst (λ all. Overfills c.args.setup.now all c.args.self.now) whole full;
     }
 
@@ -19,6 +20,7 @@ loop-line-preserved c =
     record {
       counted = λ new takes.
           c.loop-line.invariant.counted new (subst (λ all. TakesIn c.args.setup.now all c.loop-line.self new) is (takes-more c.args.setup.now c.in-Some.line.now _ c.loop-line.self c.count_line.new.self new one takes));
+      known = c.in_ok-count_line.ensures.known;
       full = λ full.
           c.loop-line.invariant.full (subst (λ all. Overfills c.args.setup.now all c.loop-line.self) is (overfills-later c.args.setup.now c.in-Some.line.now _ c.loop-line.self c.count_line.new.self one full));
     }
@@ -32,6 +34,7 @@ returns-in_err-count_line-clause-full c = λ is-full.
 
 pub returns : goal.returns
 returns c = record {
+  known = c.loop-line.invariant.known;
   counted = c.loop-line.invariant.counted c.loop-line.self
       (subst (λ all. TakesIn c.args.setup.now all c.loop-line.self c.loop-line.self) (sym c.in-None.ensures.steps.0) (takes-none c.args.setup.now c.loop-line.self));
   full = λ is-full. absurd (cc is-full);

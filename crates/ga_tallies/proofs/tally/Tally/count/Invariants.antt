@@ -1,5 +1,6 @@
 use Rattle.std.proofs.Common.{true}
 use Rattle.ga_line.specs.Lines.{lines}
+use Rattle.ga_tallies.specs.Agents.{AreAgents}
 use Rattle.ga_tallies.specs.Tallies.{Overfills, TakesIn, TallySeen}
 use Rattle.ga_tallies.proofs.tally.Tally.count.Given as goal
 
@@ -7,5 +8,6 @@ use Rattle.ga_tallies.proofs.tally.Tally.count.Given as goal
 abbrev pub invariant-loop-line : goal.invariant-loop-line
 invariant-loop-line l = record {
   counted : (new : TallySeen) → TakesIn l.setup l.line-iterator l.self new → TakesIn l.setup (lines l.bytes true) l.initial.self new;
+  known : AreAgents l.setup.panels.rules l.agents;
   full : Overfills l.setup l.line-iterator l.self → Overfills l.setup (lines l.bytes true) l.initial.self;
 }

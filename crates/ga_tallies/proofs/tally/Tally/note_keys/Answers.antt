@@ -1,26 +1,25 @@
-use Rattle.std.proofs.Common.{arith, sym, subst, refl}
-use Rattle.std.specs.Vec.Iter.{into_iter_items}
-use Rattle.std.proofs.lemmas.List.{nil_from_length}
+use Rattle.std.proofs.Common.{◌≡◌, ◌<◌, subst, arith, length}
+use Rattle.std.specs.Option.{option_map}
+use Rattle.ga_panels.specs.declared.record_facts.TheConstants.{PANELS}
+use Rattle.ga_panels.specs.Known.{facts_of, record_of, setup_of}
+use Rattle.ga_panels.specs.Refs.{key_of}
+use Rattle.ga_panels.specs.Table.{with_group}
 use Rattle.ga_tallies.specs.Steps.Notes.{NotesKeys}
+use Rattle.ga_tallies.proofs.KeysOnKeys.{keys_up_to, notes-both, one-panel-more}
 use Rattle.ga_tallies.proofs.tally.Tally.note_keys.Goals as goal
 
-pub loop-key-init : goal.loop-key-init
-loop-key-init c = record {
-  can_next = tt;
-  is_finite = tt;
-  left = λ new notes. subst (λ keys. NotesKeys keys c.args.visitor c.args.line c.args.self.now new) c.into_vec-key-items.ensures (subst (λ keys. NotesKeys keys c.args.visitor c.args.line c.args.self.now new) c.into_iter-key-iterator.ensures.into_iter_gives.0 notes);
-}
-
-pub loop-key-preserved : goal.loop-key-preserved
-loop-key-preserved c = record {
-  can_next = tt;
-  is_finite = tt;
-  left = λ new notes. c.loop-key.invariant.left new (subst (λ keys. NotesKeys keys c.args.visitor c.args.line c.loop-key.self new) (sym c.in-Some.ensures.steps.0) (c.note_key.new.self, c.in_ok-note_key.ensures, notes));
-}
+pub loop-panel-preserved : goal.loop-panel-preserved
+loop-panel-preserved c =
+    let known = c.args.facts.now in
+    let i = c.loop-panel.panel-index in
+    let so_far = keys_up_to (setup_of known) (record_of known) (facts_of known) PANELS i in
+    let inside : i < length PANELS = omega arith in
+    let more = one-panel-more (setup_of known) (record_of known) (facts_of known) PANELS i _ (option_map key_of c.key_in.result) inside c.key_in.ensures in
+    subst (λ ks. NotesKeys ks c.args.visitor c.args.line c.args.self.now c.note_entry.new.self) more
+    (notes-both so_far (with_group (option_map key_of c.key_in.result)) c.args.visitor c.args.line c.args.self.now c.loop-panel.self c.note_entry.new.self c.loop-panel.invariant c.in_ok-note_entry.ensures)
 
 pub returns : goal.returns
 returns c =
-    let whole = c.loop-key.key-iterator.rest.ok.0 in
-    let over = c.in-None.ensures.steps.0 in
-    let none = nil_from_length (into_iter_items c.loop-key.key-iterator) (omega (arith, whole, over)) in
-    c.loop-key.invariant.left c.loop-key.self (subst (λ keys. NotesKeys keys c.args.visitor c.args.line c.loop-key.self c.loop-key.self) (sym none) refl)
+    let known = c.args.facts.now in
+    let end : c.loop-panel.panel-index ≡ 17 = omega arith in
+    subst (λ n. NotesKeys (keys_up_to (setup_of known) (record_of known) (facts_of known) PANELS n) c.args.visitor c.args.line c.args.self.now c.loop-panel.self) end c.loop-panel.invariant

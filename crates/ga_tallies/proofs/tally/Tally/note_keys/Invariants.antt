@@ -1,12 +1,10 @@
-use Rattle.std.specs.Vec.Iter.{into_iter_items}
+use Rattle.std.proofs.Common.{take}
+use Rattle.std.specs.Prelude.{flat_map}
+use Rattle.ga_panels.specs.Known.{facts_of, record_of, setup_of}
+use Rattle.ga_panels.specs.Table.{keys_in}
 use Rattle.ga_tallies.specs.Steps.Notes.{NotesKeys}
-use Rattle.ga_tallies.specs.Tallies.{TallySeen}
 use Rattle.ga_tallies.proofs.tally.Tally.note_keys.Given as goal
 
--- what the keys that are left make of the tally is what all make of the one at the start
-abbrev pub invariant-loop-key : goal.invariant-loop-key
-invariant-loop-key l = record {
-  can_next : (goal.iterator-loop-key).can_next l.key-iterator;
-  is_finite : (goal.iterator-loop-key).is_finite l.key-iterator;
-  left : (new : TallySeen) → NotesKeys (into_iter_items l.key-iterator) l.visitor l.line l.self new → NotesKeys l.fn.keys l.visitor l.line l.initial.self new;
-}
+-- the keys in the panels so far are noted
+abbrev pub invariant-loop-panel : goal.invariant-loop-panel
+invariant-loop-panel l = NotesKeys (flat_map (keys_in (setup_of l.facts) (record_of l.facts) (facts_of l.facts)) (take l.panel-index l.panel-items)) l.visitor l.line l.initial.self l.self
