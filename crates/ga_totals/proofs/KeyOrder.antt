@@ -1,5 +1,5 @@
 -- The keys of rows that were sorted: they rise, and each number is that of one key.
-use Rattle.std.proofs.Common.{◌≡◌, ℕ, ◌+◌, ◌<◌, true, false, List, [], ◌∷◌, Some, Less, Equal, Greater, get_or, map, refl, sym, ap, ◌∙◌, subst, arith, ⊎_elim}
+use Rattle.std.proofs.Common.{◌≡◌, ℕ, ◌+◌, ◌<◌, Bool, true, false, List, [], ◌∷◌, Some, Less, Equal, Greater, get_or, map, refl, sym, ap, ◌∙◌, subst, arith, ⊎_elim}
 use Rattle.std.specs.Prelude.{slice_get}
 use Rattle.std.specs.declared.cmp.Ordering.{Ordering}
 use Rattle.std.specs.Ordering.{is_eq, is_lt, ordering_reverse}
@@ -12,7 +12,7 @@ use Rattle.std.proofs.lemmas.Option.{get_or_from_slice_get, slice_get_within}
 use Rattle.ga_base.specs.declared.key.Key.{Key}
 use Rattle.ga_base.specs.Orders.{is_same_key, key_cmp}
 use Rattle.ga_base.proofs.OrderLemmas.{key_cmp_total}
-use Rattle.ga_tallies.proofs.Same.{key-itself, key-laws}
+use Rattle.ga_tallies.proofs.Same.{key-laws}
 use Rattle.ga_totals.specs.Steps.Rows.{AreByKey, NumberedKey}
 
 less-by : (o p : Ordering) → p ≡ ordering_reverse o → is_lt p ≡ false → is_eq o ≡ false → o ≡ Less
@@ -46,19 +46,20 @@ keys-rise keys order distinct by_key = by-head order refl
     by-head [] e = subst (λ (ns : List NumberedKey). IsStrictlySortedBy key_cmp (map (λ (n : NumberedKey). n.key) ns)) (sym e) none-rise
     by-head (n ∷ ns) e = by-default n
 
--- of different keys each has one number
-pub one-number : (keys : List Key) (i j : ℕ) (key : Key) → IsDistinct is_same_key keys → slice_get keys i ≡ Some key → slice_get keys j ≡ Some key → i ≡ j
-one-number keys i j key distinct at there =
-    ⊎_elim
-    (λ same. same)
-    (λ other. ⊎_elim
-    (λ less. absurd (apart i j at there less))
-    (λ more. absurd (apart j i there at more))
-    other)
-    (cases_order i j)
-  where
-    apart : (a b : ℕ) → slice_get keys a ≡ Some key → slice_get keys b ≡ Some key → a < b → ⊥
-    apart a b first next less =
-        let off : is_same_key (get_or keys a key) (get_or keys b key) ≡ false = apart_from_distinct is_same_key keys a b key distinct less (slice_get_within keys b key next) in
-        let on : is_same_key (get_or keys a key) (get_or keys b key) ≡ true = (λ i. is_same_key (get_or_from_slice_get keys a key key first i) (get_or_from_slice_get keys b key key next i)) ∙ key-itself key in
-        true≢false (sym on ∙ off)
+-- of different items each has one place
+module _ {T : Type 0} (eq : T → T → Bool) (itself : (x : T) → eq x x ≡ true) where
+  pub one-place : (items : List T) (i j : ℕ) (x : T) → IsDistinct eq items → slice_get items i ≡ Some x → slice_get items j ≡ Some x → i ≡ j
+  one-place items i j x distinct at there =
+      ⊎_elim
+      (λ same. same)
+      (λ other. ⊎_elim
+      (λ less. absurd (apart i j at there less))
+      (λ more. absurd (apart j i there at more))
+      other)
+      (cases_order i j)
+    where
+      apart : (a b : ℕ) → slice_get items a ≡ Some x → slice_get items b ≡ Some x → a < b → ⊥
+      apart a b first next less =
+          let off : eq (get_or items a x) (get_or items b x) ≡ false = apart_from_distinct eq items a b x distinct less (slice_get_within items b x next) in
+          let on : eq (get_or items a x) (get_or items b x) ≡ true = (λ i. eq (get_or_from_slice_get items a x x first i) (get_or_from_slice_get items b x x next i)) ∙ itself x in
+          true≢false (sym on ∙ off)

@@ -21,14 +21,14 @@ use Rattle.ga_totals.specs.Steps.Rows.{AreByKey, AreNamesOf, AreRowsOf, IsRowOf,
 pub Contains-from_filter : {X : Type 0} (p : X → Bool) (xs : List X) (x : X) → Contains (filter p xs) x → Contains xs x
 Contains-from_filter p xs x at = All-contains (Contains xs) (filter p xs) x (All-filter p (Contains xs) xs (All-contains_itself xs)) at
 
-passes : {X : Type 0} (p : X → Bool) (xs : List X) (x : X) → Contains (filter p xs) x → p x ≡ true
+pub passes : {X : Type 0} (p : X → Bool) (xs : List X) (x : X) → Contains (filter p xs) x → p x ≡ true
 passes p xs x at = All-contains (λ y. p y ≡ true) (filter p xs) x (filter_passes p xs) at
 
 -- one place further on
-later : {X : Type 0} (y : X) (xs : List X) (x : X) → Contains xs x → Contains (y ∷ xs) x
+pub later : {X : Type 0} (y : X) (xs : List X) (x : X) → Contains xs x → Contains (y ∷ xs) x
 later y xs x (k, lt, e) = (suc k, omega (arith, lt), e)
 
-Contains-filter : {X : Type 0} (p : X → Bool) (xs : List X) (x : X) → p x ≡ true → Contains xs x → Contains (filter p xs) x
+pub Contains-filter : {X : Type 0} (p : X → Bool) (xs : List X) (x : X) → p x ≡ true → Contains xs x → Contains (filter p xs) x
 Contains-filter p [] x pass at = at
 Contains-filter p (y ∷ xs) x pass (zero, lt, e) =
     let here : p y ≡ true = ap p e ∙ pass in

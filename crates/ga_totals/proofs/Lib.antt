@@ -10,3 +10,5 @@ pub mod TakenIn
 pub mod KeyOrder
 pub mod Dates
 pub mod Summing
+pub mod Visiting
+pub mod Told

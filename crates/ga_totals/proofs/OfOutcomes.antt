@@ -31,6 +31,11 @@ visitors-within outcomes t pairs is same =
     All-weaker (λ (pair : Pair). (pair.key < length t.keys) × (pair.visitor < length t.visitors)) (λ (pair : Pair). pair.visitor < length t.visitors)
     (λ pair both. both.1) pairs (pairs-within outcomes t pairs is same)
 
+pub keys-within : (outcomes : List Outcome) (t : TallySeen) (pairs : List Pair) → IsTallyOf outcomes t → map pair_of pairs ≡ t.pairs → All (λ pair. pair.key < length t.keys) pairs
+keys-within outcomes t pairs is same =
+    All-weaker (λ (pair : Pair). (pair.key < length t.keys) × (pair.visitor < length t.visitors)) (λ (pair : Pair). pair.key < length t.keys)
+    (λ pair both. both.0) pairs (pairs-within outcomes t pairs is same)
+
 one-adds : (outcome : Outcome) → LinesAdd (totals_of (outcome ∷ []))
 one-adds Failed = refl
 one-adds Excluded = refl

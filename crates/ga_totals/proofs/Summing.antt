@@ -30,10 +30,10 @@ use Rattle.ga_summary.proofs.SoundSums.{IsSound-sum}
 use Rattle.ga_summary.proofs.Unique.{find_is}
 use Rattle.ga_tallies.specs.Tallies.{IsTallyOf, TallySeen}
 use Rattle.ga_tallies.proofs.OneKey.{sums-none}
-use Rattle.ga_tallies.proofs.Same.{same-key, same-visitor}
+use Rattle.ga_tallies.proofs.Same.{key-itself, same-key, same-visitor}
 use Rattle.ga_totals.specs.Steps.Rows.{AreRowsOf, name_at}
 use Rattle.ga_totals.proofs.Dates.{visit-dated}
-use Rattle.ga_totals.proofs.KeyOrder.{keys-rise, one-number}
+use Rattle.ga_totals.proofs.KeyOrder.{keys-rise, one-place}
 use Rattle.ga_totals.proofs.KeyRows.{IsSomeRow}
 
 no-hits : (n : ℕ) → nat_lt 0 n ≡ false → n ≡ 0
@@ -44,19 +44,19 @@ any-map f p [] = refl
 any-map f p (x ∷ xs) = ap (λ b. p (f x) || b) (any-map f p xs)
 
 -- a name is among names where it is one of them
-named : (names : List Name) (name : Name) → Contains names name → has_name names name ≡ true
+pub named : (names : List Name) (name : Name) → Contains names name → has_name names name ≡ true
 named names name (k, lt, e) = list_any_at (is_same_name name) names k name lt (ap (is_same_name name) e ∙ ap is_eq (tied_itself name_cmp_total name))
 
-from-named : (names : List Name) (name : Name) → has_name names name ≡ true → Contains names name
+pub from-named : (names : List Name) (name : Name) → has_name names name ≡ true → Contains names name
 from-named names name has =
     let found = Any-from_list_any (is_same_name name) names has in
     subst (Contains names) (sym (name_cmp_exact name found.1 (equal_from_is_eq _ found.4))) (found.0, found.2, found.3)
 
-same-one : (a b : Visitor) → a.date ≡ b.date → name_of a ≡ name_of b → a ≡ b
+pub same-one : (a b : Visitor) → a.date ≡ b.date → name_of a ≡ name_of b → a ≡ b
 same-one a b date name = λ i. record { host = (name i).host; date = date i; agent = (name i).agent }
 
 -- the name at a number is that of the visitor who has it
-name-there : (visitors : List Visitor) (v : ℕ) (visitor : Visitor) → slice_get visitors v ≡ Some visitor → name_at visitors v ≡ name_of visitor
+pub name-there : (visitors : List Visitor) (v : ℕ) (visitor : Visitor) → slice_get visitors v ≡ Some visitor → name_at visitors v ≡ name_of visitor
 name-there visitors v visitor at = ap (λ (w : Visitor). name_of w) (get_or_from_slice_get visitors v visitor _ at)
 
 module _ (outcomes : List Outcome) (t : TallySeen) (rows : List Row) (is : IsTallyOf outcomes t) (can : AllCountable outcomes) (are : AreRowsOf t.keys t.sums t.visitors t.pairs rows) where
@@ -136,7 +136,7 @@ module _ (outcomes : List Outcome) (t : TallySeen) (rows : List Row) (is : IsTal
               let p = is.visits key visitor has in
               let known : p.2 ≡ key = sym (same-key key p.2 p.5) in
               let seen : p.3 ≡ visitor = sym (same-visitor visitor p.3 p.7) in
-              let number : p.0 ≡ f.number = one-number t.keys p.0 f.number key is.different_keys (p.4 ∙ ap Some known) f.stands in
+              let number : p.0 ≡ f.number = one-place is_same_key key-itself t.keys p.0 f.number key is.different_keys (p.4 ∙ ap Some known) f.stands in
               let name : name_at t.visitors p.1 ≡ name_of visitor = name-there t.visitors p.1 visitor (p.6 ∙ ap Some seen) in
               let listed : Contains row.names (name_of visitor) = subst (Contains row.names) name (f.all p.1 (subst (λ (k : ℕ). Contains t.pairs (k, p.1)) number p.8)) in
               and_from (visitor.date == key.date) (has_name row.names (name_of visitor)) (eq-eqb _ _ (visit-dated key visitor outcomes can has)) (named row.names (name_of visitor) listed)

@@ -1,11 +1,15 @@
--- What a total is given, and when a summary may be made of it.
-use Rattle.std.specs.Prelude.{ℕ, ◌<◌, List, All, map}
+-- What a total is given, when a summary may be made of it, and what it tells to a report.
+use Rattle.std.specs.Prelude.{◌≡◌, ℕ, ◌<◌, List, All, map}
 use Rattle.ga_base.specs.declared.counts.Sums.{Sums}
 use Rattle.ga_base.specs.declared.counts.Totals.{Totals}
 use Rattle.ga_base.specs.declared.key.Key.{Key}
 use Rattle.ga_base.specs.declared.key.Visitor.{Visitor}
+use Rattle.ga_report.specs.OfSummary.{told_value}
+use Rattle.ga_report.specs.Told.{ToldValue}
 use Rattle.ga_summary.specs.Outcomes.{Outcome}
-use Rattle.ga_summary.specs.Sound.{AllCountable}
+use Rattle.ga_summary.specs.Rows.{SummaryValue}
+use Rattle.ga_summary.specs.Sound.{AllCountable, IsSummary}
+use Rattle.ga_summary.specs.Sums.{IsSumOf}
 use Rattle.ga_tallies.specs.Tallies.{IsTallyOf, TallySeen, pair_of}
 use Rattle.ga_tallies.specs.declared.pairs.Pair.{Pair}
 
@@ -22,3 +26,10 @@ pub record IsOfCountable (t : TallySeen) : Type 0 where
   pub outcomes : List Outcome
   pub tally : IsTallyOf outcomes t
   pub countable : AllCountable outcomes
+
+-- what is told is what a summary of these outcomes tells
+pub record TellsSumOf (outcomes : List Outcome) (told : ToldValue) : Type 0 where
+  pub sum : SummaryValue
+  pub is_sum : IsSumOf outcomes sum
+  pub is_summary : IsSummary sum
+  pub same : told ≡ told_value sum

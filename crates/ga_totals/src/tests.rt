@@ -1,5 +1,6 @@
 use crate::Total;
 use ga_base::{Key, NoMemory, Panel, Sums, Text, Totals, Visitor};
+use ga_report::Tells;
 use ga_shards::Keyed;
 use ga_tallies::Pair;
 use std::alloc::Global;
@@ -61,5 +62,15 @@ fn no_lines_are_summed_up(rt: HostRuntime) -> Result<(), NoMemory> {
     let total = Total::new(alloc, Keyed::new(1, 2));
     let sum = total.summary(alloc)?;
     assert_eq!(rt; sum.len(), 0);
+    Ok(())
+}
+
+#[test]
+fn no_lines_are_told(rt: HostRuntime) -> Result<(), NoMemory> {
+    let alloc = rt.alloc();
+    let total = Total::new(alloc, Keyed::new(1, 2));
+    let told = total.told(alloc)?;
+    assert_eq!(rt; told.totals(), total.totals());
+    assert_eq!(rt; told.len(), 0);
     Ok(())
 }

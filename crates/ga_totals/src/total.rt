@@ -5,10 +5,12 @@ ghost use Rattle.ga_summary.specs.Rows.{totals_plus};
 ghost use Rattle.ga_summary.specs.Sound.{AllCountable, TotalsFit};
 ghost use Rattle.ga_summary.specs.Sums.{IsSumOf};
 ghost use Rattle.ga_tallies.specs.Tallies.{IsTallyOf};
-ghost use Rattle.ga_totals.specs.Totals.{AreWithin, IsOfCountable, batch_of};
+ghost use Rattle.ga_totals.specs.Totals.{AreWithin, IsOfCountable, TellsSumOf, batch_of};
 
 use crate::rows::rows_of;
 use crate::taking::{add_pairs, add_rows, note_all};
+use crate::telling::{TotalTold, key_rows};
+use crate::visits::visits_of;
 use ga_base::{Key, NoMemory, Sums, Totals, Visitor};
 use ga_shards::{Dictionary, Keyed};
 use ga_summary::{PartRows, Summary, SummaryParts};
@@ -121,6 +123,18 @@ impl Total {
             totals: self.totals,
             rows: PartRows::from(rows),
         })
+    }
+
+    /// What the total tells to a report: what the summary would tell, without its names. It takes the time of sorting the
+    /// keys and the pairs, and the memory of a copy of the pairs.
+    pub fn told(&self, alloc: Global) -> Result<TotalTold<'_>, NoMemory>
+        requires { IsOfCountable self.now }
+        ensures { IfOk result (λ told. (xs : List Outcome) → IsTallyOf xs self.now → AllCountable xs
+            → TellsSumOf xs told) }
+    {
+        let visits = visits_of(alloc, self.keys.len(), self.pairs.items())?;
+        let rows = key_rows(alloc, &self.keys, &self.sums, &visits)?;
+        Ok(TotalTold::of(self.totals, rows))
     }
 }
 
