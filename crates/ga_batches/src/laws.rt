@@ -1,10 +1,19 @@
 //! What holds of lines as they are held. Each function's contract is the law, and its body is empty.
 
+ghost use Rattle.std.specs.Prelude.{◌≡◌, ◌^◌};
 ghost use Rattle.ga_batches.specs.Laws.{CutsApart, CutsEachPiece, CutsOnce};
+ghost use Rattle.ga_batches.specs.declared.batcher.TheConstants.{LINE_FEED, LINE_HELD, MOST_LIMIT};
 
 /// A text with its lines cut has the pieces of the text, each cut; and lines may be cut before more is added, or behind it.
 pub fn lines_are_cut_one_by_one()
     ensures pieces { CutsEachPiece }
     ensures once { CutsOnce }
     ensures apart { CutsApart }
+{}
+
+/// The byte that ends a line, how much of a line is held, and how many bytes a batch has at most.
+pub fn sizes()
+    ensures ends { LINE_FEED ≡ 10 }
+    ensures held { LINE_HELD ≡ 65537 }
+    ensures most { MOST_LIMIT ≡ 2 ^ 24 }
 {}

@@ -5,13 +5,13 @@ use Rattle.ga_base.specs.declared.entry.Entry.{Entry}
 use Rattle.ga_ports.specs.Files.{FilesView}
 use Rattle.ga_resume.specs.declared.fault.PlaceFault.{PlaceFault}
 use Rattle.ga_resume.specs.declared.fault.PlaceFault.TheVariants.{FileFault, FileShort, NoMemory}
-use Rattle.ga_summary.specs.Rows.{SummaryValue}
-use Rattle.ga_outcomes.specs.Counting.{CountsLines, FillsAmong}
+use Rattle.ga_outcomes.specs.Counting.{FillsAmong}
 use Rattle.ga_outcomes.specs.declared.setup.Setup.{Setup}
-use Rattle.ga_streams.specs.Counting.{CountingSeen, HasCounted, HasCountedBy}
+use Rattle.ga_streams.specs.Counting.{AreInTotal, CountingSeen, HasCounted, HasCountedBy}
 use Rattle.ga_streams.specs.declared.full.CountingFault.{CountingFault}
 use Rattle.ga_streams.specs.declared.full.CountingFault.TheVariants.{Full as CounterFull, NoMemory as CountingNoMemory}
 use Rattle.ga_streams.specs.declared.full.Full.{Full as TheFull}
+use Rattle.ga_tallies.specs.Tallies.{TallySeen}
 use Rattle.ga_logs.specs.Following.{MissesAt, MissesLog, ReadsAll, ReadsPortion, ReadsSome}
 use Rattle.ga_logs.specs.Following.MissesAt.{misses_first, misses_later}
 use Rattle.ga_logs.specs.Following.ReadsAll.{read_all, read_then}
@@ -103,10 +103,10 @@ counted-more setup start n front name es es' es'' a b c old new h one = record {
 }
 
 -- all logs were counted
-pub counts-logs : (setup : Setup) (start : Start) (n : Option ℕ) (names : List (List ℕ)) (es es' : List Entry) (a b : FilesView) (counting : CountingSeen) (sum : SummaryValue)
+pub counts-logs : (setup : Setup) (start : Start) (n : Option ℕ) (names : List (List ℕ)) (es es' : List Entry) (a b : FilesView) (counting : CountingSeen) (total : TallySeen)
     → HasCountedLogs setup start n names es es' a b counting
-    → ((s : Setup) (all : List (List ℕ)) → HasCounted s all counting → CountsLines s counting.start all sum) → CountsLogs setup start n names es es' a b sum
-counts-logs setup start n names es es' a b counting sum h sums = record {
+    → ((s : Setup) (all : List (List ℕ)) → HasCounted s all counting → AreInTotal s counting.start all total) → CountsLogs setup start n names es es' a b total
+counts-logs setup start n names es es' a b counting total h sums = record {
   portions = h.portions;
   read = h.read;
   counts = rw h.begun at (sums setup (counted_lines n start.follow h.portions) h.counted);
@@ -142,7 +142,7 @@ stops-sum setup start n names front back split es es' a b counting h CountingNoM
 pub stops-full : (setup : Setup) (start : Start) (n : Option ℕ) (names front back : List (List ℕ)) → names ≡ front ++ back → (es es' : List Entry) (a b : FilesView) (counting : CountingSeen)
     → HasCountedLogs setup start n front es es' a b counting → (full : TheFull) → counting.full ≡ Some full → StopsLogs setup start n names es a b (fault_of_full full)
 stops-full setup start n names front back split es es' a b counting h full is =
-    let fills = subst (λ (o : Option TheFull). HasCountedBy o setup counting.start (counted_lines n start.follow h.portions) counting.total) is h.counted in
+    let fills = subst (λ (o : Option TheFull). HasCountedBy o setup counting.start (counted_lines n start.follow h.portions) counting.tallies) is h.counted in
     record { portions = h.portions; read = rw split (some-of-all back h.read); fills = rw h.begun at fills }
 
 module _ (setup : Setup) (start : Start) (n : Option ℕ) (names front back : List (List ℕ)) (name : List ℕ) (split : names ≡ front ++ name ∷ back)

@@ -4,8 +4,9 @@ use Rattle.ga_base.specs.declared.counts.Counter.{Counter}
 use Rattle.ga_base.specs.declared.entry.Entry.{Entry}
 use Rattle.ga_ports.specs.Files.{FilesView}
 use Rattle.ga_resume.specs.declared.fault.PlaceFault.TheVariants.{FileFault, FileShort, NoMemory}
-use Rattle.ga_summary.specs.Rows.{SummaryValue}
-use Rattle.ga_outcomes.specs.Counting.{CountsLines, FillsAmong}
+use Rattle.ga_outcomes.specs.Counting.{FillsAmong}
+use Rattle.ga_streams.specs.Counting.{AreInTotal}
+use Rattle.ga_tallies.specs.Tallies.{TallySeen}
 use Rattle.ga_logs.specs.Following.{MissesAt, ReadsAll, ReadsSome}
 use Rattle.ga_logs.specs.Portions.{counted_lines}
 use Rattle.ga_logs.specs.declared.fault.CountFault.{CountFault}
@@ -14,12 +15,12 @@ use Rattle.ga_logs.specs.declared.portion.Portion.{Portion}
 use Rattle.ga_outcomes.specs.declared.setup.Setup.{Setup}
 use Rattle.ga_logs.specs.declared.start.Start.{Start}
 
--- the logs were read and the entries went with them, and the generator's lines and theirs have this sum
+-- the logs were read and the entries went with them, and the generator's lines and theirs are counted in this total
 pub record CountsLogs (setup : Setup) (start : Start) (generated : Option ℕ) (names : List (List ℕ)) (entries entries' : List Entry)
-    (files files' : FilesView) (sum : SummaryValue) : Type 0 where
+    (files files' : FilesView) (total : TallySeen) : Type 0 where
   pub portions : List Portion
   pub read : ReadsAll start.follow names entries entries' files files' portions
-  pub counts : CountsLines setup start.totals (counted_lines generated start.follow portions) sum
+  pub counts : AreInTotal setup start.totals (counted_lines generated start.follow portions) total
 
 -- some logs were read, and the generator's lines and theirs, up to one of them, fill a counter
 pub record FillsLogs (setup : Setup) (start : Start) (generated : Option ℕ) (names : List (List ℕ)) (entries : List Entry)

@@ -1,4 +1,4 @@
-ghost use Rattle.std.specs.Prelude.{◌≡◌, ◌≢◌, ◌+◌, ◌≤◌, ℕ, List, IfOk, IfErr, OnOk};
+ghost use Rattle.std.specs.Prelude.{◌≢◌, ◌+◌, ◌≤◌, ℕ, List, IfOk, IfErr, OnOk};
 ghost use Rattle.ga_ports.specs.Stretch.{FilesWent};
 ghost use Rattle.ga_resume.specs.declared.fault.PlaceFault.TheVariants.{FileFault};
 ghost use Rattle.ga_streams.specs.Counting.{AreWorkers};
@@ -20,11 +20,11 @@ use ga_ports::laws::files_stay;
 use ga_ports::{Files, Gate};
 use ga_resume::{PlaceFault, Segment, advance};
 use ga_streams::{Counting, Workers};
-use ga_summary::Summary;
+use ga_totals::Total;
 use std::alloc::Global;
 use std::thread::Threads;
 
-/// The sum of the generator's lines, where so many are asked for, and of the lines of these logs, which are read one after
+/// The total of the generator's lines, where so many are asked for, and of the lines of these logs, which are read one after
 /// the other, each from where the start says. The entries go with them; after an `Err` they are those of some of the logs.
 /// Nothing that is answered depends on the workers or on the gate.
 pub fn count_logs<R: Threads + Sync, G: Gate, F: Files>(
@@ -38,7 +38,7 @@ pub fn count_logs<R: Threads + Sync, G: Gate, F: Files>(
     names: &[Text],
     entries: &mut Entries,
     files: &mut F,
-) -> Result<Summary, CountFault>
+) -> Result<Total, CountFault>
     requires workers { AreWorkers workers }
     requires fit { TotalsFit start.totals }
     requires lines { LinesAdd start.totals }
@@ -71,7 +71,7 @@ pub fn count_logs<R: Threads + Sync, G: Gate, F: Files>(
             Err(fault) => return Err(CountFault::of_log(place as u64, fault)),
         }
     }
-    let total = counting.sum()?;
+    let total = counting.into_total(rt)?;
     Ok(total)
 }
 

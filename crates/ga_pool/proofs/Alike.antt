@@ -6,15 +6,13 @@ use Rattle.std.specs.List.{All}
 use Rattle.std.proofs.lemmas.List.Elements.{All-append}
 use Rattle.ga_base.specs.declared.counts.Sums.{Sums}
 use Rattle.ga_base.specs.declared.counts.Totals.{Totals}
-use Rattle.ga_base.specs.declared.key.Key.{Key}
-use Rattle.ga_base.specs.declared.key.Visitor.{Visitor}
 use Rattle.ga_summary.specs.Outcomes.{Hit, Outcome, Failed, Excluded, Counted, hits_of, sums_of, has_visit, totals_of}
 use Rattle.ga_summary.specs.Rows.{sums_plus, totals_plus}
 use Rattle.ga_summary.specs.Sound.{AllCountable, IsCountable}
 use Rattle.ga_summary.proofs.Appends.{sums_of-append, has_visit-append, totals_of-append}
 use Rattle.ga_outcomes.specs.Counting.{Come, listed}
 use Rattle.ga_outcomes.specs.declared.setup.Setup.{Setup}
-use Rattle.ga_pool.specs.Steps.Together.{AreAlike}
+use Rattle.ga_pool.specs.Together.{AreAlike}
 
 pub alike-refl : (xs : List Outcome) → AreAlike xs xs
 alike-refl xs = record { totals = refl; sums = λ key. refl; visits = λ key visitor. refl }

@@ -1,8 +1,7 @@
 -- Which pairs the workers claim: those of keys and visitors of them, by their numbers. And which keys there are.
-use Rattle.std.proofs.Common.{◌≡◌, ℕ, zero, suc, ◌+◌, ◌<◌, ◌≤◌, Bool, true, false, ◌||◌, ◌⊎◌, inl, inr, List, [], ◌∷◌, ◌++◌, length, map, get_or, Option, Some, refl, sym, ap, ◌∙◌, subst, arith, ⊎_elim, nat_lt}
+use Rattle.std.proofs.Common.{◌≡◌, ℕ, zero, suc, ◌+◌, Bool, true, false, ◌||◌, ◌⊎◌, inl, inr, List, [], ◌∷◌, ◌++◌, map, get_or, Some, refl, sym, ap, ◌∙◌, subst, arith, ⊎_elim, nat_lt}
 use Rattle.std.specs.Prelude.{slice_get}
-use Rattle.std.specs.List.{AllZip, Contains, list_any}
-use Rattle.std.proofs.lemmas.Bool.{cases_Bool}
+use Rattle.std.specs.List.{AllZip, Contains}
 use Rattle.std.proofs.lemmas.Bool.Decides.{nat_tests}
 use Rattle.std.proofs.lemmas.List.{get_or-map, length-map}
 use Rattle.std.proofs.lemmas.List.Elements.{Contains-append_cases, Contains-append_left, Contains-append_right}
@@ -10,20 +9,19 @@ use Rattle.std.proofs.lemmas.Map.Views.{Contains-from_any, list_any-from_Contain
 use Rattle.std.proofs.lemmas.Option.{get_or_from_slice_get, slice_get-get_or, slice_get_within}
 use Rattle.ga_base.specs.declared.key.Key.{Key}
 use Rattle.ga_base.specs.declared.key.Visitor.{Visitor}
-use Rattle.ga_base.specs.Orders.{is_same_key, is_same_visitor}
 use Rattle.ga_pairs.specs.declared.view.Pair.{Pair as Claim}
 use Rattle.ga_pool.specs.Steps.Filling.{claim_of, claims_of, lists_from, numbers_at}
 use Rattle.ga_pool.specs.Steps.Parts.{AreRowsOf}
-use Rattle.ga_pool.specs.Steps.Together.{AreTalliesOf, together}
+use Rattle.ga_pool.specs.Together.{AreTalliesOf, together}
 use Rattle.ga_pool.specs.declared.parts.Rows.{Rows}
-use Rattle.ga_pool.proofs.AllWorkers.{HaveNumbers, keys_in, together-cons, visitors_in}
+use Rattle.ga_pool.proofs.AllWorkers.{HaveNumbers, keys_in, visitors_in}
+use Rattle.ga_pool.proofs.DrawnPieces.{together-cons}
 use Rattle.ga_pool.proofs.Numbered.{some-inj}
 use Rattle.ga_pool.proofs.OneWorker.{HasNumbers}
 use Rattle.ga_shards.specs.Numbers.{item_of}
 use Rattle.ga_summary.specs.Outcomes.{Outcome, has_visit, sums_of}
 use Rattle.ga_summary.proofs.Appends.{has_visit-append, sums_of-append}
 use Rattle.ga_tallies.specs.Tallies.{IsTallyOf, TallySeen, pair_of}
-use Rattle.ga_tallies.specs.declared.pairs.Pair.{Pair}
 use Rattle.ga_tallies.proofs.Same.{key-laws, same-key, same-visitor}
 
 pub contains-map : {X Y : Type 0} (f : X → Y) (xs : List X) (x : X) → Contains xs x → Contains (map f xs) (f x)

@@ -1,25 +1,18 @@
 -- What the rows of all workers add under the number of a key: the key's sums over all that was counted.
-use Rattle.std.proofs.Common.{◌≡◌, ℕ, zero, suc, ◌+◌, ◌*◌, ◌<◌, ◌≤◌, max, Bool, true, false, List, [], ◌∷◌, ◌++◌, length, map, get_or, Option, Some, refl, sym, ap, ◌∙◌, subst, arith, ◌||◌, nat_lt}
+use Rattle.std.proofs.Common.{◌≡◌, ℕ, ◌+◌, ◌*◌, ◌<◌, max, List, [], ◌∷◌, Some, sym, ap, ◌∙◌, arith}
 use Rattle.std.specs.Prelude.{slice_get}
-use Rattle.std.specs.List.{AllZip, Contains, flat_map, list_any}
-use Rattle.std.proofs.lemmas.List.Concat.{flat_map-cons}
-use Rattle.std.proofs.lemmas.Bool.Decides.{nat_tests}
-use Rattle.ga_base.specs.declared.counts.Sums.{Sums}
-use Rattle.ga_base.specs.declared.counts.Totals.{Totals}
+use Rattle.std.specs.List.{AllZip}
 use Rattle.ga_base.specs.declared.key.Key.{Key}
 use Rattle.ga_base.specs.declared.key.Visitor.{Visitor}
 use Rattle.ga_pool.specs.Steps.Filling.{added_at, adds, at_place, at_word, max_from, numbers_at, raised_to, raises, sum_from}
 use Rattle.ga_pool.specs.Steps.Parts.{AreRowsOf}
-use Rattle.ga_pool.specs.Steps.Together.{AreTalliesOf, together, totals_in}
+use Rattle.ga_pool.specs.Together.{AreTalliesOf, together}
 use Rattle.ga_pool.specs.declared.parts.Rows.{Rows}
+use Rattle.ga_pool.proofs.DrawnPieces.{together-cons}
 use Rattle.ga_pool.proofs.OneWorker.{HasNumbers, at-none, at-place-none, at-place-plus, at-plus, worker-adds, worker-raises}
-use Rattle.ga_summary.specs.Outcomes.{Outcome, has_visit, sums_of, totals_of}
-use Rattle.ga_summary.specs.Rows.{no_sums, sums_plus}
-use Rattle.ga_summary.proofs.Appends.{has_visit-append, sums_of-append}
-use Rattle.ga_tallies.specs.Tallies.{IsTallyOf, TallySeen}
-
-pub together-cons : (part : List Outcome) (parts : List (List Outcome)) → together (part ∷ parts) ≡ part ++ together parts
-together-cons part parts = flat_map-cons (λ (p : List Outcome). p) part parts
+use Rattle.ga_summary.specs.Outcomes.{Outcome, sums_of}
+use Rattle.ga_summary.proofs.Appends.{sums_of-append}
+use Rattle.ga_tallies.specs.Tallies.{TallySeen}
 
 -- each worker, from this one on, has the numbers of its tally's items
 abbrev pub HaveNumbers : {T : Type 0} → (TallySeen → List T) → List T → List (List ℕ) → ℕ → List TallySeen → Type 0

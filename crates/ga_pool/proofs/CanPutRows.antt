@@ -1,7 +1,7 @@
 -- The rows of tallies can be put into tables of the numbers of their items.
-use Rattle.std.proofs.Common.{◌≡◌, ℕ, zero, suc, ◌+◌, ◌<◌, ◌≤◌, Bool, true, false, cond, List, [], ◌∷◌, length, map, get_or, Option, Some, refl, sym, ap, ◌∙◌, subst, arith}
+use Rattle.std.proofs.Common.{◌≡◌, ℕ, zero, suc, ◌+◌, ◌<◌, ◌≤◌, Bool, true, false, cond, List, [], ◌∷◌, length, map, get_or, Some, refl, sym, ap, ◌∙◌, subst, arith}
 use Rattle.std.specs.Prelude.{slice_get, fold}
-use Rattle.std.specs.List.{All, AllZip, Contains, filter, sum_by}
+use Rattle.std.specs.List.{AllZip, Contains, filter, sum_by}
 use Rattle.std.proofs.lemmas.List.{get_or-map, length-map}
 use Rattle.std.proofs.lemmas.List.Sums.{sum_by-cons}
 use Rattle.std.proofs.lemmas.Option.{get_or_from_slice_get, slice_get-get_or, slice_get_within}
@@ -10,16 +10,16 @@ use Rattle.ga_base.specs.declared.counts.Totals.{Totals}
 use Rattle.ga_base.specs.declared.key.Key.{Key}
 use Rattle.ga_base.specs.declared.key.Visitor.{Visitor}
 use Rattle.ga_base.specs.Orders.{is_same_key}
-use Rattle.ga_pool.specs.Steps.Filling.{CanAdd, CanClaim, CanPut, IsNumbered, numbers_at, weight_of_rows}
+use Rattle.ga_pool.specs.Steps.Filling.{CanAdd, CanClaim, CanPut, numbers_at, weight_of_rows}
 use Rattle.ga_pool.specs.Steps.Parts.{AreRowsOf}
-use Rattle.ga_pool.specs.Steps.Together.{AreTalliesOf, totals_in}
+use Rattle.ga_pool.specs.Together.{AreTalliesOf, totals_in}
 use Rattle.ga_pool.specs.declared.parts.Rows.{Rows}
 use Rattle.ga_pool.proofs.AllPairs.{contains-map}
 use Rattle.ga_pool.proofs.AllWorkers.{HaveNumbers, keys_in, visitors_in}
 use Rattle.ga_pool.proofs.Numbered.{one-place}
 use Rattle.ga_pool.proofs.OneWorker.{HasNumbers}
-use Rattle.ga_summary.specs.Outcomes.{Counted, Excluded, Failed, Hit, Outcome, has_key, hits_at, hits_of, sums_of, totals_of}
-use Rattle.ga_summary.specs.Rows.{no_sums, totals_plus}
+use Rattle.ga_summary.specs.Outcomes.{Counted, Excluded, Failed, Hit, Outcome, has_key, hits_of, sums_of, totals_of}
+use Rattle.ga_summary.specs.Rows.{totals_plus}
 use Rattle.ga_outcomes.specs.Counting.{no_totals}
 use Rattle.ga_tallies.specs.Tallies.{IsTallyOf, TallySeen, pair_of}
 use Rattle.ga_tallies.specs.declared.pairs.Pair.{Pair}

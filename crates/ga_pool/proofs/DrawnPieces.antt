@@ -1,6 +1,6 @@
 -- What workers drew is all pieces, each once, so what they counted is what the batch's lines come to.
-use Rattle.std.proofs.Common.{◌≡◌, ◌≢◌, ℕ, zero, suc, ◌+◌, ◌-◌, ◌<◌, ◌≤◌, Bool, true, false, cond, eqb, ltb, List, [], ◌∷◌, ◌++◌, length, map, take, drop, get_or, refl, sym, ap, ◌∙◌, subst, arith, append_assoc, append-nil, length-append, inl, inr, ◌⊎◌, Result, Ok, Err, IfOk}
-use Rattle.std.specs.List.{All, AllZip, Contains, count_by, filter, flat_map}
+use Rattle.std.proofs.Common.{◌≡◌, ℕ, zero, suc, ◌+◌, ◌<◌, ◌≤◌, Bool, true, false, cond, eqb, ltb, List, [], ◌∷◌, ◌++◌, length, map, take, get_or, refl, sym, ap, ◌∙◌, subst, arith, append_assoc, append-nil, length-append, inl, inr}
+use Rattle.std.specs.List.{All, flat_map}
 use Rattle.std.proofs.lemmas.List.{map-append, take_more, take_all}
 use Rattle.std.proofs.lemmas.List.Concat.{flat_map-cons}
 use Rattle.std.proofs.lemmas.Grind.{flat_map-append}
@@ -15,8 +15,8 @@ use Rattle.ga_outcomes.specs.Counting.{Come}
 use Rattle.ga_tallies.specs.Tallies.{IsTallyOf, TakesIn, TallySeen}
 use Rattle.ga_outcomes.specs.declared.setup.Setup.{Setup}
 use Rattle.ga_draws.specs.Draws.{AreAllBelow, once_below, times}
-use Rattle.ga_pool.specs.Steps.Drawing.{Came, CountsDrawn, IsCame, IsDone, TalliesDrawn, all_lines, of_pieces, outcomes_in}
-use Rattle.ga_pool.specs.Steps.Together.{AreAlike, AreTalliesOf, TallyLines, together}
+use Rattle.ga_pool.specs.Steps.Drawing.{AllCount, Came, IsCame, IsDone, TalliesDrawn, all_lines, of_pieces, outcomes_in}
+use Rattle.ga_pool.specs.Together.{AreAlike, AreTalliesOf, CountsOn, together}
 use Rattle.ga_pool.proofs.Alike.{alike-append, alike-refl, alike-same, alike-swap, alike-trans, come-append, countable-append}
 
 -- a number more was drawn
@@ -24,26 +24,27 @@ of_pieces-push : (n number : ℕ) (drawn : List ℕ) → of_pieces n (drawn ++ n
 of_pieces-push n number drawn = filter-append (λ (k : ℕ). ltb k n) drawn (number ∷ [])
 
 -- a piece more was counted
-pub counts-more : (setup : Setup) (pieces : List (List ℕ)) (drawn : List ℕ) (number : ℕ) (old new : TallySeen) → number < length pieces
-    → TalliesDrawn setup pieces drawn old → TakesIn setup (lines (get_or pieces number []) true) old new → TalliesDrawn setup pieces (drawn ++ number ∷ []) new
-counts-more setup pieces drawn number old new within before more =
+pub counts-more : (setup : Setup) (pieces : List (List ℕ)) (drawn : List ℕ) (number : ℕ) (first old new : TallySeen) → number < length pieces
+    → TalliesDrawn setup pieces drawn first old → TakesIn setup (lines (get_or pieces number []) true) old new → TalliesDrawn setup pieces (drawn ++ number ∷ []) first new
+counts-more setup pieces drawn number first old new within before more =
     let piece : Came = record { number = number; outcomes = more.outcomes } in
     let is_piece : ltb number (length pieces) ≡ true = grind (arith, nat_tests) in
+    let behind : outcomes_in (before.came ++ piece ∷ []) ≡ outcomes_in before.came ++ more.outcomes =
+    flat_map-append (λ (p : Came). p.outcomes) before.came (piece ∷ []) ∙ ap (λ (os : List Outcome). outcomes_in before.came ++ os) (append-nil more.outcomes) in
     record {
       came = before.came ++ piece ∷ [];
       numbers =
           map-append (λ (p : Came). p.number) before.came (piece ∷ []) ∙ ap (λ (ks : List ℕ). ks ++ number ∷ []) before.numbers
           ∙ ap (λ (b : Bool). of_pieces (length pieces) drawn ++ cond b (number ∷ []) []) (sym is_piece) ∙ sym (of_pieces-push (length pieces) number drawn);
       each = All-push (IsCame setup pieces) before.came piece before.each (record { come = more.come; countable = more.countable });
-      tally =
-          subst (λ (os : List Outcome). IsTallyOf os new) (sym (flat_map-append (λ (p : Came). p.outcomes) before.came (piece ∷ []) ∙ ap (λ (os : List Outcome). outcomes_in before.came ++ os) (append-nil more.outcomes)))
-          (more.tally (outcomes_in before.came) before.tally);
+      tally = λ was is. subst (λ (os : List Outcome). IsTallyOf os new) (append_assoc was (outcomes_in before.came) more.outcomes ∙ ap (λ (os : List Outcome). was ++ os) (sym behind))
+          (more.tally (was ++ outcomes_in before.came) (before.tally was is));
     }
 
 -- a number was drawn that is no piece's
-pub counts-past : (setup : Setup) (pieces : List (List ℕ)) (drawn : List ℕ) (number : ℕ) (t : TallySeen) → length pieces ≤ number
-    → TalliesDrawn setup pieces drawn t → TalliesDrawn setup pieces (drawn ++ number ∷ []) t
-counts-past setup pieces drawn number t past before =
+pub counts-past : (setup : Setup) (pieces : List (List ℕ)) (drawn : List ℕ) (number : ℕ) (first t : TallySeen) → length pieces ≤ number
+    → TalliesDrawn setup pieces drawn first t → TalliesDrawn setup pieces (drawn ++ number ∷ []) first t
+counts-past setup pieces drawn number first t past before =
     let is_none : ltb number (length pieces) ≡ false = grind (arith, nat_tests) in
     record {
       came = before.came;
@@ -55,27 +56,48 @@ counts-past setup pieces drawn number t past before =
     }
 
 -- nothing was drawn
-pub counts-none : (setup : Setup) (pieces : List (List ℕ)) (t : TallySeen) → IsTallyOf [] t → TalliesDrawn setup pieces [] t
-counts-none setup pieces t is = record { came = []; numbers = refl; each = All-nil (IsCame setup pieces); tally = is }
+pub counts-none : (setup : Setup) (pieces : List (List ℕ)) (t : TallySeen) → TalliesDrawn setup pieces [] t t
+counts-none setup pieces t = record {
+  came = [];
+  numbers = refl;
+  each = All-nil (IsCame setup pieces);
+  tally = λ was is. subst (λ (os : List Outcome). IsTallyOf os t) (sym (append-nil was)) is;
+}
 
--- all that workers counted
-pub record CountsAll (setup : Setup) (pieces : List (List ℕ)) (drawn : List ℕ) (ts : List TallySeen) : Type 0 where
+-- all that workers counted, behind what they had
+pub record CountsAll (setup : Setup) (pieces : List (List ℕ)) (drawn : List ℕ) (old new : List TallySeen) : Type 0 where
   pub came : List Came
   pub numbers : map (λ piece. piece.number) came ≡ of_pieces (length pieces) drawn
   pub each : All (IsCame setup pieces) came
-  pub parts : List (List Outcome)
-  pub tallies : AreTalliesOf parts ts
-  pub whole : together parts ≡ outcomes_in came
+  pub behind : (parts : List (List Outcome)) → AreTalliesOf parts old
+      → (more : List (List Outcome)) × AreTalliesOf more new × AreAlike (together parts ++ outcomes_in came) (together more)
 
-pub all-counted : (setup : Setup) (pieces : List (List ℕ)) (drawn : List (List ℕ)) (ts : List TallySeen) → AllZip (CountsDrawn setup pieces) drawn ts
-    → CountsAll setup pieces (flat_map (λ d. d) drawn) ts
-all-counted setup pieces [] [] all = record { came = []; numbers = refl; each = All-nil (IsCame setup pieces); parts = []; tallies = tt; whole = refl }
-all-counted setup pieces [] (t ∷ ts) all = absurd all
-all-counted setup pieces (d ∷ drawn) [] all = absurd all
-all-counted setup pieces (d ∷ drawn) (t ∷ ts) all =
-    let rest = all-counted setup pieces drawn ts all.1 in
+-- what one worker counted comes before what others had
+alike-between : (p t f r : List Outcome) → AreAlike ((p ++ t) ++ (f ++ r)) ((p ++ f) ++ (t ++ r))
+alike-between p t f r =
+    let turned : AreAlike (t ++ (f ++ r)) (f ++ (t ++ r)) =
+    alike-trans _ _ _ (alike-same _ _ (sym (append_assoc t f r))) (alike-trans _ _ _ (alike-append (t ++ f) (f ++ t) r r (alike-swap t f) (alike-refl r)) (alike-same _ _ (append_assoc f t r))) in
+    alike-trans _ _ _ (alike-same _ _ (append_assoc p t (f ++ r)))
+    (alike-trans _ _ _ (alike-append p p (t ++ (f ++ r)) (f ++ (t ++ r)) (alike-refl p) turned) (alike-same _ _ (sym (append_assoc p f (t ++ r)))))
+
+pub together-cons : (part : List Outcome) (parts : List (List Outcome)) → together (part ∷ parts) ≡ part ++ together parts
+together-cons part parts = flat_map-cons (λ (p : List Outcome). p) part parts
+
+none-behind : (setup : Setup) (pieces : List (List ℕ)) (parts : List (List Outcome)) → AreTalliesOf parts []
+    → (more : List (List Outcome)) × AreTalliesOf more [] × AreAlike (together parts ++ outcomes_in []) (together more)
+none-behind setup pieces [] are = ([], tt, alike-refl [])
+none-behind setup pieces (p ∷ parts) are = absurd are
+
+pub all-counted : (setup : Setup) (pieces : List (List ℕ)) (drawn : List (List ℕ)) (old new : List TallySeen) → AllCount setup pieces drawn old new
+    → CountsAll setup pieces (flat_map (λ d. d) drawn) old new
+all-counted setup pieces [] [] [] all = record { came = []; numbers = refl; each = All-nil (IsCame setup pieces); behind = none-behind setup pieces }
+all-counted setup pieces [] [] (n ∷ new) all = absurd all
+all-counted setup pieces [] (o ∷ old) new all = absurd all
+all-counted setup pieces (d ∷ drawn) [] new all = absurd all
+all-counted setup pieces (d ∷ drawn) (o ∷ old) [] all = absurd all
+all-counted setup pieces (d ∷ drawn) (o ∷ old) (n ∷ new) all =
+    let rest = all-counted setup pieces drawn old new all.1 in
     let first = all.0.counts in
-    let id : List Outcome → List Outcome = λ (p : List Outcome). p in
     record {
       came = first.came ++ rest.came;
       numbers =
@@ -83,12 +105,25 @@ all-counted setup pieces (d ∷ drawn) (t ∷ ts) all =
           ∙ sym (filter-append (λ (k : ℕ). ltb k (length pieces)) d (flat_map (λ (x : List ℕ). x) drawn))
           ∙ ap (of_pieces (length pieces)) (sym (flat_map-cons (λ (x : List ℕ). x) d drawn));
       each = All-append (IsCame setup pieces) first.came rest.came first.each rest.each;
-      parts = outcomes_in first.came ∷ rest.parts;
-      tallies = (first.tally, rest.tallies);
-      whole =
-          flat_map-cons id (outcomes_in first.came) rest.parts ∙ ap (λ (os : List Outcome). outcomes_in first.came ++ os) rest.whole
-          ∙ sym (flat_map-append (λ (p : Came). p.outcomes) first.came rest.came);
+      behind = some-behind first.came rest.came first.tally rest.behind;
     }
+  where
+    some-behind : (f r : List Came) → ((before : List Outcome) → IsTallyOf before o → IsTallyOf (before ++ outcomes_in f) n)
+        → ((parts : List (List Outcome)) → AreTalliesOf parts old → (more : List (List Outcome)) × AreTalliesOf more new × AreAlike (together parts ++ outcomes_in r) (together more))
+        → (parts : List (List Outcome)) → AreTalliesOf parts (o ∷ old)
+        → (more : List (List Outcome)) × AreTalliesOf more (n ∷ new) × AreAlike (together parts ++ outcomes_in (f ++ r)) (together more)
+    some-behind f r one others [] are = absurd are
+    some-behind f r one others (p ∷ parts) are =
+        let (more, are', alike) = others parts are.1 in
+        let whole : together (p ∷ parts) ++ outcomes_in (f ++ r) ≡ (p ++ together parts) ++ (outcomes_in f ++ outcomes_in r) =
+        λ i. together-cons p parts i ++ flat_map-append (λ (c : Came). c.outcomes) f r i in (
+          (p ++ outcomes_in f) ∷ more,
+          (one p are.0, are'),
+          alike-trans _ _ _ (alike-same _ _ whole)
+              (alike-trans _ _ _ (alike-between p (together parts) (outcomes_in f) (outcomes_in r))
+              (alike-trans _ _ _ (alike-append (p ++ outcomes_in f) (p ++ outcomes_in f) (together parts ++ outcomes_in r) (together more) (alike-refl (p ++ outcomes_in f)) alike)
+              (alike-same _ _ (sym (together-cons (p ++ outcomes_in f) more))))),
+        )
 
 -- how often a number stands in lists
 times-cons : (k x : ℕ) (xs : List ℕ) → times k (x ∷ xs) ≡ cond (eqb x k) 1 0 + times k xs
@@ -249,24 +284,42 @@ ordered setup pieces (suc n) came within each once =
     let after = with-piece setup pieces n s.front s.back s.piece (omega (arith, within)) s.number_is parts.0 before in
     subst (λ (l : List Came). Ordered setup pieces l (suc n)) (sym s.is) (subst (λ (m : ℕ). Ordered setup pieces (s.front ++ s.piece ∷ s.back) m) (omega arith) after)
 
--- the tallies of all workers, once each is done, are of the lines of all pieces
-pub tallies-of-lines : (setup : Setup) (pieces : List (List ℕ)) (drawn : List (List ℕ)) (ts : List TallySeen) → 0 < length drawn → AllZip (CountsDrawn setup pieces) drawn ts
-    → AreAllBelow (flat_map (λ d. d) drawn) → TallyLines setup (all_lines pieces) ts
-tallies-of-lines setup pieces [] ts some all below = absurd (omega arith)
-tallies-of-lines setup pieces (d ∷ drawn) [] some all below = absurd all
-tallies-of-lines setup pieces (d ∷ drawn) (t ∷ ts) some all below =
+as-many : (setup : Setup) (pieces : List (List ℕ)) (drawn : List (List ℕ)) (old new : List TallySeen) → AllCount setup pieces drawn old new → length new ≡ length old
+as-many setup pieces [] [] [] all = refl
+as-many setup pieces [] [] (n ∷ new) all = absurd all
+as-many setup pieces [] (o ∷ old) new all = absurd all
+as-many setup pieces (d ∷ drawn) [] new all = absurd all
+as-many setup pieces (d ∷ drawn) (o ∷ old) [] all = absurd all
+as-many setup pieces (d ∷ drawn) (o ∷ old) (n ∷ new) all = ap suc (as-many setup pieces drawn old new all.1)
+
+some-done : (setup : Setup) (pieces : List (List ℕ)) (drawn : List (List ℕ)) (old new : List TallySeen) → 0 < length drawn → AllCount setup pieces drawn old new
+    → AreAllBelow (flat_map (λ d. d) drawn) → length pieces < length (flat_map (λ d. d) drawn)
+some-done setup pieces [] old new some all below = absurd (omega arith)
+some-done setup pieces (d ∷ drawn) [] new some all below = absurd all
+some-done setup pieces (d ∷ drawn) (o ∷ old) [] some all below = absurd all
+some-done setup pieces (d ∷ drawn) (o ∷ old) (n ∷ new) some all below = done-many (length pieces) d drawn below all.0.done
+
+-- the tallies of all workers, once each is done, count the lines of all pieces
+pub tallies-of-lines : (setup : Setup) (pieces : List (List ℕ)) (drawn : List (List ℕ)) (old new : List TallySeen) → 0 < length drawn → AllCount setup pieces drawn old new
+    → AreAllBelow (flat_map (λ d. d) drawn) → CountsOn setup (all_lines pieces) old new
+tallies-of-lines setup pieces drawn old new some all below =
     let n = length pieces in
-    let whole = flat_map (λ (x : List ℕ). x) (d ∷ drawn) in
-    let counted = all-counted setup pieces (d ∷ drawn) (t ∷ ts) all in
-    let many = done-many n d drawn below all.0.done in
-    let each : (k : ℕ) → times k (map (λ (p : Came). p.number) counted.came) ≡ once_below n k =
+    let whole = flat_map (λ (x : List ℕ). x) drawn in
+    let counted = all-counted setup pieces drawn old new all in
+    let many = some-done setup pieces drawn old new some all below in
+    let each : (k : ℕ) → times k (map (λ (piece : Came). piece.number) counted.came) ≡ once_below n k =
     λ k. ap (times k) counted.numbers ∙ times-of_pieces n k whole ∙ ap (λ (m : ℕ). cond (ltb k n) m 0) (below k) ∙ once-front n (length whole) k many in
     let row = ordered setup pieces n counted.came (omega arith) counted.each each in
     record {
+      many = as-many setup pieces drawn old new all;
       outcomes = row.outcomes;
       come = subst (λ (l : List (List ℕ)). Come setup (all_lines l) row.outcomes) (take_all n pieces (omega arith)) row.come;
       countable = row.countable;
-      parts = counted.parts;
-      tallies = counted.tallies;
-      alike = alike-trans _ _ _ row.alike (alike-same _ _ (sym counted.whole));
+      counted = λ before are.
+          let (more, are', alike) = counted.behind are.parts are.tallies_of in
+          record {
+            parts = more;
+            tallies_of = are';
+            alike = alike-trans _ _ _ (alike-append before (together are.parts) row.outcomes (outcomes_in counted.came) are.alike row.alike) alike;
+          };
     }

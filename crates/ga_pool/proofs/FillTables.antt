@@ -1,14 +1,13 @@
 -- What all workers put into the tables, together.
-use Rattle.std.proofs.Common.{◌≡◌, ℕ, zero, suc, ◌+◌, ◌-◌, ◌*◌, ◌<◌, ◌≤◌, max, List, [], ◌∷◌, ◌++◌, length, map, get_or, replicate, refl, sym, ap, ◌∙◌, subst, arith, length-append}
-use Rattle.std.specs.List.{All, flat_map, sum_by}
+use Rattle.std.proofs.Common.{◌≡◌, ℕ, zero, suc, ◌+◌, ◌<◌, max, List, [], ◌∷◌, ◌++◌, length, get_or, refl, ap, ◌∙◌, subst, arith}
+use Rattle.std.specs.List.{flat_map, sum_by}
 use Rattle.std.proofs.lemmas.List.{length-replicate}
 use Rattle.std.proofs.lemmas.List.Concat.{flat_map-cons}
 use Rattle.std.proofs.lemmas.List.Sums.{sum_by-cons}
-use Rattle.ga_counts.specs.Counts.{TableSeen, blank, given, joined, left, maximum_at, tally_at}
+use Rattle.ga_counts.specs.Counts.{blank, given, joined, maximum_at, tally_at}
 use Rattle.ga_counts.specs.declared.view.CountView.{CountView}
 use Rattle.ga_counts.proofs.Rows.{added-at, greater-at, zeros-at}
-use Rattle.ga_pairs.specs.declared.view.Pair.{Pair as Claim}
-use Rattle.ga_pool.specs.Steps.Filling.{Gains, lists_from, max_from, sum_from}
+use Rattle.ga_pool.specs.Steps.Filling.{lists_from, max_from, sum_from}
 use Rattle.ga_pool.specs.declared.filling.Put.{Put}
 use Rattle.ga_pool.specs.declared.parts.Rows.{Rows}
 use Rattle.ga_shares.specs.Views.{greatest_by}

@@ -1,9 +1,8 @@
 -- What each worker put in, by its place.
-use Rattle.std.proofs.Common.{◌≡◌, ℕ, zero, suc, ◌+◌, ◌<◌, max, List, [], ◌∷◌, length, get_or, refl, sym, ap, ◌∙◌, subst, arith}
+use Rattle.std.proofs.Common.{◌≡◌, ℕ, zero, suc, ◌+◌, ◌<◌, List, [], ◌∷◌, length, get_or, refl, sym, ap, ◌∙◌, arith}
 use Rattle.ga_base.specs.declared.key.Key.{Key}
 use Rattle.ga_base.specs.declared.key.Visitor.{Visitor}
 use Rattle.ga_counts.specs.Counts.{TableSeen, blank, maximum_at, tally_at}
-use Rattle.ga_counts.specs.declared.view.CountView.{CountView}
 use Rattle.ga_pairs.specs.Pairs.{SetSeen}
 use Rattle.ga_pool.specs.Steps.Filled.{HasPut, IsSeated}
 use Rattle.ga_pool.specs.Steps.Filling.{adds, claims_of, raises, weight_of_rows}

@@ -15,3 +15,4 @@ pub mod Standing
 pub mod CanPutRows
 pub mod SumExists
 pub mod Tables
+pub mod Together

@@ -1,10 +1,9 @@
 -- Rows of sums put under numbers that are apart.
-use Rattle.std.proofs.Common.{◌≡◌, ◌≢◌, ℕ, zero, suc, ◌+◌, ◌*◌, ◌<◌, ◌≤◌, max, List, [], ◌∷◌, ◌++◌, length, take, get_or, refl, sym, ap, ◌∙◌, subst, arith, length-take}
-use Rattle.std.proofs.lemmas.List.{take_more, take_all}
+use Rattle.std.proofs.Common.{◌≡◌, ℕ, suc, ◌+◌, ◌*◌, ◌<◌, ◌≤◌, max, List, [], ◌∷◌, ◌++◌, length, take, get_or, refl, ap, ◌∙◌, arith, length-take}
+use Rattle.std.proofs.lemmas.List.{take_more}
 use Rattle.std.proofs.lemmas.Bool.Decides.{nat_tests}
-use Rattle.std.proofs.lemmas.List.Elements.{All-get_or}
 use Rattle.ga_base.specs.declared.counts.Sums.{Sums}
-use Rattle.ga_counts.specs.Counts.{maximum_at, tally_at}
+use Rattle.ga_counts.specs.Counts.{tally_at}
 use Rattle.ga_counts.specs.declared.view.CountView.{CountView}
 use Rattle.ga_pool.specs.Steps.Filling.{CanAdd, Gains, IsBlank, added_at, at_place, at_word, raised_to}
 

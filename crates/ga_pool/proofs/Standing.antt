@@ -1,5 +1,5 @@
 -- The tables that all workers filled have what was counted.
-use Rattle.std.proofs.Common.{◌≡◌, ◌≢◌, ◌↔◌, ℕ, zero, suc, ◌+◌, ◌*◌, ◌<◌, ◌≤◌, Bool, true, false, cond, eqb, nat_lt, List, [], ◌∷◌, length, map, get_or, Option, Some, refl, sym, ap, ◌∙◌, subst, arith, zero-add}
+use Rattle.std.proofs.Common.{◌≡◌, ◌≢◌, ℕ, zero, suc, ◌+◌, ◌*◌, ◌<◌, ◌≤◌, Bool, true, false, cond, eqb, nat_lt, List, [], ◌∷◌, length, map, get_or, Some, refl, sym, ap, ◌∙◌, subst, arith, zero-add}
 use Rattle.std.specs.Prelude.{slice_get, slice_index, fold}
 use Rattle.std.specs.Cmp.{both_ways}
 use Rattle.std.specs.List.{AllZip, Contains, IsDistinct, list_any}
@@ -19,26 +19,25 @@ use Rattle.ga_pairs.specs.Pairs.{times, times_in}
 use Rattle.ga_pairs.specs.declared.view.Pair.{Pair as Claim}
 use Rattle.ga_pool.specs.Stands.{IsVisit, Stands, said_of, sums_at_number}
 use Rattle.ga_pool.specs.Steps.Filled.{ClosesOver}
-use Rattle.ga_pool.specs.Steps.Filling.{adds, at_place, at_word, claims_of, lists_from, max_from, numbers_at, raises, sum_from}
+use Rattle.ga_pool.specs.Steps.Filling.{adds, at_place, at_word, claims_of, lists_from, max_from, raises, sum_from}
 use Rattle.ga_pool.specs.Steps.Parts.{AreRowsOf}
-use Rattle.ga_pool.specs.Steps.Together.{AreTalliesOf, together, totals_in}
+use Rattle.ga_pool.specs.Together.{AreTalliesOf, together, totals_in}
 use Rattle.ga_pool.specs.declared.counted.Counted.{Counted}
 use Rattle.ga_pool.specs.declared.parts.Rows.{Rows}
-use Rattle.ga_pool.proofs.AllPairs.{HasClaim, IsClaim, claims-are, claims-have, key-counted, key-found, visitor-used}
-use Rattle.ga_pool.proofs.AllWorkers.{HaveNumbers, all-add, all-raise, keys_in, together-cons, visitors_in}
-use Rattle.ga_pool.proofs.DrawnPieces.{contains-times}
+use Rattle.ga_pool.proofs.AllPairs.{claims-are, claims-have, key-counted, key-found, visitor-used}
+use Rattle.ga_pool.proofs.AllWorkers.{HaveNumbers, all-add, all-raise, keys_in, visitors_in}
+use Rattle.ga_pool.proofs.DrawnPieces.{contains-times, together-cons}
 use Rattle.ga_pool.proofs.Numbered.{AreNumbered}
-use Rattle.ga_pool.proofs.OneWorker.{HasNumbers}
 use Rattle.ga_pool.proofs.WeighedLines.{plus-assoc}
-use Rattle.ga_shards.specs.Numbers.{NumberingSeen, item_of}
-use Rattle.ga_summary.specs.Outcomes.{Outcome, has_visit, sums_of, totals_of}
+use Rattle.ga_shards.specs.Numbers.{NumberingSeen}
+use Rattle.ga_summary.specs.Outcomes.{Outcome, sums_of, totals_of}
 use Rattle.ga_summary.specs.Rows.{totals_plus}
 use Rattle.ga_summary.proofs.Appends.{totals_of-append}
 use Rattle.ga_outcomes.specs.Counting.{no_totals}
 use Rattle.ga_tallies.specs.Tallies.{TallySeen}
 use Rattle.ga_tallies.proofs.Same.{key-laws, same-key}
 
-none-plus : (t : Totals) → totals_plus no_totals t ≡ t
+pub none-plus : (t : Totals) → totals_plus no_totals t ≡ t
 none-plus t = λ i. record {
   lines = zero-add t.lines i;
   failed = zero-add t.failed i;
@@ -48,7 +47,7 @@ none-plus t = λ i. record {
   micros = zero-add t.micros i;
 }
 
-totals-from : (start : Totals) (parts : List (List Outcome)) (ts : List TallySeen) → AreTalliesOf parts ts
+pub totals-from : (start : Totals) (parts : List (List Outcome)) (ts : List TallySeen) → AreTalliesOf parts ts
     → fold (λ (sum : Totals) (t : TallySeen). totals_plus sum t.totals) start ts ≡ totals_plus start (totals_of (together parts))
 totals-from start [] [] are = λ i. record {
   lines = sym (add-none start.lines) i;

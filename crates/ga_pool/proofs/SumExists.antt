@@ -1,10 +1,10 @@
 -- Outcomes that may be counted have a sum, and the tables stand for it.
-use Rattle.std.proofs.Common.{◌≡◌, ℕ, ◌+◌, ◌≤◌, nat_lt, List, [], ◌∷◌, None, refl, sym, ap, ◌∙◌, subst, arith}
+use Rattle.std.proofs.Common.{◌≡◌, ℕ, nat_lt, List, [], ◌∷◌, sym, ◌∙◌, subst}
 use Rattle.std.proofs.lemmas.List.Elements.{All-head, All-tail}
 use Rattle.ga_base.specs.declared.counts.Totals.{Totals}
-use Rattle.ga_pool.specs.Batches.{CountsBatch}
-use Rattle.ga_pool.specs.Stands.{Said, Stands, said_by, said_of}
-use Rattle.ga_pool.specs.Steps.Together.{AreAlike, TallyLines, together}
+use Rattle.ga_pool.specs.Batches.{CountsBatch, StandsForSum}
+use Rattle.ga_pool.specs.Stands.{Stands, said_by, said_of}
+use Rattle.ga_pool.specs.Together.{AreAlike, AreCounted, AreTalliesOf, together}
 use Rattle.ga_pool.specs.declared.counted.Counted.{Counted as TheCounted}
 use Rattle.ga_pool.proofs.WeighedLines.{over-none}
 use Rattle.ga_summary.specs.OneLine.{line_value}
@@ -19,6 +19,7 @@ use Rattle.ga_summary.proofs.OneLine.{IsSumOf-line}
 use Rattle.ga_summary.proofs.Soundness.{IsMerged-merged_value}
 use Rattle.ga_summary.proofs.SoundSums.{IsSound-sum}
 use Rattle.ga_tallies.specs.Tallies.{TallySeen}
+use Rattle.ga_outcomes.specs.Counting.{Come}
 use Rattle.ga_outcomes.specs.declared.setup.Setup.{Setup}
 
 -- the sum of one outcome and of those behind it
@@ -41,21 +42,28 @@ said-same os s is = λ i. record { totals = is.totals i; has = λ key. is.presen
 said-alike : (xs ys : List Outcome) → AreAlike xs ys → said_of xs ≡ said_of ys
 said-alike xs ys a = λ i. record { totals = a.totals i; has = λ key. nat_lt 0 (a.sums key i).hits; sums = λ key. a.sums key i; visits = λ key visitor. a.visits key visitor i }
 
--- a batch whose lines were counted by workers, and whose counters fit
-pub counts-batch : (setup : Setup) (before : Totals) (lines : List (List ℕ)) (ts : List TallySeen) (counted : TheCounted) (tally : TallyLines setup lines ts)
-    → TotalsFit (totals_plus before (totals_of (together tally.parts))) → Stands counted (said_of (together tally.parts)) → CountsBatch setup before lines counted
-counts-batch setup before lines ts counted tally fit stands =
-    let os = tally.outcomes in
-    let fit' : TotalsFit (totals_plus before (totals_of os)) = subst (λ (t : Totals). TotalsFit (totals_plus before t)) (sym tally.alike.totals) fit in
-    let alone : TotalsFit (totals_of os) = record { lines = omega (arith, fit'.lines); bytes = omega (arith, fit'.bytes); micros = omega (arith, fit'.micros) } in
-    let (s, is) = sum-exists os tally.countable in
+-- the tables stand for the sum of what tallies have counted
+pub stands-for-sum : (os : List Outcome) (ts : List TallySeen) (counted : TheCounted) → TotalsFit (totals_of os) → ((parts : List (List Outcome)) → AreTalliesOf parts ts → Stands counted (said_of (together parts)))
+    → AreCounted os ts → AllCountable os → StandsForSum os counted
+stands-for-sum os ts counted fit stands are can =
+    let (s, is) = sum-exists os can in
     record {
-      outcomes = os;
-      come = tally.come;
-      countable = tally.countable;
-      fits = over-none before os fit';
       sum = s;
       is_sum = is;
-      summary = record { ordered = is.ordered; sound = IsSound-sum os s tally.countable alone is };
-      stands = subst (Stands counted) (sym (said-same os s is ∙ said-alike os (together tally.parts) tally.alike)) stands;
+      summary = record { ordered = is.ordered; sound = IsSound-sum os s can fit is };
+      stands = subst (Stands counted) (sym (said-same os s is ∙ said-alike os (together are.parts) are.alike)) (stands are.parts are.tallies_of);
     }
+
+-- a batch whose lines were counted by workers, and whose counters fit
+pub counts-batch : (setup : Setup) (before : Totals) (lines : List (List ℕ)) (outcomes : List Outcome) (counted : TheCounted) → Come setup lines outcomes → AllCountable outcomes
+    → TotalsFit (totals_plus before (totals_of outcomes)) → StandsForSum outcomes counted → CountsBatch setup before lines counted
+counts-batch setup before lines outcomes counted come can fit stands = record {
+  outcomes = outcomes;
+  come = come;
+  countable = can;
+  fits = over-none before outcomes fit;
+  sum = stands.sum;
+  is_sum = stands.is_sum;
+  summary = stands.summary;
+  stands = stands.stands;
+}

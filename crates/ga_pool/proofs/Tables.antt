@@ -1,5 +1,5 @@
 -- From the parts of tallies and the numbers of their items to tables that have what was counted.
-use Rattle.std.proofs.Common.{◌≡◌, ℕ, ◌+◌, ◌<◌, Bool, List, [], ◌∷◌, length, map, get_or, refl, sym, ap, ◌∙◌, subst, arith, zero-add}
+use Rattle.std.proofs.Common.{◌≡◌, ℕ, ◌<◌, Bool, List, [], ◌∷◌, length, map, get_or, refl, ap, subst, arith, zero-add}
 use Rattle.std.specs.List.{AllZip, sum_by}
 use Rattle.ga_base.specs.contracts.key.KeyPartialEq.TheImpl.{ghosts as key_tests}
 use Rattle.ga_base.specs.contracts.key.VisitorPartialEq.TheImpl.{ghosts as visitor_tests}
@@ -8,9 +8,9 @@ use Rattle.ga_base.specs.declared.key.Visitor.{Visitor}
 use Rattle.ga_base.specs.Orders.{is_same_key, is_same_visitor}
 use Rattle.ga_pool.specs.Steps.Filling.{CanPut}
 use Rattle.ga_pool.specs.Steps.Parts.{AreRowsOf}
-use Rattle.ga_pool.specs.Steps.Together.{AreTalliesOf}
+use Rattle.ga_pool.specs.Together.{AreTalliesOf}
 use Rattle.ga_pool.specs.declared.parts.Rows.{Rows}
-use Rattle.ga_pool.proofs.AllWorkers.{HaveNumbers, keys_in, visitors_in}
+use Rattle.ga_pool.proofs.AllWorkers.{keys_in, visitors_in}
 use Rattle.ga_pool.proofs.CanPutRows.{all-can}
 use Rattle.ga_pool.proofs.Numbered.{AreNumbered, are-numbered}
 use Rattle.ga_pool.proofs.Standing.{have-numbers}

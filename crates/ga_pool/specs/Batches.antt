@@ -21,3 +21,10 @@ pub record CountsBatch (setup : Setup) (before : Totals) (all : List (List ℕ))
   pub is_sum : IsSumOf outcomes sum
   pub summary : IsSummary sum
   pub stands : StandsFor counted sum
+
+-- what was counted stands for the sum of these outcomes
+pub record StandsForSum (outcomes : List Outcome) (counted : Counted) : Type 0 where
+  pub sum : SummaryValue
+  pub is_sum : IsSumOf outcomes sum
+  pub summary : IsSummary sum
+  pub stands : StandsFor counted sum

@@ -1,5 +1,5 @@
 -- What is counted of a batch, in tables, and the summary for which it stands.
-use Rattle.std.specs.Prelude.{◌≡◌, ◌≢◌, ◌↔◌, ◌+◌, ◌*◌, ◌^◌, ◌≤◌, ℕ, Bool, true, is_some, nat_lt, length, slice_get, slice_index, Some, List}
+use Rattle.std.specs.Prelude.{◌≡◌, ◌≢◌, ◌↔◌, ◌+◌, ◌*◌, ◌≤◌, ℕ, Bool, true, is_some, nat_lt, length, slice_get, slice_index, Some, List}
 use Rattle.std.specs.List.{Contains, IsDistinct, list_any}
 use Rattle.ga_base.specs.declared.counts.Sums.{Sums}
 use Rattle.ga_base.specs.declared.counts.Totals.{Totals}

@@ -1,13 +1,12 @@
 ghost use Rattle.std.specs.Prelude.{◌≡◌, ◌≤◌, ◌+◌, ◌-◌, ◌*◌, ◌^◌, ◌<◌, IfOk, IfSome, All, length, map, vec_len, flat_map, Ok, true};
 ghost use Rattle.ga_draws.specs.Draws.{AreAllBelow, given};
 ghost use Rattle.ga_pool.specs.Steps.Drawing.{CountsDrawn, all_lines};
-ghost use Rattle.ga_pool.specs.Steps.Together.{TallyLines};
+ghost use Rattle.ga_pool.specs.Together.{CountsOn};
 
 use ga_base::NoMemory;
 use ga_draws::{DrawSeat, Draws};
 use ga_outcomes::Setup;
 use ga_ports::Gate;
-use ga_shards::Keyed;
 use ga_tallies::{Agents, Tally, TallyFault};
 use std::alloc::Global;
 use std::thread::{self, Threads};
@@ -19,6 +18,8 @@ struct Turn {
     worker: u32,
     /// Its seat at the draws.
     seat: DrawSeat,
+    /// What it has counted before.
+    tally: Tally,
 }
 
 /// What a worker gives back.
@@ -26,58 +27,64 @@ struct Turn {
 struct Drawn {
     /// Its seat, which knows what it drew.
     seat: DrawSeat,
-    /// What it counted.
+    /// What it has counted now.
     tally: Result<Tally, TallyFault>,
 }
 
-/// Counts the lines of these pieces by so many workers, each into a tally of its own. None is answered where a worker finds
-/// a counter full.
+/// Counts the lines of these pieces by workers, one for each tally, which counts on into it. None is answered where a worker
+/// finds a counter full.
 pub(crate) fn count_pieces<R: Threads + Sync, G: Gate>(
     rt: &R,
     alloc: Global,
-    keyed: Keyed,
     setup: &Setup,
+    tallies: Vec<Tally>,
     pieces: &[&[u8]],
-    jobs: u32,
     gate: &G,
 ) -> Result<Option<Vec<Tally>>, NoMemory>
-    requires some { 1 ≤ jobs }
-    requires most { jobs ≤ 16 }
+    requires some { 1 ≤ vec_len tallies }
+    requires most { vec_len tallies ≤ 16 }
     requires few { length pieces.now ≤ 2 ^ 24 }
-    ensures { IfOk result (λ answer. IfSome answer (λ tallies.
-        (vec_len tallies ≡ jobs) × TallyLines setup.now (all_lines (map (λ piece. piece.now) pieces.now)) tallies.items)) }
+    ensures { IfOk result (λ answer. IfSome answer (λ more.
+        CountsOn setup.now (all_lines (map (λ piece. piece.now) pieces.now)) tallies.items more.items)) }
 {
+    let jobs = tallies.len() as u32;
     let most = pieces.len() as u64 + 1;
     let (draws, mut seat) = Draws::open(alloc, jobs + 1, u64::from(jobs) * most)?;
-    let turns = turns_of(alloc, &draws, &mut seat, jobs, most)?;
+    let turns = turns_of(alloc, &draws, &mut seat, tallies, most)?;
     let shared = &draws;
     let work = move |turn: Turn| -> Drawn
         requires { (turn.seat.table ≡ shared.now.table) × (turn.seat.view ≡ given 1 (length pieces.now + 1)) × (length pieces.now ≤ 2 ^ 24) }
         ensures { (result.seat.table ≡ shared.entry.now.table) × (result.seat.view.share ≡ 1)
-            × IfOk result.tally (CountsDrawn setup.entry.now (map (λ piece. piece.now) pieces.entry.now) result.seat.view.drawn) }
-    { count_drawn(alloc, keyed, setup, pieces, shared, turn, gate) };
+            × IfOk result.tally (CountsDrawn setup.entry.now (map (λ piece. piece.now) pieces.entry.now) result.seat.view.drawn turn.tally) }
+    { count_drawn(alloc, setup, pieces, shared, turn, gate) };
     let drawn = thread::map_vec(rt, turns, &work)?;
     joined(alloc, &draws, seat, drawn)
 }
 
-/// A turn for each worker. Its seat can draw so many numbers.
+/// A turn for each tally. Its seat can draw so many numbers.
 fn turns_of(
     alloc: Global,
     draws: &Draws,
     seat: &mut DrawSeat,
-    jobs: u32,
+    tallies: Vec<Tally>,
     most: u64,
 ) -> Result<Vec<Turn>, NoMemory>
+    requires few { vec_len tallies ≤ 16 }
     requires table { seat.old.table ≡ draws.now.table }
-    requires whole { seat.old.view ≡ given (jobs + 1) (jobs * most) }
-    ensures len { IfOk result (λ turns. vec_len turns ≡ jobs) }
+    requires whole { seat.old.view ≡ given (vec_len tallies + 1) (vec_len tallies * most) }
+    ensures tallies { IfOk result (λ turns. map (λ turn. turn.tally) turns.items ≡ tallies.items) }
     ensures each { IfOk result (λ turns. All (λ turn. (turn.seat.table ≡ draws.now.table) × (turn.seat.view ≡ given 1 most)) turns.items) }
     ensures seat { IfOk result (λ _. (seat.new.table ≡ draws.now.table) × (seat.new.view ≡ given 1 0)) }
 {
-    let mut turns = Vec::with_capacity(alloc, jobs as usize)?;
-    for worker in 0..jobs {
+    let mut turns = Vec::with_capacity(alloc, tallies.len())?;
+    for tally in tallies {
         let seat = draws.split(seat, 1, most);
-        turns.push(Turn { worker, seat })?;
+        let worker = turns.len() as u32;
+        turns.push(Turn {
+            worker,
+            seat,
+            tally,
+        })?;
     }
     Ok(turns)
 }
@@ -85,7 +92,6 @@ fn turns_of(
 /// Draws pieces and counts their lines, until a number is drawn that is no piece's.
 fn count_drawn<G: Gate>(
     alloc: Global,
-    keyed: Keyed,
     setup: &Setup,
     pieces: &[&[u8]],
     draws: &Draws,
@@ -97,10 +103,13 @@ fn count_drawn<G: Gate>(
     requires few { length pieces.now ≤ 2 ^ 24 }
     ensures table { result.seat.table ≡ draws.now.table }
     ensures share { result.seat.view.share ≡ 1 }
-    ensures tally { IfOk result.tally (CountsDrawn setup.now (map (λ piece. piece.now) pieces.now) result.seat.view.drawn) }
+    ensures tally { IfOk result.tally (CountsDrawn setup.now (map (λ piece. piece.now) pieces.now) result.seat.view.drawn turn.tally) }
 {
-    let Turn { worker, mut seat } = turn;
-    let mut tally = Tally::new(alloc, keyed);
+    let Turn {
+        worker,
+        mut seat,
+        mut tally,
+    } = turn;
     let mut agents = Agents::new(alloc);
     for at in 0..pieces.len() + 1 {
         let number = draws.draw(&mut seat) as usize;

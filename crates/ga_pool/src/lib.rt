@@ -2,7 +2,8 @@
 //!
 //! Start with `count_batch`: the batch is cut into pieces of whole lines, workers draw them one by one and count each into a
 //! tally of their own, and then put the tallies into tables that they share. What stands in the tables is a `Counted`;
-//! `specs/Stands.antt` says for which summary it stands, `specs/Batches.antt` of which lines.
+//! `specs/Stands.antt` says for which summary it stands, `specs/Batches.antt` of which lines. Many batches are counted by
+//! `count_on`, which gives the tallies back, as `specs/Together.antt` says; `put_together` comes once, behind the last.
 #![tactic(auto)]
 
 mod counted;
@@ -17,7 +18,7 @@ mod putting;
 
 pub use counted::Counted;
 pub use fault::PoolFault;
-pub use pool::count_batch;
+pub use pool::{count_batch, count_on, new_tallies, put_together};
 
 #[cfg(test)]
 mod tests;

@@ -5,8 +5,8 @@ ghost use Rattle.ga_base.specs.declared.record.Line.TheVariants.{Good as SaysRec
 ghost use Rattle.ga_line.specs.Bounds.{RecordBounds};
 ghost use Rattle.ga_line.specs.Lines.{lines};
 ghost use Rattle.ga_pool.specs.Steps.Limits.{IsLight, WeighsLine, WeighsSaid, IsWithin, weight_plus, weighed, weight_in};
-ghost use Rattle.ga_pool.specs.Steps.Together.{totals_in};
-ghost use Rattle.ga_summary.specs.Limits.{passes};
+ghost use Rattle.ga_pool.specs.Together.{totals_in};
+ghost use Rattle.ga_summary.specs.Limits.{LinesAdd, passes};
 ghost use Rattle.ga_summary.specs.Rows.{totals_plus};
 ghost use Rattle.ga_summary.specs.Sound.{TotalsFit};
 ghost use Rattle.ga_outcomes.specs.Counting.{FillsAmong};
@@ -30,18 +30,52 @@ struct Weight {
     micros: u64,
 }
 
-/// The totals of all tallies, or None where they don't fit their limits.
-pub(crate) fn totals_of(tallies: &[Tally]) -> Option<Totals>
-    ensures { IfSome result (λ totals. (totals ≡ totals_in tallies.now) × TotalsFit totals) }
+/// Totals of no lines.
+pub(crate) const NOTHING: Totals = Totals {
+    lines: 0,
+    failed: 0,
+    excluded: 0,
+    hits: 0,
+    bytes: 0,
+    micros: 0,
+};
+
+/// What the counters stand at behind what tallies have counted, where they began at `start`.
+pub(crate) fn counters(start: &Totals, tallies: &[Tally]) -> Totals
+    requires lines { LinesAdd start.now }
+    requires fit { TotalsFit (totals_plus start.now (totals_in tallies.now)) }
+    ensures { result ≡ totals_plus start.now (totals_in tallies.now) }
 {
-    let mut totals = Totals {
-        lines: 0,
-        failed: 0,
-        excluded: 0,
-        hits: 0,
-        bytes: 0,
-        micros: 0,
-    };
+    let mut totals = *start;
+    for tally in tallies {
+        totals = sum(totals, tally.totals());
+    }
+    totals
+}
+
+/// The sum of two totals that fits its limits.
+fn sum(a: Totals, b: Totals) -> Totals
+    requires fit { TotalsFit (totals_plus a b) }
+    requires lines { LinesAdd a × LinesAdd b }
+    ensures value { result ≡ totals_plus a b }
+    ensures lines { LinesAdd result }
+{
+    Totals {
+        lines: a.lines + b.lines,
+        failed: a.failed + b.failed,
+        excluded: a.excluded + b.excluded,
+        hits: a.hits + b.hits,
+        bytes: a.bytes + b.bytes,
+        micros: a.micros + b.micros,
+    }
+}
+
+/// The same as `counters`, or None where they don't fit their limits.
+pub(crate) fn counters_within(start: &Totals, tallies: &[Tally]) -> Option<Totals>
+    requires { TotalsFit start.now }
+    ensures { IfSome result (λ totals. (totals ≡ totals_plus start.now (totals_in tallies.now)) × TotalsFit totals) }
+{
+    let mut totals = *start;
     for tally in tallies {
         totals = plus(totals, tally.totals())?;
     }
@@ -65,17 +99,6 @@ fn plus(a: Totals, b: Totals) -> Option<Totals>
     } else {
         None
     }
-}
-
-/// Whether lines with these totals fit the limits behind those before.
-pub(crate) fn fits(before: &Totals, totals: Totals) -> bool
-    requires before { TotalsFit before.now }
-    requires totals { TotalsFit totals }
-    ensures { IsTrue result ↔ TotalsFit (totals_plus before.now totals) }
-{
-    before.lines + totals.lines <= LIMIT
-        && before.bytes + totals.bytes <= LIMIT
-        && before.micros + totals.micros <= LIMIT
 }
 
 /// The first counter that passes its limit along these lines, one line after the other. Want of memory is answered where

@@ -1,23 +1,25 @@
-ghost use Rattle.std.specs.Prelude.{◌≡◌, ◌≤◌, ◌^◌, ℕ, List, IfOk, IsErrOf, length, true, vec_len};
+ghost use Rattle.std.specs.Prelude.{◌≡◌, ◌≤◌, ◌<◌, ◌-◌, ◌^◌, [], ℕ, List, IfOk, IsErrOf, length, sum_by, true, vec_len};
 ghost use Rattle.ga_base.specs.declared.counts.Counter.{Counter as TheCounter};
 ghost use Rattle.ga_line.specs.Lines.{lines};
-ghost use Rattle.ga_pool.specs.Batches.{CountsBatch};
-ghost use Rattle.ga_pool.specs.Stands.{Stands, said_of};
-ghost use Rattle.ga_pool.specs.Steps.Together.{AreTalliesOf, together, totals_in};
+ghost use Rattle.ga_pool.specs.Batches.{CountsBatch, StandsForSum};
+ghost use Rattle.ga_pool.specs.Together.{AreCounted, CountsOn, totals_in};
+ghost use Rattle.ga_shards.specs.Numbers.{IsNumbering};
+ghost use Rattle.ga_summary.specs.Limits.{LinesAdd};
 ghost use Rattle.ga_summary.specs.Outcomes.{Outcome};
-ghost use Rattle.ga_summary.specs.Sound.{TotalsFit};
-ghost use Rattle.ga_outcomes.specs.Counting.{FillsAmong};
+ghost use Rattle.ga_summary.specs.Rows.{totals_plus};
+ghost use Rattle.ga_summary.specs.Sound.{AllCountable, TotalsFit};
+ghost use Rattle.ga_outcomes.specs.Counting.{FillsAmong, no_totals};
 
 use crate::drawing::count_pieces;
 use crate::filling::fill;
-use crate::limits::{fits, full_counter, totals_of};
+use crate::limits::{NOTHING, counters, counters_within, full_counter};
 use crate::parts::{Parts, can_number, parts_of};
 use crate::pieces::pieces_of;
 use crate::{Counted, PoolFault};
-use ga_base::{NoMemory, Totals};
+use ga_base::{NoMemory, Noted, Totals};
 use ga_outcomes::Setup;
 use ga_ports::Gate;
-use ga_shards::{Keyed, number};
+use ga_shards::{Dictionary, Keyed, Numbering, number};
 use ga_tallies::Tally;
 use std::alloc::Global;
 use std::thread::Threads;
@@ -44,46 +46,111 @@ pub fn count_batch<R: Threads + Sync, G: Gate>(
     ensures full { (which : TheCounter) (total : ℕ) → IsErrOf result (PoolFault.CounterFull which total)
         → FillsAmong setup.now before.now (lines batch.now true) which total }
 {
-    let pieces = pieces_of(alloc, batch, chunk)?;
-    let Some(tallies) = count_pieces(rt, alloc, keyed, setup, &pieces, jobs, gate)? else {
-        return Err(full_counter(alloc, setup, before, batch));
-    };
-    let Some(totals) = totals_of(&tallies) else {
-        return Err(full_counter(alloc, setup, before, batch));
-    };
-    if !fits(before, totals) {
-        return Err(full_counter(alloc, setup, before, batch));
-    }
-    Ok(put_together(rt, alloc, keyed, tallies, totals)?)
+    let tallies = new_tallies(alloc, keyed, jobs)?;
+    let tallies = count_behind(
+        rt, alloc, setup, before, before, tallies, batch, chunk, gate,
+    )?;
+    Ok(put_together(rt, alloc, keyed, tallies)?)
 }
 
-/// Puts what workers counted into tables that they share. `totals` are those of all tallies together.
-fn put_together<R: Threads + Sync>(
+/// Tallies of no lines, one for each worker. Their dictionaries hash by `keyed`.
+pub fn new_tallies(alloc: Global, keyed: Keyed, jobs: u32) -> Result<Vec<Tally>, NoMemory>
+    ensures len { IfOk result (λ tallies. vec_len tallies ≡ jobs) }
+    ensures none { IfOk result (λ tallies. AreCounted [] tallies.items) }
+    ensures totals { IfOk result (λ tallies. totals_in tallies.items ≡ no_totals) }
+{
+    let mut tallies = Vec::with_capacity(alloc, jobs as usize)?;
+    for _ in 0..jobs {
+        tallies.push(Tally::new(alloc, keyed))?;
+    }
+    Ok(tallies)
+}
+
+/// Counts the lines of a batch by workers, one for each tally, which counts on into it; what follows the last line feed is a
+/// line. `start` is what the counters began at, before the tallies.
+pub fn count_on<R: Threads + Sync, G: Gate>(
+    rt: &R,
+    alloc: Global,
+    setup: &Setup,
+    start: &Totals,
+    tallies: Vec<Tally>,
+    batch: &[u8],
+    chunk: u32,
+    gate: &G,
+) -> Result<Vec<Tally>, PoolFault>
+    requires small { length batch.now ≤ 2 ^ 24 }
+    requires some { 1 ≤ vec_len tallies }
+    requires most { vec_len tallies ≤ 16 }
+    requires lines { 1 ≤ chunk }
+    requires start { LinesAdd start.now }
+    requires before { TotalsFit (totals_plus start.now (totals_in tallies.items)) }
+    ensures ok { IfOk result (λ more. CountsOn setup.now (lines batch.now true) tallies.items more.items) }
+    ensures fit { IfOk result (λ more. TotalsFit (totals_plus start.now (totals_in more.items))) }
+    ensures full { (which : TheCounter) (total : ℕ) → IsErrOf result (PoolFault.CounterFull which total)
+        → FillsAmong setup.now (totals_plus start.now (totals_in tallies.items)) (lines batch.now true) which total }
+{
+    let before = counters(start, &tallies);
+    count_behind(
+        rt, alloc, setup, start, &before, tallies, batch, chunk, gate,
+    )
+}
+
+/// As `count_on`, where the counters stand at `before`.
+fn count_behind<R: Threads + Sync, G: Gate>(
+    rt: &R,
+    alloc: Global,
+    setup: &Setup,
+    start: &Totals,
+    before: &Totals,
+    tallies: Vec<Tally>,
+    batch: &[u8],
+    chunk: u32,
+    gate: &G,
+) -> Result<Vec<Tally>, PoolFault>
+    requires small { length batch.now ≤ 2 ^ 24 }
+    requires some { 1 ≤ vec_len tallies }
+    requires most { vec_len tallies ≤ 16 }
+    requires lines { 1 ≤ chunk }
+    requires start { TotalsFit start.now }
+    requires before { TotalsFit before.now }
+    ensures ok { IfOk result (λ more. CountsOn setup.now (lines batch.now true) tallies.items more.items) }
+    ensures fit { IfOk result (λ more. TotalsFit (totals_plus start.now (totals_in more.items))) }
+    ensures full { (which : TheCounter) (total : ℕ) → IsErrOf result (PoolFault.CounterFull which total)
+        → FillsAmong setup.now before.now (lines batch.now true) which total }
+{
+    let pieces = pieces_of(alloc, batch, chunk)?;
+    let Some(tallies) = count_pieces(rt, alloc, setup, tallies, &pieces, gate)? else {
+        return Err(full_counter(alloc, setup, before, batch));
+    };
+    match counters_within(start, &tallies) {
+        Some(_counters) => Ok(tallies),
+        None => Err(full_counter(alloc, setup, before, batch)),
+    }
+}
+
+/// Puts what workers have counted into tables that they share.
+pub fn put_together<R: Threads + Sync>(
     rt: &R,
     alloc: Global,
     keyed: Keyed,
     tallies: Vec<Tally>,
-    totals: Totals,
 ) -> Result<Counted, NoMemory>
     requires some { 1 ≤ vec_len tallies }
     requires most { vec_len tallies ≤ 16 }
-    requires tallies { (parts : List (List Outcome)) × AreTalliesOf parts tallies.items }
-    requires totals { totals ≡ totals_in tallies.items }
-    requires fit { TotalsFit totals }
-    ensures { IfOk result (λ counted. (parts : List (List Outcome)) → AreTalliesOf parts tallies.items → Stands counted (said_of (together parts))) }
+    requires tallies { (outcomes : List Outcome) × AreCounted outcomes tallies.items }
+    requires fit { TotalsFit (totals_in tallies.items) }
+    ensures { IfOk result (λ counted. (outcomes : List Outcome) → AreCounted outcomes tallies.items → AllCountable outcomes
+        → StandsForSum outcomes counted) }
 {
     let workers = tallies.len() as u32;
+    let totals = counters(&NOTHING, &tallies);
     let Parts {
         keys,
         visitors,
         rows,
     } = parts_of(alloc, tallies)?;
-    // A batch has too few bytes to come to this.
-    if !can_number(&keys) || !can_number(&visitors) {
-        return Err(NoMemory);
-    }
-    let keys = number(rt, alloc, keyed, &keys, workers)?;
-    let visitors = number(rt, alloc, keyed, &visitors, workers)?;
+    let keys = numbered(rt, alloc, keyed, keys, workers)?;
+    let visitors = numbered(rt, alloc, keyed, visitors, workers)?;
     let (counts, pairs) = fill(rt, alloc, &keys, &visitors, rows, totals)?;
     Ok(Counted {
         totals,
@@ -92,4 +159,23 @@ fn put_together<R: Threads + Sync>(
         counts,
         pairs,
     })
+}
+
+/// Gives each different item of these dictionaries one number, and drops them.
+fn numbered<R: Threads + Sync, T: Noted + Drop>(
+    rt: &R,
+    alloc: Global,
+    keyed: Keyed,
+    dictionaries: Vec<Dictionary<T>>,
+    shards: u32,
+) -> Result<Numbering<T>, NoMemory>
+    requires { 1 ≤ shards }
+    ensures few { IfOk result (λ _. sum_by (λ items. length items) dictionaries.items < 2 ^ 32 - 1) }
+    ensures numbering { IfOk result (IsNumbering T.eq dictionaries.items) }
+{
+    // More items than numbers of 32 bits take more memory than there is.
+    if !can_number(&dictionaries) {
+        return Err(NoMemory);
+    }
+    number(rt, alloc, keyed, &dictionaries, shards)
 }

@@ -42,11 +42,22 @@ fn summed(alloc: Global, rows: Vec<Told<'_>>) -> Result<Vec<Told<'_>>, NoMemory>
     ensures items { IfOk result (λ items. AreSummed rows.entry.items items.items) }
     ensures rise { IfOk result (λ items. IsStrictlySortedBy item_order items.items) }
 {
-    let rows = sorted_by_item(rows);
+    let rows = brought_together(rows)?;
     merge(alloc, &rows)
 }
 
-/// The rows, sorted so that those of an item stand together.
+/// The rows, sorted so that those of an item stand together. Those of a panel's day rise already; a stable sort merges such
+/// stretches.
+fn brought_together(rows: Vec<Told<'_>>) -> Result<Vec<Told<'_>>, NoMemory>
+    ensures same { IfOk result (λ sorted. IsPermutation rows.entry.items sorted.items) }
+    ensures sorted { IfOk result (λ sorted. IsSorted item_order sorted.items) }
+{
+    let mut rows = rows;
+    rows.sort_by(|a, b| item_order(a.key(), b.key()))?;
+    Ok(rows)
+}
+
+/// The rows, in the order of their items.
 pub(crate) fn sorted_by_item(rows: Vec<Told<'_>>) -> Vec<Told<'_>>
     ensures same { IsPermutation rows.entry.items result.items }
     ensures sorted { IsSorted item_order result.items }

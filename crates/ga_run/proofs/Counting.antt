@@ -1,7 +1,7 @@
 -- How the counting of a run ended, from what its calls say.
 use Rattle.std.proofs.Common.{◌≡◌, ℕ, List, [], ◌∷◌, refl, sym, subst, inl, inr, arith, Bool, true, false, Option, Some, None}
 use Rattle.std.proofs.lemmas.List.Sums.{sum_by-cons}
-use Rattle.std.specs.Prelude.{if◌then◌else◌}
+use Rattle.std.specs.Prelude.{◌||◌, if◌then◌else◌}
 use Rattle.ga_base.specs.declared.counts.Totals.{Totals}
 use Rattle.ga_base.specs.declared.entry.Entry.{Entry}
 use Rattle.ga_disk.specs.Disk.{DiskView}
@@ -20,13 +20,37 @@ use Rattle.ga_summary.specs.Limits.{LinesAdd, or_else, over, passes}
 use Rattle.ga_summary.specs.Outcomes.{Hit, Outcome, Counted, hits_of, totals_of}
 use Rattle.ga_summary.specs.Outcomes as outcomes
 use Rattle.ga_summary.specs.Rows.{SummaryValue, totals_plus}
-use Rattle.ga_summary.specs.Sound.{IsSummary, TotalsFit}
+use Rattle.ga_summary.specs.Sound.{AllCountable, IsSummary, TotalsFit}
+use Rattle.ga_summary.specs.Sums.{IsSumOf}
+use Rattle.ga_streams.specs.Counting.{AreInTotal}
+use Rattle.ga_tallies.specs.Tallies.{IsTallyOf, TallySeen}
+use Rattle.ga_totals.specs.Totals.{IsOfCountable}
 use Rattle.ga_words.specs.declared.settings.Settings.{Settings}
 use Rattle.ga_run.specs.Inputs.{Walks}
-use Rattle.ga_run.specs.Steps.Run.{StopsCounting, StopsHungry, WalksLogs, status_of_count}
+use Rattle.ga_keep.specs.Database.{IsWhole, uses_database}
+use Rattle.ga_store.specs.Commit.{MergesBy}
+use Rattle.ga_store.specs.declared.mode.Mode.TheVariants.{Append, Overwrite}
+use Rattle.std.proofs.lemmas.Bool.{true≢false}
+use Rattle.ga_run.specs.Run.{SameFaults}
+use Rattle.ga_run.specs.declared.status.Status.{Status}
+use Rattle.ga_run.specs.Steps.Run.{CountedValue, EndsAlone, EndsInputs, EndsLast, EndsReport, EndsTold, EndsUntold, StopsAlone, StopsCounting, StopsHungry, WalksLogs, status_of_count}
 use Rattle.ga_run.proofs.Asking.{miss-counts, same-all, same-none, same-some, walks-all, walks-miss, walks-some}
-use Rattle.ga_run.proofs.InputsEnds.{looked-at}
+use Rattle.ga_run.proofs.InputsEnds.{ends-count, ends-last, looked-at, untouched}
+use Rattle.ga_run.proofs.Moments.{OnlyNow}
+use Rattle.ga_agents.specs.declared.row.Rule.{Rule}
+use Rattle.ga_line.specs.declared.setup.LineSetup.{LineSetup}
+use Rattle.ga_run.specs.Course.{HasRules}
+use Rattle.ga_run.specs.Setups.{setup_of}
+use Rattle.ga_run.specs.World.{world_of as world}
+use Rattle.ga_store.specs.Reading.{db_value}
+use Rattle.std.specs.Prelude.{◌⊎◌}
+use Rattle.ga_run.proofs.Finishing.{reports-last}
 use Rattle.ga_run.proofs.Telling.{found-there, there-in}
+use Rattle.ga_disk.specs.Stretch.DiskWent.{no_disk_call}
+use Rattle.ga_ports.specs.Outs.{OutsView}
+use Rattle.ga_ports.specs.Stretch.{FilesStay, FilesWent, OutsWent, files_then}
+use Rattle.ga_run.specs.Reports.{IsTextOf}
+use Rattle.ga_run.specs.declared.run.Counted.{Counted as TheCounted}
 
 -- ---- the limits
 
@@ -79,6 +103,16 @@ whole-fits setup s stored all sum sound h =
     subst (λ (u : Totals). passes (totals_plus base u) ≡ None) same
     (no-counter (totals_plus base (totals_of h.outcomes)) fits.lines fits.bytes fits.micros)
 
+-- ---- the total of all lines
+
+-- a summary of it is their sum
+pub sum-lines : (setup : Setup) (start : Totals) (all : List (List ℕ)) (total : TallySeen) (sum : SummaryValue) → AreInTotal setup start all total
+    → ((xs : List Outcome) → IsTallyOf xs total → AllCountable xs → IsSumOf xs sum) → CountsLines setup start all sum
+sum-lines setup start all total sum h is = record { outcomes = h.outcomes; come = h.come; is_sum = is h.outcomes h.tally h.countable; fits = h.fits }
+
+pub countable-total : (setup : Setup) (start : Totals) (all : List (List ℕ)) (total : TallySeen) → AreInTotal setup start all total → IsOfCountable total
+countable-total setup start all total h = record { outcomes = h.outcomes; tally = h.tally; countable = h.countable }
+
 -- ---- the calls
 
 module _ (setup : Setup) (s : Settings) (files files' : FilesView) (d d' : DiskView) (i i' : Images) (stored : DbValue) (finds : Finds s d d' i i' stored) (entries : List Entry)
@@ -99,5 +133,71 @@ module _ (setup : Setup) (s : Settings) (files files' : FilesView) (d d' : DiskV
   stops-as CountNoMemory (inr (portions, h)) = record { looks = looked-at s d d' i i' stored finds; asks = inr (walked (walks-some h)); faults = same-some h }
 
   -- memory ran out behind all logs
-  pub hungry-last : (entries' : List Entry) (sum : SummaryValue) → CountsLogs setup (start_of s stored) s.generate s.logs entries entries' files files' sum → StopsHungry s files files' d d' i i'
-  hungry-last entries' sum h = record { looks = looked-at s d d' i i' stored finds; asks = inr (walked (walks-all h.read)); faults = same-all h.read }
+  pub hungry-last : (entries' : List Entry) (total : TallySeen) → CountsLogs setup (start_of s stored) s.generate s.logs entries entries' files files' total → StopsHungry s files files' d d' i i'
+  hungry-last entries' total h = record { looks = looked-at s d d' i i' stored finds; asks = inr (walked (walks-all h.read)); faults = same-all h.read }
+
+-- ---- a run that uses no database
+
+-- its own sum is the whole
+pub overwrites : (s : Settings) (stored : DbValue) (run : SummaryValue) → uses_database s ≡ false → IsWhole s stored run run
+overwrites s stored run alone = by s.persist s.restore alone
+  where
+    by : (persist restore : Bool) → (persist || restore) ≡ false → MergesBy (if restore then Append else Overwrite) stored.summary run run
+    by true restore h = absurd (true≢false h)
+    by false true h = absurd (true≢false h)
+    by false false h = refl
+
+-- it finds no database, and leaves any as it is
+pub finds-none : (s : Settings) (d : DiskView) (i : Images) (stored : DbValue) → uses_database s ≡ false → stored ≡ empty_db → Finds s d d i i stored
+finds-none s d i stored alone empty = inr (alone, untouched, empty)
+
+-- and it isn't kept
+persists-not : (s : Settings) → uses_database s ≡ false → s.persist ≡ false
+persists-not s alone = by s.persist s.restore alone
+  where
+    by : (persist restore : Bool) → (persist || restore) ≡ false → persist ≡ false
+    by true restore h = absurd (true≢false h)
+    by false restore h = refl
+
+pub alone-last : (s : Settings) (counted : TheCounted) (d : DiskView) (i : Images) (o o' : OutsView) → uses_database s ≡ false → (text : List ℕ) → IsTextOf s counted.whole text → (status : Status)
+    → EndsReport s text o o' status → o'.stderr ≡ o.stderr → OutsWent o o' → EndsLast s counted d d i i o o' status
+alone-last s counted d i o o' alone text is status ends errors wrote =
+    reports-last s counted d d i i o o' text is (inr (persists-not s alone, untouched)) status ends errors no_disk_call wrote
+
+module _ (setup : Setup) (s : Settings) (files files' : FilesView) (d : DiskView) (i : Images) (stored : DbValue) (alone : uses_database s ≡ false) (empty : stored ≡ empty_db) where
+  finds : Finds s d d i i stored
+  finds = finds-none s d i stored alone empty
+
+  abbrev Stops : Status → Type 0
+  Stops status = StopsCounting setup s files files' d d i i status
+
+  nothing : files' ≡ files → SameFaults files.counts files'.counts
+  nothing same = subst (λ (v : FilesView). SameFaults files.counts v.counts) (sym same) (record { faults = refl; shorts = refl; short_at = refl })
+
+  pub stops-alone : (status : Status) → StopsAlone setup s stored files files' status → StopsCounting setup s files files' d d i i status
+  stops-alone status (inl h) = subst Stops (sym h.status_is) (stops-as setup s files files' d d i i stored finds h.entries h.begin h.fault h.stops)
+  stops-alone status (inr (is, inl same)) = subst Stops (sym is) (record { looks = looked-at s d d i i stored finds; asks = inl same; faults = nothing same })
+  stops-alone status (inr (is, inr h)) = subst Stops (sym is) (hungry-last setup s files files' d d i i stored finds h.entries h.begin h.entries' h.total h.counts)
+
+-- how it ended behind its setup says how it ended
+pub ends-alone : (line : LineSetup) (s : Settings) (files : FilesView) (d : DiskView) (i : Images) (o o' : OutsView) (mid files' : FilesView) (rules : List Rule) → HasRules s.browsers_file files mid rules → OnlyNow i
+    → FilesWent files mid → FilesStay files mid → uses_database s ≡ false → (status : Status) → EndsAlone (setup_of line s rules) s mid files' o o' status
+    → EndsInputs line s (world files d i o) (world files' d i o') status
+ends-alone line s files d i o o' mid files' rules has only went stay alone status h = by h.ends
+  where
+    setup : Setup
+    setup = setup_of line s rules
+
+    went' : FilesWent files files'
+    went' = files_then went h.files_went
+
+    by : EndsTold setup s (db_value h.stored) mid files' o o' status ⊎ EndsUntold setup s (db_value h.stored) mid files' o o' status → EndsInputs line s (world files d i o) (world files' d i o') status
+    by (inl t) =
+        let counted : TheCounted = record { stored = h.stored; run = t.is_text.has.run; whole = t.is_text.has.whole; entries = t.is_text.has.entries' } in
+        let value : CountedValue setup s counted mid files' d d i i =
+        record { finds = finds-none s d i (db_value h.stored) alone h.empty; has = t.is_text.has; run = refl; whole = refl; entries = refl } in
+        ends-last line s files d i o mid files' rules has counted d i value only d i o' went' no_disk_call status
+        (alone-last s counted d i o o' alone t.text t.is_text.is_text status t.ends t.errors t.outs_went)
+    by (inr u) =
+        subst (λ (outs : OutsView). EndsInputs line s (world files d i o) (world files' d i outs) status) (sym u.quiet)
+        (ends-count line s files d i o mid files' rules has d i went' no_disk_call stay status (stops-alone setup s mid files' d i (db_value h.stored) alone h.empty status u.stops) u.sure)

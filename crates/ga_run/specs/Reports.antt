@@ -4,6 +4,7 @@ use Rattle.ga_generate.specs.Summary.{summary_text}
 use Rattle.ga_print.specs.Csv.{csv_text}
 use Rattle.ga_print.specs.Json.{json_text}
 use Rattle.ga_report.specs.OfSummary.{told_value}
+use Rattle.ga_report.specs.Told.{ToldValue}
 use Rattle.ga_report.specs.Reports.{IsReport}
 use Rattle.ga_report.specs.declared.report.Report.{Report}
 use Rattle.ga_summary.specs.Rows.{SummaryValue}
@@ -21,8 +22,12 @@ abbrev pub shown : Option ℕ → Kind → Report → List ℕ
 shown None kind report = text_as kind report
 shown (Some lines) kind report = summary_text lines report.general (json_text report)
 
--- the text is the report on a summary, as the settings say: its panels, the length of its lists and what is printed of it
-pub record IsTextOf (s : Settings) (sum : SummaryValue) (text : List ℕ) : Type 0 where
+-- the text is the report on what is told, as the settings say: its panels, the length of its lists and what is printed of it
+pub record IsTextTold (s : Settings) (told : ToldValue) (text : List ℕ) : Type 0 where
   pub report : Report
-  pub is_report : IsReport (told_value sum) s.panels s.max_items report
+  pub is_report : IsReport told s.panels s.max_items report
   pub written : text ≡ shown s.generate s.output.kind report
+
+-- the text is the report on a summary
+abbrev pub IsTextOf : Settings → SummaryValue → List ℕ → Type 0
+IsTextOf s sum text = IsTextTold s (told_value sum) text

@@ -1,8 +1,9 @@
-ghost use Rattle.std.specs.Prelude.{◌≡◌, IfOk, IfErr, IsTrue, option_map};
+ghost use Rattle.std.specs.Prelude.{◌≡◌, false, IfOk, IfErr, IsTrue, option_map};
 ghost use Rattle.std.specs.Option.{option_copied};
 ghost use Rattle.ga_disk.specs.Stretch.{DiskWent};
 ghost use Rattle.ga_ports.specs.Stretch.{FilesWent, OutsWent};
 ghost use Rattle.ga_generate.specs.Summary.{summary_text};
+ghost use Rattle.ga_keep.specs.Database as database;
 ghost use Rattle.ga_keep.specs.Database.{IsWhole};
 ghost use Rattle.ga_logs.specs.Following.{CanServe};
 ghost use Rattle.ga_print.specs.Json.{json_text};
@@ -10,13 +11,12 @@ ghost use Rattle.ga_report.specs.Printable.{IsPrintable};
 ghost use Rattle.ga_store.specs.Reading.{db_value};
 ghost use Rattle.ga_streams.specs.Counting.{AreWorkers};
 ghost use Rattle.ga_summary.specs.Sound.{IsSummary};
-ghost use Rattle.ga_run.specs.Course.{HasCounted};
 ghost use Rattle.ga_run.specs.Printing.{report_file, target_of};
-ghost use Rattle.ga_run.specs.Reports.{IsTextOf, text_as};
+ghost use Rattle.ga_run.specs.Reports.{IsTextTold, text_as};
 ghost use Rattle.ga_run.specs.Run.{IsRun};
 ghost use Rattle.ga_run.specs.Statuses.{target_name};
 ghost use Rattle.ga_run.specs.World.{world_of};
-ghost use Rattle.ga_run.specs.Steps.Run.{CountedValue, EndsInputs, EndsLast, EndsReport, EndsRun, IsReady, NoFileFailed, StopsCounting, failed_name, input_name, workers_said};
+ghost use Rattle.ga_run.specs.Steps.Run.{CountedValue, EndsAlone, EndsInputs, EndsLast, EndsReport, EndsRun, IsReady, IsTextAlone, NoFileFailed, StopsAlone, StopsCounting, failed_name, input_name, workers_said};
 
 use crate::faults::tell;
 use crate::printing::deliver;
@@ -26,7 +26,7 @@ use crate::{Input, Status, laws};
 use ga_base::{Bytes, Entries, NoMemory, Text};
 use ga_disk::Disk;
 use ga_generate::summary;
-use ga_keep::{base_entries, find, keep, start, whole};
+use ga_keep::{base_entries, find, keep, start, uses_database, whole};
 use ga_line::LineSetup;
 use ga_logs::count_logs;
 use ga_logs::laws::read_as_told;
@@ -34,7 +34,7 @@ use ga_outcomes::Setup;
 use ga_ports::laws::files_stay;
 use ga_ports::{Files, Gate, Outs, To};
 use ga_print::{csv, json};
-use ga_report::{Report, rows};
+use ga_report::{Report, Tells, rows};
 use ga_store::Db;
 use ga_streams::Workers;
 use ga_summary::Summary;
@@ -186,10 +186,70 @@ fn run_inputs<R: Threads + Sync, G: Gate, F: Files, D: Disk, O: Outs>(
         return Status::NoMemory;
     };
     let setup = Setup { line, panels };
+    if !uses_database(settings) {
+        return run_alone(rt, gate, alloc, &setup, settings, files, outs);
+    }
     match count(rt, gate, alloc, &setup, settings, files, disk) {
         Ok(counted) => finish(alloc, settings, &counted, disk, outs),
         Err(status) => status,
     }
+}
+
+/// Counts the logs of a run that uses no database, and delivers the report.
+fn run_alone<R: Threads + Sync, G: Gate, F: Files, O: Outs>(
+    rt: &R,
+    gate: &G,
+    alloc: Global,
+    setup: &Setup,
+    settings: &Settings,
+    files: &mut F,
+    outs: &mut O,
+) -> Status
+    requires { database.uses_database settings.now ≡ false }
+    ensures { EndsAlone setup.now settings.now (F.view files.old) (F.view files.new) (O.view outs.old) (O.view outs.new) result }
+{
+    let stored = Db::empty(alloc);
+    match text_alone(rt, gate, alloc, setup, settings, &stored, files) {
+        Ok(text) => report(settings, text.bytes(), outs),
+        Err(status) => status,
+    }
+}
+
+/// Counts the logs of a run that uses no database, and gives the text of its report. No names are made for it.
+fn text_alone<R: Threads + Sync, G: Gate, F: Files>(
+    rt: &R,
+    gate: &G,
+    alloc: Global,
+    setup: &Setup,
+    settings: &Settings,
+    stored: &Db,
+    files: &mut F,
+) -> Result<Bytes, Status>
+    requires { database.uses_database settings.now ≡ false }
+    ensures ok { IfOk result (IsTextAlone setup.now settings.now (db_value stored.now) (F.view files.old) (F.view files.new)) }
+    ensures stops { IfErr result (StopsAlone setup.now settings.now (db_value stored.now) (F.view files.old) (F.view files.new)) }
+    ensures sure { CanServe settings.now.logs (F.view files.old) → IfErr result NoFileFailed }
+    ensures files_went { FilesWent (F.view files.old) (F.view files.new) }
+{
+    let mut entries = base_entries(alloc, settings, stored)?;
+    let start = start(alloc, settings, stored);
+    sound(&stored.summary);
+    let names = settings.logs.items();
+    let total = count_logs(
+        rt,
+        gate,
+        alloc,
+        setup,
+        workers_of(settings),
+        start,
+        settings.generate,
+        names,
+        &mut entries,
+        files,
+    )?;
+    let told = total.told(alloc)?;
+    let text = text_of(alloc, settings, &told)?;
+    Ok(text)
 }
 
 /// Finds the database, where it is used, and counts the logs from there on.
@@ -213,7 +273,7 @@ fn count<R: Threads + Sync, G: Gate, F: Files, D: Disk>(
     let start = start(alloc, settings, &stored);
     sound(&stored.summary);
     let names = settings.logs.items();
-    let run = count_logs(
+    let total = count_logs(
         rt,
         gate,
         alloc,
@@ -225,6 +285,7 @@ fn count<R: Threads + Sync, G: Gate, F: Files, D: Disk>(
         &mut entries,
         files,
     )?;
+    let run = total.summary(alloc)?;
     let whole = whole(settings, &stored, &run)?;
     Ok(Counted {
         stored,
@@ -305,11 +366,11 @@ fn target_of(file: Option<&Text>) -> To
     }
 }
 
-/// What is printed of the report on a summary.
-fn text_of(alloc: Global, settings: &Settings, summary: &Summary) -> Result<Bytes, NoMemory>
-    ensures { IfOk result (λ text. IsTextOf settings.now summary.now text) }
+/// What is printed of the report on what is told.
+fn text_of<T: Tells>(alloc: Global, settings: &Settings, told: &T) -> Result<Bytes, NoMemory>
+    ensures { IfOk result (λ text. IsTextTold settings.now (T.view told.now) text) }
 {
-    let report = rows(alloc, summary, &settings.panels, settings.max_items)?;
+    let report = rows(alloc, told, &settings.panels, settings.max_items)?;
     match settings.generate {
         None => report_text(alloc, settings.output.kind, &report),
         Some(lines) => generated_text(alloc, lines, &report),

@@ -114,11 +114,14 @@ fn world_of(alloc: Global, contents: &str) -> Result<World, NoMemory> {
 }
 
 /// How many jobs count, and how many lines each takes at once: as many as a run has where no word says it, and others.
-const WORKERS: [&str; 6] = [
+const WORKERS: [&str; 9] = [
     "",
-    "--jobs=2|--chunk-size=1|",
+    "--chunk-size=1|",
+    "--chunk-size=32768|",
     "--jobs=2|",
+    "--jobs=2|--chunk-size=1|",
     "--jobs=2|--chunk-size=32768|",
+    "--jobs=16|",
     "--jobs=16|--chunk-size=1|",
     "--jobs=16|--chunk-size=32768|",
 ];

@@ -90,19 +90,4 @@ impl<T: Noted + Drop> Dictionary<T> {
         let (local, _) = self.items.insert_full(item)?;
         Ok(local as u32)
     }
-
-    /// As `note`, of an item that is copied only where no item is equal to it.
-    pub fn note_copy(&mut self, item: &T) -> Result<u32, NoMemory>
-        requires { length self.old < 2 ^ 32 - 2 }
-        ensures value { IfOk result (λ local. local ≡ place_of T.eq self.old item.now) }
-        ensures noted { OnOk result (self.new ≡ noted T.eq self.old item.now) }
-        ensures known { IfOk result (λ local. (known : T) × (slice_get self.new local ≡ Some known) × (T.eq item.now known ≡ true)) }
-        ensures distinct { IsDistinct T.eq self.new }
-        ensures err { OnErr result (self.new ≡ self.old) }
-    {
-        match self.find(item) {
-            Some(local) => Ok(local),
-            None => self.note(item.copy()?),
-        }
-    }
 }

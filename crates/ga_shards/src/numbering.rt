@@ -48,6 +48,13 @@ impl<T> Numbering<T> {
         &self.items
     }
 
+    /// Gives the items back, in the order of their numbers.
+    pub fn into_items(self) -> Vec<T>
+        ensures { result.items ≡ self.items }
+    {
+        self.items
+    }
+
     /// The item of this number.
     pub fn item(&self, number: u32) -> &T
         requires { number < length self.now.items }

@@ -120,7 +120,7 @@ fn note_those<T: Noted + Drop>(
 {
     for item in items {
         if shard_of(item, shards) == shard {
-            known.note_copy(item)?;
+            known.note(item.copy()?)?;
         }
     }
     Ok(())

@@ -17,7 +17,7 @@ fn equal_visitors_have_one_place(rt: HostRuntime) -> Result<(), NoMemory> {
     let mut visitors = Dictionary::new(alloc, Keyed::new(1, 2));
     let first = visitors.note(visitor(alloc, "192.0.2.1")?)?;
     let second = visitors.note(visitor(alloc, "192.0.2.2")?)?;
-    let again = visitors.note_copy(&visitor(alloc, "192.0.2.1")?)?;
+    let again = visitors.note(visitor(alloc, "192.0.2.1")?)?;
     assert_eq!(rt; first, 0);
     assert_eq!(rt; second, 1);
     assert_eq!(rt; again, 0);

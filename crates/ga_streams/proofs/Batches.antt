@@ -57,15 +57,10 @@ module _ (law : EndedKeep) where
       ∙ ap (λ (t : List ℕ). lines t false) (take-append-drop ended stream)
 
 -- lines that say the same are counted alike
-counted-along : (o : Option Full) (setup : Setup) (start : Totals) (xs ys : List (List ℕ)) (total : TallySeen) → SayTheSame xs ys → HasCountedBy o setup start xs total → HasCountedBy o setup start ys total
-counted-along None setup start xs ys total same h = record {
-  outcomes = h.outcomes;
-  come = come-along setup xs ys h.outcomes same h.come;
-  countable = h.countable;
-  fits = h.fits;
-  tally = h.tally;
-}
-counted-along (Some full) setup start xs ys total same h = fills-along setup start xs ys full.which full.total same h
+counted-along : (o : Option Full) (setup : Setup) (start : Totals) (xs ys : List (List ℕ)) (tallies : List TallySeen) → SayTheSame xs ys → HasCountedBy o setup start xs tallies
+    → HasCountedBy o setup start ys tallies
+counted-along None setup start xs ys tallies same h = record { outcomes = h.outcomes; come = come-along setup xs ys h.outcomes same h.come; tallied = h.tallied }
+counted-along (Some full) setup start xs ys tallies same h = fills-along setup start xs ys full.which full.total same h
 
 -- ---- one batch more
 
@@ -94,7 +89,7 @@ module _ (law : EndedKeep) (setup : Setup) (old new : CountingSeen) (batch : Lis
       let part = kept_part stream b'.ended keep in
       let whole : cut_lines part ≡ h.taken ++ batch = last.lines ∙ ap (λ (t : List ℕ). h.taken ++ t) is in
       let counted = subst (λ (t : List ℕ). HasCounted setup (before ++ lines t true) new) (sym whole) (more before h.taken h.holds.whole h.counted) in
-      let along = counted-along new.full setup new.start (before ++ lines (cut_lines part) true) (before ++ lines part true) new.total
+      let along = counted-along new.full setup new.start (before ++ lines (cut_lines part) true) (before ++ lines part true) new.tallies
       (behind-same before (lines (cut_lines part) true) (lines part true) (held-lines cuts part true)) counted in
       (last.ended, subst (λ (ls : List (List ℕ)). HasCounted setup (before ++ ls) new) (kept-lines law stream b'.ended keep last.ended) along)
 

@@ -1,41 +1,28 @@
 -- Lines counted behind lines.
-use Rattle.std.proofs.Common.{◌≡◌, ℕ, Bool, false, List, [], ◌∷◌, ◌++◌, length, Option, Some, None, refl, sym, ap, ◌∙◌, subst, arith, append_assoc}
-use Rattle.std.proofs.lemmas.List.Elements.{All-append}
-use Rattle.std.proofs.lemmas.Bool.{true≢false}
-use Rattle.std.specs.Prelude.{All, is_some}
+use Rattle.std.proofs.Common.{◌≡◌, ℕ, List, [], ◌∷◌, ◌++◌, length, Option, Some, None, Vec, Global, refl, sym, ap, ◌∙◌, subst, arith, append_assoc}
 use Rattle.ga_base.specs.declared.counts.Counter.{Counter}
 use Rattle.ga_base.specs.declared.counts.Totals.{Totals}
 use Rattle.ga_outcomes.proofs.Behind.{come-append, or_else-none, over-append, plus-assoc, totals-cons}
 use Rattle.ga_outcomes.proofs.Limits.{all-within}
 use Rattle.ga_outcomes.specs.Counting.{FillsAmong}
 use Rattle.ga_outcomes.specs.declared.setup.Setup.{Setup}
-use Rattle.ga_pool.specs.Batches.{CountsBatch}
-use Rattle.ga_pool.specs.declared.counted.Counted.{Counted}
-use Rattle.ga_streams.specs.Counting.{AreCounted, CountingSeen, HasCountedBy}
-use Rattle.ga_streams.specs.Steps.{TakesIn}
+use Rattle.ga_pool.proofs.Alike.{countable-append}
+use Rattle.ga_pool.proofs.Together.{counted-totals}
+use Rattle.ga_pool.proofs.WeighedLines.{over-none}
+use Rattle.ga_pool.specs.Together.{AreCounted, CountsOn, totals_in}
+use Rattle.ga_streams.specs.Counting.{AreTallied, HasCountedBy, LinesAreCounted}
+use Rattle.ga_streams.specs.Steps.{AreSome}
 use Rattle.ga_streams.specs.declared.full.Full.{Full}
 use Rattle.ga_summary.specs.Limits.{over, passes}
-use Rattle.ga_summary.specs.Outcomes.{Hit, Outcome, Counted as CountedLine, Excluded, Failed, hits_of, totals_of}
+use Rattle.ga_summary.specs.Outcomes.{Outcome, totals_of}
 use Rattle.ga_summary.specs.Rows.{totals_plus}
-use Rattle.ga_summary.specs.Sound.{AllCountable, IsCountable, TotalsFit}
-use Rattle.ga_tallies.specs.Tallies.{IsTallyOf, TallySeen}
-use Rattle.ga_totals.specs.Totals.{IsOfCountable}
+use Rattle.ga_summary.specs.Sound.{TotalsFit}
+use Rattle.ga_tallies.specs.Tallies.{TallySeen}
 
 -- ---- outcomes
 
-hits-append : (xs ys : List Outcome) → hits_of (xs ++ ys) ≡ hits_of xs ++ hits_of ys
-hits-append [] ys = refl
-hits-append (Failed ∷ xs) ys = hits-append xs ys
-hits-append (Excluded ∷ xs) ys = hits-append xs ys
-hits-append (CountedLine hit ∷ xs) ys = ap (λ (l : List Hit). hit ∷ l) (hits-append xs ys)
-
-countable-append : (xs ys : List Outcome) → AllCountable xs → AllCountable ys → AllCountable (xs ++ ys)
-countable-append xs ys a b =
-    subst (λ (hits : List Hit). All (λ hit. (date : ℕ) × IsCountable date hit) hits) (sym (hits-append xs ys))
-    (All-append (λ (hit : Hit). (date : ℕ) × IsCountable date hit) (hits_of xs) (hits_of ys) a b)
-
 -- totals that no line fills fit
-pub over-fits : (t : Totals) (os : List Outcome) → TotalsFit t → over t os ≡ None → TotalsFit (totals_plus t (totals_of os))
+over-fits : (t : Totals) (os : List Outcome) → TotalsFit t → over t os ≡ None → TotalsFit (totals_plus t (totals_of os))
 over-fits t [] fit none = record { lines = omega (arith, fit.lines); bytes = omega (arith, fit.bytes); micros = omega (arith, fit.micros) }
 over-fits t (o ∷ os) fit none =
     let more = totals_plus t (totals_of (o ∷ [])) in
@@ -44,91 +31,101 @@ over-fits t (o ∷ os) fit none =
     plus-assoc t (totals_of (o ∷ [])) (totals_of os) ∙ ap (totals_plus t) (totals-cons o os) in
     subst TotalsFit along (over-fits more os (all-within more parts.0) parts.1)
 
-pub less-fits : (start t more : Totals) → TotalsFit (totals_plus (totals_plus start t) more) → TotalsFit (totals_plus t more)
-less-fits start t more fit = record { lines = omega (arith, fit.lines); bytes = omega (arith, fit.bytes); micros = omega (arith, fit.micros) }
+-- ---- outcomes that are counted
 
--- ---- a batch that is taken in
+-- the counters behind them
+behind : (start : Totals) (os : List Outcome) (tallies : List TallySeen) → AreTallied start os tallies → totals_plus start (totals_in tallies) ≡ totals_plus start (totals_of os)
+behind start os tallies h = ap (totals_plus start) (counted-totals os tallies h.counted)
 
-pub all-countable : (old new batch : TallySeen) → IsOfCountable old → ((xs ys : List Outcome) → IsTallyOf xs old → IsTallyOf ys batch → IsTallyOf (xs ++ ys) new)
-    → (os : List Outcome) → IsTallyOf os batch → AllCountable os → IsOfCountable new
-all-countable old new batch was taken os is countable = record {
-  outcomes = was.outcomes ++ os;
-  tally = taken was.outcomes os was.tally is;
-  countable = countable-append was.outcomes os was.countable countable;
-}
+-- they fit, and so do those of the tallies alone
+pub all-fit : (start : Totals) (tallies : List TallySeen) → TotalsFit start → AreSome start tallies → TotalsFit (totals_plus start (totals_in tallies))
+all-fit start tallies fit some = subst TotalsFit (sym (behind start some.outcomes tallies some.tallied)) (over-fits start some.outcomes fit some.tallied.fits)
 
--- lines behind others
-counted-append : (setup : Setup) (start : Totals) (before all : List (List ℕ)) (counted : Counted) (old new batch : TallySeen) → AreCounted setup start before old
-    → (h : CountsBatch setup (totals_plus start old.totals) all counted) → IsTallyOf h.outcomes batch → ((xs ys : List Outcome) → IsTallyOf xs old → IsTallyOf ys batch → IsTallyOf (xs ++ ys) new)
-    → AreCounted setup start (before ++ all) new
-counted-append setup start before all counted old new batch was h is taken = record {
-  outcomes = was.outcomes ++ h.outcomes;
-  come = come-append setup before all was.outcomes h.outcomes was.come h.come;
-  countable = countable-append was.outcomes h.outcomes was.countable h.countable;
-  fits = over-append start was.outcomes h.outcomes was.fits ∙ ap (λ (t : Totals). over (totals_plus start t) h.outcomes) (sym was.tally.totals) ∙ h.fits;
-  tally = taken was.outcomes h.outcomes was.tally is;
-}
+pub tallies-fit : (start : Totals) (tallies : List TallySeen) → TotalsFit start → AreSome start tallies → TotalsFit (totals_in tallies)
+tallies-fit start tallies fit some =
+    let all = all-fit start tallies fit some in
+    record { lines = omega (arith, all.lines); bytes = omega (arith, all.bytes); micros = omega (arith, all.micros) }
 
-pub takes-in : (old new : CountingSeen) (counted : Counted) (batch : TallySeen) → old.full ≡ None → new.full ≡ None → new.start ≡ old.start
-    → ((setup : Setup) (all : List (List ℕ)) (h : CountsBatch setup (totals_plus old.start old.total.totals) all counted) → IsTallyOf h.outcomes batch)
-    → ((xs ys : List Outcome) → IsTallyOf xs old.total → IsTallyOf ys batch → IsTallyOf (xs ++ ys) new.total) → TakesIn old new counted
-takes-in old new counted batch unfilled unfilled' start tally taken setup before all h was =
-    let were : AreCounted setup old.start before old.total = subst (λ (f : Option Full). HasCountedBy f setup old.start before old.total) unfilled was in
-    let now = counted-append setup old.start before all counted old.total new.total batch were h (tally setup all h) taken in
-    subst (λ (t : Totals). HasCountedBy new.full setup t (before ++ all) new.total) (sym start)
-    (subst (λ (f : Option Full). HasCountedBy f setup old.start (before ++ all) new.total) (sym unfilled') now)
+-- lines that are counted behind them, in tallies that were given away and came back
+module _ (setup : Setup) (start : Totals) (all : List (List ℕ)) (old given new : List TallySeen) (same : given ≡ old) (behind-given : CountsOn setup all given new)
+    (fit : TotalsFit (totals_plus start (totals_in new))) where
+  on : CountsOn setup all old new
+  on = subst (λ (ts : List TallySeen). CountsOn setup all ts new) same behind-given
+
+  tallied-on : (os : List Outcome) → AreTallied start os old → AreTallied start (os ++ on.outcomes) new
+  tallied-on os was =
+      let counted = on.counted os was.counted in
+      record {
+        counted = counted;
+        countable = countable-append os on.outcomes was.countable on.countable;
+        fits = over-none start (os ++ on.outcomes) (subst (λ (t : Totals). TotalsFit (totals_plus start t)) (counted-totals (os ++ on.outcomes) new counted) fit);
+      }
+
+  pub some-on : AreSome start old → AreSome start new
+  some-on was = record { outcomes = was.outcomes ++ on.outcomes; tallied = tallied-on was.outcomes was.tallied }
+
+  pub counted-on : (before : List (List ℕ)) → LinesAreCounted setup start before old → LinesAreCounted setup start (before ++ all) new
+  counted-on before was = record {
+    outcomes = was.outcomes ++ on.outcomes;
+    come = come-append setup before all was.outcomes on.outcomes was.come on.come;
+    tallied = tallied-on was.outcomes was.tallied;
+  }
+
+  pub as-many-on : length new ≡ length old
+  as-many-on = on.many
 
 -- ---- counters that are full
 
--- more lines behind those that fill a counter change nothing
-pub fills-more : (setup : Setup) (start : Totals) (before more : List (List ℕ)) (which : Counter) (total : ℕ) → FillsAmong setup start before which total
-    → FillsAmong setup start (before ++ more) which total
-fills-more setup start before more which total h = record {
-  front = h.front;
-  back = h.back ++ more;
-  split = ap (λ (x : List (List ℕ)). x ++ more) h.split ∙ append_assoc h.front h.back more;
-  outcomes = h.outcomes;
-  come = h.come;
-  full = h.full;
-}
-
-pub has-more : (full : Full) (setup : Setup) (start : Totals) (before more : List (List ℕ)) (total : TallySeen) (o : Option Full) → o ≡ Some full → HasCountedBy o setup start before total
-    → HasCountedBy o setup start (before ++ more) total
-has-more full setup start before more total o is h =
-    subst (λ (f : Option Full). HasCountedBy f setup start (before ++ more) total) (sym is)
-    (fills-more setup start before more full.which full.total (subst (λ (f : Option Full). HasCountedBy f setup start before total) is h))
-
 -- lines behind those that are counted fill a counter
-pub fills-behind : (setup : Setup) (start : Totals) (before all : List (List ℕ)) (old : TallySeen) (which : Counter) (total : ℕ) → AreCounted setup start before old
-    → FillsAmong setup (totals_plus start old.totals) all which total → FillsAmong setup start (before ++ all) which total
-fills-behind setup start before all old which total was h = record {
+pub fills-behind : (setup : Setup) (start : Totals) (before all : List (List ℕ)) (tallies given : List TallySeen) (which : Counter) (value : ℕ) → given ≡ tallies
+    → LinesAreCounted setup start before tallies → FillsAmong setup (totals_plus start (totals_in given)) all which value → FillsAmong setup start (before ++ all) which value
+fills-behind setup start before all tallies given which value same was h = record {
   front = before ++ h.front;
   back = h.back;
   split = ap (λ (x : List (List ℕ)). before ++ x) h.split ∙ sym (append_assoc before h.front h.back);
   outcomes = was.outcomes ++ h.outcomes;
   come = come-append setup before h.front was.outcomes h.outcomes was.come h.come;
-  full = over-append start was.outcomes h.outcomes was.fits ∙ ap (λ (t : Totals). over (totals_plus start t) h.outcomes) (sym was.tally.totals) ∙ h.full;
+  full = over-append start was.outcomes h.outcomes was.tallied.fits
+      ∙ ap (λ (t : Totals). over t h.outcomes) (sym (behind start was.outcomes tallies was.tallied) ∙ ap (λ (ts : List TallySeen). totals_plus start (totals_in ts)) (sym same)) ∙ h.full;
 }
 
 -- no counter is full
-pub unfilled-by : (o : Option Full) (b : Bool) → b ≡ is_some o → b ≡ false → o ≡ None
-unfilled-by None b is not = refl
-unfilled-by (Some full) b is not = absurd (true≢false (sym is ∙ not))
+pub unfilled : (o : Option Full) (setup : Setup) (start : Totals) (all : List (List ℕ)) (tallies : List TallySeen) → o ≡ None → HasCountedBy o setup start all tallies
+    → LinesAreCounted setup start all tallies
+unfilled o setup start all tallies is h = subst (λ (f : Option Full). HasCountedBy f setup start all tallies) is h
 
 -- ---- no lines at all
 
-no-outcomes : (os : List Outcome) → length os ≡ 0 → [] ≡ os
-no-outcomes [] none = refl
-no-outcomes (o ∷ os) none = absurd (omega (arith, none))
+-- the same vector has the same tallies
+pub same-items : (v w : Vec TallySeen Global) → v ≡ w → v.items ≡ w.items
+same-items v w is = ap (λ (u : Vec TallySeen Global). u.items) is
 
--- what is a tally of no lines stands for what was one of none
-pub has-fresh : (setup : Setup) (start : Totals) (before : List (List ℕ)) (old new : TallySeen) → old.totals.lines ≡ 0 → IsTallyOf [] new → (o : Option Full)
-    → HasCountedBy o setup start before old → HasCountedBy o setup start before new
-has-fresh setup start before old new none is (Some full) h = h
-has-fresh setup start before old new none is None h = record {
-  outcomes = h.outcomes;
-  come = h.come;
-  countable = h.countable;
-  fits = h.fits;
-  tally = subst (λ (os : List Outcome). IsTallyOf os new) (no-outcomes h.outcomes (sym (ap (λ (t : Totals). t.lines) h.tally.totals) ∙ none)) is;
+pub no-items : {A : Type 0} (xs : List A) → length xs ≡ 0 → xs ≡ []
+no-items [] none = refl
+no-items (x ∷ xs) none = absurd (omega (arith, none))
+
+-- where there are no tallies nothing was counted
+pub no-tallies : (os : List Outcome) → AreCounted os [] → os ≡ []
+no-tallies os h = no-items os (sym (ap (λ (t : Totals). t.lines) (counted-totals os [] h)))
+
+pub some-none : (start : Totals) (tallies : List TallySeen) → AreCounted [] tallies → AreSome start tallies
+some-none start tallies none = record {
+  outcomes = [];
+  tallied = record { counted = none; countable = λ k d lt. absurd (omega arith); fits = refl };
 }
+
+pub none-counted : (tallies : List TallySeen) → tallies ≡ [] → AreCounted [] tallies
+none-counted tallies is = subst (AreCounted []) (sym is) (record { parts = []; tallies_of = tt; alike = record { totals = refl; sums = λ key. refl; visits = λ key visitor. refl } })
+
+-- tallies of no lines stand in for none
+module _ (start : Totals) (old new : List TallySeen) (is : old ≡ []) (none : AreCounted [] new) where
+  begun : (os : List Outcome) → AreTallied start os old → AreTallied start os new
+  begun os h = record {
+    counted = subst (λ (xs : List Outcome). AreCounted xs new) (sym (no-tallies os (subst (AreCounted os) is h.counted))) none;
+    countable = h.countable;
+    fits = h.fits;
+  }
+
+  pub has-begun : (setup : Setup) (before : List (List ℕ)) (o : Option Full) → HasCountedBy o setup start before old → HasCountedBy o setup start before new
+  has-begun setup before (Some full) h = h
+  has-begun setup before None h = record { outcomes = h.outcomes; come = h.come; tallied = begun h.outcomes h.tallied }

@@ -1,6 +1,7 @@
-pub mod Batch
 pub mod Batches
 pub mod Counts
 pub mod Held
+pub mod Once
+pub mod OneTally
 pub mod Reading
-pub mod Taking
+pub mod TablesTally

@@ -1,4 +1,4 @@
--- What is read off the tables of a batch, cell by cell and key by key.
+-- What is read off the tables, cell by cell and key by key.
 use Rattle.std.proofs.Common.{◌≡◌, ℕ, zero, suc, ◌+◌, ◌<◌, ◌≤◌, Bool, true, false, List, [], ◌∷◌, ◌++◌, length, take, map, get_or, cond, Some, refl, sym, ap, ◌∙◌, arith, eq-eqb, length-append, ⊎_elim, take_all}
 use Rattle.std.specs.Prelude.{◌≢◌, if◌then◌else◌, filter, slice_get}
 use Rattle.std.proofs.lemmas.Bool.{ne_eqb, cases_lt}

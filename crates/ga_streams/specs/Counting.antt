@@ -3,6 +3,7 @@ use Rattle.std.specs.Prelude.{◌≡◌, ◌≤◌, ℕ, List, Option, Some, Non
 use Rattle.ga_base.specs.declared.counts.Totals.{Totals}
 use Rattle.ga_outcomes.specs.Counting.{Come, FillsAmong}
 use Rattle.ga_outcomes.specs.declared.setup.Setup.{Setup}
+use Rattle.ga_pool.specs.Together.{AreCounted}
 use Rattle.ga_streams.specs.declared.full.Full.{Full}
 use Rattle.ga_streams.specs.declared.workers.Workers.{Workers}
 use Rattle.ga_summary.specs.Limits.{over}
@@ -21,23 +22,35 @@ pub record AreWorkers (workers : Workers) : Type 0 where
 pub record CountingSeen : Type 0 where
   -- what the counters began at
   pub start : Totals
-  -- what was counted since, as long as no counter was full
-  pub total : TallySeen
+  -- what each worker has counted since, as long as no counter was full
+  pub tallies : List TallySeen
   -- the counter that is full
   pub full : Option Full
 
--- these lines are counted, and no counter passed its limit on the way
-pub record AreCounted (setup : Setup) (start : Totals) (all : List (List ℕ)) (total : TallySeen) : Type 0 where
-  pub outcomes : List Outcome
-  pub come : Come setup all outcomes
+-- the workers have counted these outcomes, each some of them, and no counter passed its limit on the way
+pub record AreTallied (start : Totals) (outcomes : List Outcome) (tallies : List TallySeen) : Type 0 where
+  pub counted : AreCounted outcomes tallies
   pub countable : AllCountable outcomes
   pub fits : over start outcomes ≡ None
-  pub tally : IsTallyOf outcomes total
+
+-- these lines are counted: what they come to is
+pub record LinesAreCounted (setup : Setup) (start : Totals) (all : List (List ℕ)) (tallies : List TallySeen) : Type 0 where
+  pub outcomes : List Outcome
+  pub come : Come setup all outcomes
+  pub tallied : AreTallied start outcomes tallies
 
 -- these lines are counted, or they fill a counter, which is told
-abbrev pub HasCountedBy : Option Full → Setup → Totals → List (List ℕ) → TallySeen → Type 0
-HasCountedBy None setup start all total = AreCounted setup start all total
-HasCountedBy (Some full) setup start all total = FillsAmong setup start all full.which full.total
+abbrev pub HasCountedBy : Option Full → Setup → Totals → List (List ℕ) → List TallySeen → Type 0
+HasCountedBy None setup start all tallies = LinesAreCounted setup start all tallies
+HasCountedBy (Some full) setup start all tallies = FillsAmong setup start all full.which full.total
 
 abbrev pub HasCounted : Setup → List (List ℕ) → CountingSeen → Type 0
-HasCounted setup all c = HasCountedBy c.full setup c.start all c.total
+HasCounted setup all c = HasCountedBy c.full setup c.start all c.tallies
+
+-- these lines are counted in the total, and no counter passed its limit on the way
+pub record AreInTotal (setup : Setup) (start : Totals) (all : List (List ℕ)) (total : TallySeen) : Type 0 where
+  pub outcomes : List Outcome
+  pub come : Come setup all outcomes
+  pub tally : IsTallyOf outcomes total
+  pub countable : AllCountable outcomes
+  pub fits : over start outcomes ≡ None

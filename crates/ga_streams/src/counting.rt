@@ -1,27 +1,26 @@
-ghost use Rattle.std.specs.Prelude.{◌≡◌, ◌≤◌, ◌++◌, ◌^◌, [], ℕ, List, None, IfOk, OnOk, length, true};
+ghost use Rattle.std.specs.Prelude.{◌≡◌, ◌≤◌, ◌++◌, ◌^◌, [], ℕ, List, None, OnOk, IfOk, length, true, vec_len};
 ghost use Rattle.std.specs.Result.{IsErrOf};
 ghost use Rattle.ga_line.specs.Lines.{lines};
-ghost use Rattle.ga_outcomes.specs.Counting.{CountsLines, FillsAmong};
+ghost use Rattle.ga_outcomes.specs.Counting.{FillsAmong};
 ghost use Rattle.ga_outcomes.specs.declared.setup.Setup.{Setup as TheSetup};
-ghost use Rattle.ga_streams.specs.Counting.{AreWorkers, HasCounted};
-ghost use Rattle.ga_streams.specs.Steps.{IsNext, TakesIn};
+ghost use Rattle.ga_streams.specs.Counting.{AreInTotal, AreWorkers, HasCounted};
 ghost use Rattle.ga_streams.specs.declared.full.Full.{Full as TheFull};
 ghost use Rattle.ga_summary.specs.Limits.{LinesAdd};
-ghost use Rattle.ga_summary.specs.Rows.{totals_plus};
 ghost use Rattle.ga_summary.specs.Sound.{TotalsFit};
 
 use crate::keys::keyed_by;
-use crate::tables::{pairs_in, sums_in};
+use crate::total::total_of;
 use crate::{CountingFault, Full, Workers};
 use ga_base::{NoMemory, Totals};
 use ga_outcomes::Setup;
-use ga_pool::{Counted, PoolFault, count_batch};
+use ga_pool::{PoolFault, count_on, new_tallies};
 use ga_ports::Gate;
 use ga_shards::Keyed;
-use ga_summary::Summary;
-use ga_totals::{Total, plus};
+use ga_tallies::Tally;
+use ga_totals::Total;
 use std::alloc::Global;
 use std::marker::Model;
+use std::mem;
 use std::thread::Threads;
 
 /// What was counted so far of the lines of a run, batch after batch. Where they fill a counter no more is counted.
@@ -30,13 +29,13 @@ pub struct Counting {
     alloc: Global,
     /// How batches are counted.
     workers: Workers,
-    /// How maps hash: by what stands in the first batch.
+    /// How maps hash: by what stands in the first batch that has bytes.
     keyed: Keyed,
     /// What the counters began at.
     start: Totals,
-    /// What was counted since.
-    total: Total,
-    /// The counter that is full.
+    /// What each worker has counted since, over all batches. There is none before the first batch that has bytes.
+    tallies: Vec<Tally>,
+    /// The counter that is full. What was counted is dropped then.
     full: Option<Full>,
 }
 
@@ -45,16 +44,15 @@ impl Model for Counting {
 
     ghost Value = { CountingSeen };
 
-    ghost use Rattle.std.specs.Prelude.{◌≡◌, None};
+    ghost use Rattle.std.specs.Prelude.{◌≡◌, ◌≤◌, None, vec_len};
     ghost use Rattle.ga_streams.specs.Counting.{AreWorkers};
+    ghost use Rattle.ga_streams.specs.Steps.{AreSome};
     ghost use Rattle.ga_summary.specs.Limits.{LinesAdd};
-    ghost use Rattle.ga_summary.specs.Rows.{totals_plus};
     ghost use Rattle.ga_summary.specs.Sound.{TotalsFit};
-    ghost use Rattle.ga_totals.specs.Totals.{IsOfCountable};
 
-    ghost view = { λ c. record { start = c.start; total = c.total; full = c.full } };
+    ghost view = { λ c. record { start = c.start; tallies = c.tallies.items; full = c.full } };
 
-    ghost invariant = { λ c. AreWorkers c.workers × TotalsFit c.start × LinesAdd c.start × (c.full ≡ None → TotalsFit (totals_plus c.start c.total.totals) × IsOfCountable c.total) };
+    ghost invariant = { λ c. AreWorkers c.workers × TotalsFit c.start × LinesAdd c.start × (vec_len c.tallies ≤ 16) × (c.full ≡ None → AreSome c.start c.tallies.items) };
 }
 
 impl Counting {
@@ -66,18 +64,17 @@ impl Counting {
         ensures start { result.start ≡ start }
         ensures none { (setup : TheSetup) → HasCounted setup [] result }
     {
-        let keyed = keyed_by(b"");
         Counting {
             alloc,
             workers,
-            keyed,
+            keyed: keyed_by(b""),
             start,
-            total: Total::new(alloc, keyed),
+            tallies: Vec::new(alloc),
             full: None,
         }
     }
 
-    /// Counts the lines of a batch, the last also where no line feed ends it.
+    /// Counts the lines of a batch, the last also where no line feed ends it. After an `Err` the counting may only be dropped.
     pub fn count<R: Threads + Sync, G: Gate>(
         &mut self,
         rt: &R,
@@ -89,68 +86,56 @@ impl Counting {
         ensures start { OnOk result (self.new.start ≡ self.old.start) }
         ensures counted { OnOk result ((before : List (List ℕ)) → HasCounted setup.now before self.old → HasCounted setup.now (before ++ lines batch.now true) self.new) }
     {
-        self.rekey(batch);
-        self.count_on(rt, gate, setup, batch)
-    }
-
-    /// Lets maps hash by what stands in this batch, as long as no line was counted.
-    fn rekey(&mut self, batch: &[u8])
-        ensures start { self.new.start ≡ self.old.start }
-        ensures counted { (setup : TheSetup) (before : List (List ℕ)) → HasCounted setup before self.old → HasCounted setup before self.new }
-    {
-        if self.total.totals().lines == 0 {
-            self.keyed = keyed_by(batch);
-            self.total = Total::new(self.alloc, self.keyed);
+        if self.full.is_some() || batch.is_empty() {
+            return Ok(());
         }
+        self.begin(batch)?;
+        self.count_lines(rt, gate, setup, batch)
     }
 
-    /// Counts the lines of a batch, behind those that were counted.
-    fn count_on<R: Threads + Sync, G: Gate>(
+    /// Makes a tally for each worker, where there is none yet. Their maps hash by what stands in this batch.
+    fn begin(&mut self, batch: &[u8]) -> Result<(), NoMemory>
+        ensures start { OnOk result (self.new.start ≡ self.old.start) }
+        ensures full { OnOk result (self.new.full ≡ self.old.full) }
+        ensures some { OnOk result (1 ≤ length self.new.tallies) }
+        ensures counted { OnOk result ((setup : TheSetup) (before : List (List ℕ)) → HasCounted setup before self.old
+            → HasCounted setup before self.new) }
+    {
+        if self.tallies.is_empty() {
+            self.keyed = keyed_by(batch);
+            self.tallies = new_tallies(self.alloc, self.keyed, self.workers.jobs)?;
+        }
+        Ok(())
+    }
+
+    /// Counts the lines of a batch into the tallies, behind those that were counted. After an `Err` nothing is counted.
+    fn count_lines<R: Threads + Sync, G: Gate>(
         &mut self,
         rt: &R,
         gate: &G,
         setup: &Setup,
         batch: &[u8],
     ) -> Result<(), NoMemory>
-        requires { length batch.now ≤ 2 ^ 24 }
+        requires open { self.old.full ≡ None }
+        requires some { 1 ≤ length self.old.tallies }
+        requires small { length batch.now ≤ 2 ^ 24 }
         ensures start { OnOk result (self.new.start ≡ self.old.start) }
         ensures counted { OnOk result ((before : List (List ℕ)) → HasCounted setup.now before self.old → HasCounted setup.now (before ++ lines batch.now true) self.new) }
     {
-        if self.full.is_some() {
-            return Ok(());
-        }
-        let before = plus(self.start, self.total.totals());
-        let Workers { jobs, chunk } = self.workers;
-        match count_batch(
-            rt, self.alloc, self.keyed, setup, &before, batch, jobs, chunk, gate,
-        ) {
-            Ok(counted) => self.take_in(&counted),
-            Err(PoolFault::CounterFull { which, total }) => {
-                self.full = Some(Full { which, total });
+        let (alloc, chunk) = (self.alloc, self.workers.chunk);
+        let tallies = mem::replace(&mut self.tallies, Vec::new(alloc));
+        match count_on(rt, alloc, setup, &self.start, tallies, batch, chunk, gate) {
+            Ok(more) => {
+                self.tallies = more;
                 Ok(())
             }
-            Err(PoolFault::NoMemory) => Err(NoMemory),
-        }
-    }
-
-    /// Takes in what was counted of a batch. After an `Err` nothing is counted.
-    fn take_in(&mut self, counted: &Counted) -> Result<(), NoMemory>
-        requires open { self.old.full ≡ None }
-        requires next { IsNext self.old counted.now }
-        ensures start { OnOk result (self.new.start ≡ self.old.start) }
-        ensures takes { OnOk result (TakesIn self.old self.new counted.now) }
-    {
-        let keys = counted.keys.items();
-        let visitors = counted.visitors.items();
-        let sums = sums_in(self.alloc, &counted.counts)?;
-        let pairs = pairs_in(self.alloc, &counted.pairs)?;
-        let totals = counted.totals;
-        match self.total.take_in(totals, keys, visitors, &sums, &pairs) {
-            Ok(()) => Ok(()),
-            Err(NoMemory) => {
-                self.total = Total::new(self.alloc, self.keyed);
-                Err(NoMemory)
-            }
+            Err(fault) => match fault {
+                PoolFault::CounterFull { which, total } => {
+                    self.full = Some(Full { which, total });
+                    Ok(())
+                }
+                PoolFault::NoMemory => Err(NoMemory),
+            },
         }
     }
 
@@ -161,15 +146,23 @@ impl Counting {
         self.full
     }
 
-    /// The sum of all lines that were counted.
-    pub fn sum(&self) -> Result<Summary, CountingFault>
-        ensures ok { IfOk result (λ sum. (setup : TheSetup) (all : List (List ℕ)) → HasCounted setup all self.now → CountsLines setup self.now.start all sum) }
-        ensures full { (full : TheFull) → IsErrOf result (CountingFault.Full full) → (setup : TheSetup) (all : List (List ℕ)) → HasCounted setup all self.now
-            → FillsAmong setup self.now.start all full.which full.total }
+    /// The total of all lines that were counted: a summary can be made of it, or what a report is told.
+    pub fn into_total<R: Threads + Sync>(self, rt: &R) -> Result<Total, CountingFault>
+        ensures ok { IfOk result (λ total. (setup : TheSetup) (all : List (List ℕ)) → HasCounted setup all self → AreInTotal setup self.start all total) }
+        ensures full { (full : TheFull) → IsErrOf result (CountingFault.Full full) → (setup : TheSetup) (all : List (List ℕ)) → HasCounted setup all self
+            → FillsAmong setup self.start all full.which full.total }
     {
-        match self.full {
+        let Counting {
+            alloc,
+            workers: _,
+            keyed,
+            start: _,
+            tallies,
+            full,
+        } = self;
+        match full {
             Some(full) => Err(CountingFault::Full(full)),
-            None => Ok(self.total.summary(self.alloc)?),
+            None => Ok(total_of(rt, alloc, keyed, tallies)?),
         }
     }
 }

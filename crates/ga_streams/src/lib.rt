@@ -10,6 +10,7 @@ mod keys;
 pub mod laws;
 mod streams;
 mod tables;
+mod total;
 mod workers;
 
 pub use counting::Counting;

@@ -85,13 +85,14 @@ impl Tally {
         if facts.is_excluded() {
             return self.add_totals(EXCLUDED);
         }
-        self.count_facts(alloc, &facts, &rec)
+        self.count_facts(alloc, agents, &facts, &rec)
     }
 
     /// Counts a record with these facts under its keys, for its visitor.
     fn count_facts(
         &mut self,
         alloc: Global,
+        agents: &Agents,
         facts: &RecordFacts<'_>,
         rec: &RecordRef<'_>,
     ) -> Result<(), TallyFault>
@@ -101,7 +102,7 @@ impl Tally {
         ensures full { IsErrOf result TallyFault.Full → IsTooMuch (Counted (hit_told facts.now)) self.old }
     {
         self.add_totals(totals_of(rec))?;
-        let place = self.note_visitor(alloc, visitor_in(facts, rec))?;
+        let place = self.note_visitor(alloc, agents, visitor_in(facts, rec))?;
         self.note_keys(alloc, facts, place, sums_of(rec))?;
         Ok(())
     }

@@ -1,8 +1,7 @@
 //! What one worker counts of lines, in numbers of its own.
 //!
 //! Start with `Tally`. `specs/Tallies.antt` says what a tally of outcomes is: keys and visitors by numbers, sums by a key's
-//! number, and the pairs of a key and a visitor of it. `Agents` keeps what agents are from one line to the next. `PairList`
-//! and `add_line` serve other counts in numbers too.
+//! number, and the pairs of a key and a visitor of it. `Agents` keeps what agents are from one line to the next.
 #![tactic(auto)]
 
 mod agents;
@@ -19,8 +18,7 @@ mod visitor_ref;
 
 pub use agents::Agents;
 pub use fault::TallyFault;
-pub use noting::add_line;
-pub use pairs::{Pair, PairList};
+pub use pairs::Pair;
 pub use parts::TallyParts;
 pub use tally::Tally;
 

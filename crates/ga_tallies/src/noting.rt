@@ -8,7 +8,7 @@ ghost use Rattle.ga_tallies.specs.Steps.Notes.{NotesKey, NotesKeys, NotesVisitor
 
 use crate::numbers::{key_number, visitor_number};
 use crate::visitor_ref::VisitorRef;
-use crate::{Pair, Tally};
+use crate::{Agents, Pair, Tally};
 use ga_base::{NoMemory, Sums};
 use ga_panels::{KeyRef, PANELS, RecordFacts};
 use std::alloc::Global;
@@ -18,6 +18,7 @@ impl Tally {
     pub(crate) fn note_visitor(
         &mut self,
         alloc: Global,
+        agents: &Agents,
         visitor: Option<VisitorRef<'_>>,
     ) -> Result<Option<u32>, NoMemory>
         ensures { IfOk result
@@ -30,6 +31,7 @@ impl Tally {
                     alloc,
                     &mut self.visitors,
                     &mut self.visitor_hints,
+                    agents,
                     &visitor,
                 )?;
                 Ok(Some(number))
@@ -111,7 +113,7 @@ impl Tally {
 }
 
 /// Adds a line's sums to the row at a place, or puts them behind the rows where none is there yet.
-pub fn add_line(rows: &mut Vec<Sums>, place: u32, line: Sums) -> Result<(), NoMemory>
+fn add_line(rows: &mut Vec<Sums>, place: u32, line: Sums) -> Result<(), NoMemory>
     ensures { OnOk result (rows.new.items ≡ added_at place line rows.old.items) }
 {
     let place = place as usize;

@@ -5,6 +5,7 @@ ghost use Rattle.ga_shards.specs.Numbers.{noted, place_of};
 ghost use Rattle.ga_tallies.specs.Refs.{visitor_of};
 ghost use Rattle.ga_tallies.specs.Steps.Notes.{IsNumbered};
 
+use crate::Agents;
 use crate::hints::Hints;
 use crate::visitor_ref::VisitorRef;
 use ga_base::{Key, NoMemory, Noted, Visitor};
@@ -13,7 +14,7 @@ use ga_shards::Dictionary;
 use std::alloc::Global;
 use std::hash::{FoldHasher, Hasher};
 
-/// So many items a dictionary holds. A batch has at most 2^24 bytes, so no tally comes to that.
+/// So many items a dictionary holds.
 const MOST: u32 = u32::MAX - 1;
 
 /// Notes a key, and gives its number. Where the key stands at its hint it has been noted, and none is made.
@@ -26,9 +27,9 @@ pub(crate) fn key_number(
     ensures { IfOk result (λ number. IsNumbered is_same_key (key_of key.now) number keys.old keys.new) }
 {
     let hash = key_hint(key);
-    let hint = hints.get(hash);
-    if stands_key(keys, hint, key) {
-        return Ok(hint);
+    match hints.get(hash) {
+        Some(hint) if stands_key(keys, hint, key) => return Ok(hint),
+        _ => {}
     }
     let number = note(keys, key.to_key(alloc)?)?;
     hints.set(hash, number)?;
@@ -40,16 +41,17 @@ pub(crate) fn visitor_number(
     alloc: Global,
     visitors: &mut Dictionary<Visitor>,
     hints: &mut Hints,
+    agents: &Agents,
     visitor: &VisitorRef<'_>,
 ) -> Result<u32, NoMemory>
     ensures { IfOk result (λ number. IsNumbered is_same_visitor (visitor_of visitor.now) number visitors.old visitors.new) }
 {
     let hash = visitor.hint();
-    let hint = hints.get(hash);
-    if stands_visitor(visitors, hint, visitor) {
-        return Ok(hint);
+    match hints.get(hash) {
+        Some(hint) if stands_visitor(visitors, hint, visitor) => return Ok(hint),
+        _ => {}
     }
-    let number = note(visitors, visitor.to_visitor(alloc)?)?;
+    let number = note(visitors, visitor.to_visitor(alloc, agents)?)?;
     hints.set(hash, number)?;
     Ok(number)
 }

@@ -31,9 +31,9 @@ const SPREAD: u64 = 0x9e37_79b9_7f4a_7c15;
 
 /// Pairs that are read as a set. Contracts see the list of them, in which one may stand more than once.
 #[derive(Drop)]
-pub struct PairList {
+pub(crate) struct PairList {
     pairs: Vec<Pair>,
-    /// How many pairs there were when none stood there twice. Where there are twice as many, they are looked over again.
+    /// How many pairs there were when none stood there twice. Where there are three times as many, they are looked over again.
     different: usize,
     /// Pairs that came lately, all of which stand among `pairs`: none before the first came, and then `PLACES` places. What
     /// stands there isn't added again.
@@ -54,7 +54,7 @@ impl Model for PairList {
 
 impl PairList {
     /// No pairs, which take no memory.
-    pub fn new(alloc: Global) -> PairList
+    pub(crate) fn new(alloc: Global) -> PairList
         ensures { result ≡ [] }
     {
         PairList {
@@ -65,7 +65,7 @@ impl PairList {
     }
 
     /// Adds a pair. After an `Err` it isn't added.
-    pub fn add(&mut self, pair: Pair) -> Result<(), NoMemory>
+    pub(crate) fn add(&mut self, pair: Pair) -> Result<(), NoMemory>
         ensures { OnOk result (AddsPair (pair_of pair) self.old self.new) }
     {
         if self.is_recent(pair) {
@@ -93,11 +93,11 @@ impl PairList {
         Ok(())
     }
 
-    /// Drops the pairs that stand there again, where there are twice as many as there were different ones.
+    /// Drops the pairs that stand there again, where there are three times as many as there were different ones.
     fn thin_out(&mut self)
         ensures { HoldTheSame self.old self.new }
     {
-        if self.pairs.len() / 2 >= self.different {
+        if self.pairs.len() / 3 >= self.different {
             self.drop_equals();
         }
     }
@@ -106,16 +106,9 @@ impl PairList {
     fn drop_equals(&mut self)
         ensures { HoldTheSame self.old self.new }
     {
-        self.pairs.sort_unstable();
+        self.pairs.sort_unstable_by_key(|pair| word_of(*pair));
         self.pairs.dedup();
         self.different = self.pairs.len().max(FEW);
-    }
-
-    /// Lends the pairs, of which one may stand there more than once.
-    pub fn items(&self) -> &[Pair]
-        ensures { map pair_of result.now ≡ self.now }
-    {
-        &self.pairs
     }
 
     /// Gives the pairs back.
@@ -138,6 +131,10 @@ fn is_at(place: &Option<Pair>, pair: Pair) -> bool
 
 /// The place of a pair.
 fn place_of(pair: Pair) -> usize {
-    let numbers = u64::from(pair.key) << 32 | u64::from(pair.visitor);
-    (numbers.wrapping_mul(SPREAD) >> (u64::BITS - PLACE_BITS)) as usize
+    (word_of(pair).wrapping_mul(SPREAD) >> (u64::BITS - PLACE_BITS)) as usize
+}
+
+/// Both numbers of a pair as one word, which costs less to compare.
+fn word_of(pair: Pair) -> u64 {
+    u64::from(pair.key) << 32 | u64::from(pair.visitor)
 }

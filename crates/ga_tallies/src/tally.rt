@@ -1,5 +1,6 @@
 ghost use Rattle.std.specs.Prelude.{◌≡◌, [], true, OnOk, IsErrOf};
 ghost use Rattle.ga_line.specs.Lines.{lines};
+ghost use Rattle.ga_summary.specs.Limits.{LinesAdd};
 ghost use Rattle.ga_summary.specs.Sound.{TotalsFit};
 ghost use Rattle.ga_tallies.specs.Agents.{AreAgents};
 ghost use Rattle.ga_tallies.specs.Tallies.{IsTallyOf, Overfills, TakesIn, seen_in};
@@ -93,6 +94,7 @@ impl Tally {
     pub fn totals(&self) -> Totals
         ensures value { result ≡ self.now.totals }
         ensures fit { TotalsFit result }
+        ensures lines { LinesAdd result }
     {
         self.totals
     }

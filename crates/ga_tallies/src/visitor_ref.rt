@@ -1,6 +1,7 @@
 ghost use Rattle.std.specs.Prelude.{◌≡◌, IfOk, IsTrue};
 ghost use Rattle.ga_tallies.specs.Refs.{visitor_of};
 
+use crate::Agents;
 use ga_base::{NoMemory, Text, Visitor};
 use std::alloc::Global;
 use std::hash::{FoldHasher, Hasher};
@@ -17,14 +18,14 @@ pub(crate) struct VisitorRef<'a> {
 }
 
 impl<'a> VisitorRef<'a> {
-    /// The same visitor in texts of its own.
-    pub(crate) fn to_visitor(self, alloc: Global) -> Result<Visitor, NoMemory>
+    /// The same visitor in texts of its own. An agent that `agents` keep shares its bytes with them.
+    pub(crate) fn to_visitor(self, alloc: Global, agents: &Agents) -> Result<Visitor, NoMemory>
         ensures { IfOk result (λ visitor. visitor ≡ visitor_of self.entry) }
     {
         Ok(Visitor {
             host: Text::of(alloc, self.host)?,
             date: self.date,
-            agent: Text::of(alloc, self.agent)?,
+            agent: agent_text(alloc, agents, self.agent)?,
         })
     }
 
@@ -44,5 +45,15 @@ impl<'a> VisitorRef<'a> {
         hasher.write_u32(self.date);
         hasher.write(self.agent.as_bytes());
         hasher.finish()
+    }
+}
+
+/// A text of an agent: a copy of the one that is kept, which shares its bytes, else one of its own.
+fn agent_text(alloc: Global, agents: &Agents, agent: &str) -> Result<Text, NoMemory>
+    ensures { IfOk result (λ text. text ≡ agent.now) }
+{
+    match agents.kept(agent) {
+        Some(text) if text.as_str() == agent => Ok(text.clone()?),
+        _ => Text::of(alloc, agent),
     }
 }

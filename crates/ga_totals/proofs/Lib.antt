@@ -1,14 +1,11 @@
 pub mod OfOutcomes
-pub mod Batches
 pub mod Cut
 pub mod Naming
 pub mod Numbering
 pub mod KeyRows
-pub mod AllNoted
-pub mod AddedRows
-pub mod TakenIn
 pub mod KeyOrder
 pub mod Dates
 pub mod Summing
+pub mod PairOrder
 pub mod Visiting
 pub mod Told

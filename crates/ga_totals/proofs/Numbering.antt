@@ -1,12 +1,12 @@
 -- Keys with their numbers.
-use Rattle.std.proofs.Common.{◌≡◌, ℕ, ◌+◌, List, [], ◌∷◌, ◌++◌, Some, map, take, sym, ap, ◌∙◌, subst}
+use Rattle.std.proofs.Common.{◌≡◌, ℕ, ◌+◌, ◌<◌, List, [], ◌∷◌, ◌++◌, Some, length, get_or, map, take, sym, ap, ◌∙◌, subst}
 use Rattle.std.specs.Prelude.{slice_get}
 use Rattle.std.specs.List.{All}
 use Rattle.std.specs.List.Sorted.{IsPermutation, IsSorted}
 use Rattle.std.proofs.lemmas.List.{map_push, take_more}
 use Rattle.std.proofs.lemmas.List.Elements.{All-push}
 use Rattle.std.proofs.lemmas.List.Sorted.{All-permutation, IsPermutation-map}
-use Rattle.std.proofs.lemmas.Option.{get_or_from_slice_get, slice_get_within}
+use Rattle.std.proofs.lemmas.Option.{slice_get-get_or}
 use Rattle.ga_base.specs.declared.key.Key.{Key}
 use Rattle.ga_totals.specs.Steps.Rows.{AreByKey, NumberedKey, number_cmp}
 
@@ -19,15 +19,15 @@ module _ (keys : List Key) where
     pub keys_are : map (λ n. n.key) all ≡ take i keys
     pub numbers : All (λ n. slice_get keys n.number ≡ Some n.key) all
 
-  pub first-more : (all : List NumberedKey) (i : ℕ) (key : Key) → slice_get keys i ≡ Some key → map (λ n. n.key) all ≡ take i keys
+  pub first-more : (all : List NumberedKey) (i : ℕ) (key : Key) → i < length keys → key ≡ get_or keys i key → map (λ n. n.key) all ≡ take i keys
       → All (λ n. slice_get keys n.number ≡ Some n.key) all → AreFirst (i + 1) (all ++ record { number = i; key = key } ∷ [])
-  first-more all i key at are numbers = record {
+  first-more all i key within is are numbers = record {
     keys_are = map_push key_of all (record { number = i; key = key }) ∙ ap (λ (l : List Key). l ++ key ∷ []) are ∙ sym whole;
-    numbers = All-push (λ n. slice_get keys n.number ≡ Some n.key) all (record { number = i; key = key }) numbers at;
+    numbers = All-push (λ n. slice_get keys n.number ≡ Some n.key) all (record { number = i; key = key }) numbers (slice_get-get_or keys i key within ∙ ap Some (sym is));
   }
     where
       whole : take (i + 1) keys ≡ take i keys ++ key ∷ []
-      whole = take_more keys i key (slice_get_within keys i key at) ∙ ap (λ (k : Key). take i keys ++ k ∷ []) (get_or_from_slice_get keys i key key at)
+      whole = take_more keys i key within ∙ ap (λ (k : Key). take i keys ++ k ∷ []) (sym is)
 
   pub sorted-by-key : (all sorted : List NumberedKey) → map (λ n. n.key) all ≡ keys → All (λ n. slice_get keys n.number ≡ Some n.key) all → IsPermutation all sorted
       → IsSorted number_cmp sorted → AreByKey keys sorted

@@ -21,7 +21,8 @@ use Rattle.ga_tallies.specs.contracts.pairs.PairOrd.TheImpl.Laws.{matches_eq-law
 use Rattle.ga_tallies.specs.contracts.pairs.PairPartialEq.TheImpl.{ghosts as tests}
 use Rattle.ga_tallies.specs.declared.pairs.Pair.{Pair}
 use Rattle.ga_tallies.proofs.PairLists.{contains-map, equals-dropped, from-map}
-use Rattle.ga_totals.specs.Steps.Telling.{AreCounts, AreDifferent, AreVisits, is_same_pair, visitors_of}
+use Rattle.ga_totals.specs.Steps.Telling.{AreCounts, AreDifferent, AreVisits, visitors_of}
+use Rattle.ga_totals.specs.Totals.{is_same_pair}
 
 -- pairs that were sorted stand once each, where equals were dropped
 pub are-different : (pairs sorted : List Pair) → IsPermutation pairs sorted → IsSorted (λ (a b : Pair). pair_order.cmp a b) sorted → AreDifferent pairs (dedup (λ (a b : Pair). tests.eq a b) sorted)
@@ -30,6 +31,10 @@ are-different pairs sorted moved rise = record {
       (IsDistinct-from_sorted (λ (a b : Pair). pair_order.cmp a b) _ (IsStrictlySortedBy-dedup pair-total pair-ties sorted rise));
   same = equals-dropped pairs sorted moved;
 }
+
+-- pairs that stand once each are these pairs, each once
+pub different-before : (pairs : List Pair) → IsDistinct is_same_pair pairs → AreDifferent pairs pairs
+different-before pairs once = record { distinct = once; same = record { kept = λ pair at. at; only = λ pair at. at } }
 
 -- whether a visitor is among those of a key
 member : (number v : ℕ) (pairs : List (ℕ × ℕ)) → list_any (eqb v) (visitors_of number pairs) ≡ list_any (λ pair. (pair.0 == number) && eqb v pair.1) pairs

@@ -1,5 +1,5 @@
--- What a total is given, when a summary may be made of it, and what it tells to a report.
-use Rattle.std.specs.Prelude.{◌≡◌, ℕ, ◌<◌, List, All, map}
+-- What a total is seen as, when a summary may be made of it, and what it tells to a report.
+use Rattle.std.specs.Prelude.{◌≡◌, Bool, ◌==◌, ◌&&◌, List, map}
 use Rattle.ga_base.specs.declared.counts.Sums.{Sums}
 use Rattle.ga_base.specs.declared.counts.Totals.{Totals}
 use Rattle.ga_base.specs.declared.key.Key.{Key}
@@ -13,13 +13,13 @@ use Rattle.ga_summary.specs.Sums.{IsSumOf}
 use Rattle.ga_tallies.specs.Tallies.{IsTallyOf, TallySeen, pair_of}
 use Rattle.ga_tallies.specs.declared.pairs.Pair.{Pair}
 
--- what was counted of a batch, as a tally
+-- these lists, as a tally
 abbrev pub batch_of : Totals → List Key → List Visitor → List Sums → List Pair → TallySeen
 batch_of totals keys visitors sums pairs = record { totals = totals; keys = keys; visitors = visitors; sums = sums; pairs = map pair_of pairs }
 
--- pairs are of keys and visitors of which there are so many
-abbrev pub AreWithin : ℕ → ℕ → List Pair → Type 0
-AreWithin keys visitors pairs = All (λ pair. (pair.key < keys) × (pair.visitor < visitors)) pairs
+-- two pairs have the same numbers
+abbrev pub is_same_pair : Pair → Pair → Bool
+is_same_pair a b = (a.key == b.key) && (a.visitor == b.visitor)
 
 -- a tally of outcomes that may be counted
 pub record IsOfCountable (t : TallySeen) : Type 0 where

@@ -17,13 +17,13 @@ pub(crate) fn by_number(alloc: Global, pairs: &[Pair]) -> Result<Vec<Pair>, NoMe
 }
 
 /// The pairs of a key's number, among pairs in the order of these numbers.
-pub(crate) fn pairs_of(pairs: &[Pair], number: u32) -> &[Pair]
+pub(crate) fn pairs_of(pairs: &[Pair], number: usize) -> &[Pair]
     requires { IsNonDecreasingBy (λ pair. pair.key) pairs.now }
     ensures { result.now ≡ filter (λ pair. pair.key == number) pairs.now }
 {
-    let end = pairs.partition_point(|pair| pair.key <= number);
+    let end = pairs.partition_point(|pair| pair.key as usize <= number);
     let up_to = &pairs[..end];
-    let start = up_to.partition_point(|pair| pair.key < number);
+    let start = up_to.partition_point(|pair| (pair.key as usize) < number);
     &up_to[start..]
 }
 

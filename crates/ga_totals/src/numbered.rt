@@ -4,7 +4,6 @@ ghost use Rattle.ga_totals.specs.Steps.Rows.{AreByKey, number_cmp};
 
 use ga_base::laws::key_order;
 use ga_base::{Key, NoMemory};
-use ga_shards::Dictionary;
 use std::alloc::Global;
 use std::cmp::Ordering;
 use std::marker::Model;
@@ -13,8 +12,8 @@ use std::marker::Model;
 #[derive(Drop)]
 pub(crate) struct Numbered<'a> {
     /// The number.
-    number: u32,
-    /// The key, which the dictionary lends.
+    number: usize,
+    /// The key, which the total lends.
     key: &'a Key,
 }
 
@@ -28,7 +27,7 @@ impl<'a> Model for Numbered<'a> {
 
 impl<'a> Numbered<'a> {
     /// The number.
-    pub(crate) fn number(&self) -> u32
+    pub(crate) fn number(&self) -> usize
         ensures { result ≡ self.now.number }
     {
         self.number
@@ -43,26 +42,20 @@ impl<'a> Numbered<'a> {
 }
 
 /// The keys with their numbers, in the order of the keys.
-pub(crate) fn by_key<'a>(
-    alloc: Global,
-    keys: &'a Dictionary<Key>,
-) -> Result<Vec<Numbered<'a>>, NoMemory>
+pub(crate) fn by_key<'a>(alloc: Global, keys: &'a [Key]) -> Result<Vec<Numbered<'a>>, NoMemory>
     ensures { IfOk result (λ all. AreByKey keys.now all.items) }
 {
     Ok(sorted(number_keys(alloc, keys)?))
 }
 
 /// The keys with their numbers.
-fn number_keys<'a>(alloc: Global, keys: &'a Dictionary<Key>) -> Result<Vec<Numbered<'a>>, NoMemory>
+fn number_keys<'a>(alloc: Global, keys: &'a [Key]) -> Result<Vec<Numbered<'a>>, NoMemory>
     ensures keys { IfOk result (λ all. map (λ n. n.key) all.items ≡ keys.now) }
     ensures numbers { IfOk result (λ all. All (λ n. slice_get keys.now n.number ≡ Some n.key) all.items) }
 {
-    let mut all = Vec::with_capacity(alloc, keys.len() as usize)?;
-    for number in 0..keys.len() {
-        all.push(Numbered {
-            number,
-            key: keys.item(number),
-        })?;
+    let mut all = Vec::with_capacity(alloc, keys.len())?;
+    for (number, key) in keys.iter().enumerate() {
+        all.push(Numbered { number, key })?;
     }
     Ok(all)
 }

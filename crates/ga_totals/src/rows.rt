@@ -7,7 +7,6 @@ ghost use Rattle.ga_totals.specs.Steps.Rows.{AreRowsOf, IsRowOf};
 use crate::names::{by_number, names_of, pairs_of};
 use crate::numbered::{Numbered, by_key};
 use ga_base::{Key, Names, NoMemory, Sums, Visitor};
-use ga_shards::Dictionary;
 use ga_summary::PartRow;
 use ga_tallies::Pair;
 use std::alloc::Global;
@@ -15,7 +14,7 @@ use std::alloc::Global;
 /// A row for each key, in their order. Sums stand at the keys' numbers, and pairs are of numbers of keys and visitors.
 pub(crate) fn rows_of(
     alloc: Global,
-    keys: &Dictionary<Key>,
+    keys: &[Key],
     sums: &[Sums],
     visitors: &[Visitor],
     pairs: &[Pair],
@@ -51,7 +50,7 @@ fn row_of(
     let names = names_of(alloc, visitors, pairs_of(pairs, entry.number()))?;
     Ok(PartRow {
         key: entry.key().clone()?,
-        sums: sums[entry.number() as usize],
+        sums: sums[entry.number()],
         names: Names::from(names),
     })
 }

@@ -5,7 +5,6 @@ ghost use Rattle.ga_totals.specs.Steps.Telling.{AreToldRows};
 use crate::numbered::by_key;
 use ga_base::{Key, NoMemory, Sums, Totals};
 use ga_report::{Tells, Told};
-use ga_shards::Dictionary;
 use std::alloc::Global;
 use std::marker::Model;
 
@@ -59,7 +58,7 @@ impl<'a> Tells for TotalTold<'a> {
 /// What a total tells of one key.
 #[derive(Drop)]
 pub(crate) struct KeyTold<'a> {
-    /// The key, which the total's dictionary lends.
+    /// The key, which the total lends.
     key: &'a Key,
     /// Its sums, which the total lends.
     sums: &'a Sums,
@@ -98,7 +97,7 @@ impl<'a> KeyTold<'a> {
 /// What is told of each key, in the order of the keys. Sums and numbers of visitors stand at the keys' numbers.
 pub(crate) fn key_rows<'a>(
     alloc: Global,
-    keys: &'a Dictionary<Key>,
+    keys: &'a [Key],
     sums: &'a [Sums],
     visits: &[u64],
 ) -> Result<Vec<KeyTold<'a>>, NoMemory>
@@ -109,7 +108,7 @@ pub(crate) fn key_rows<'a>(
     let order = by_key(alloc, keys)?;
     let mut rows = Vec::with_capacity(alloc, order.len())?;
     for entry in &order {
-        let number = entry.number() as usize;
+        let number = entry.number();
         rows.push(KeyTold::of(entry.key(), &sums[number], visits[number]))?;
     }
     Ok(rows)

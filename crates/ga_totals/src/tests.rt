@@ -2,7 +2,7 @@ use crate::Total;
 use ga_base::{Key, NoMemory, Panel, Sums, Text, Totals, Visitor};
 use ga_report::Tells;
 use ga_shards::Keyed;
-use ga_tallies::Pair;
+use ga_tallies::{Pair, Tally};
 use std::alloc::Global;
 
 /// A key for a host.
@@ -45,21 +45,31 @@ const TOTALS: Totals = Totals {
 };
 
 #[test]
-fn a_line_is_taken_in(rt: HostRuntime) -> Result<(), NoMemory> {
+fn parts_are_kept(rt: HostRuntime) -> Result<(), NoMemory> {
     let alloc = rt.alloc();
-    let mut total = Total::new(alloc, Keyed::new(1, 2));
-    let keys = [key(alloc, "192.0.2.1")?];
-    let visitors = [visitor(alloc, "192.0.2.1")?];
-    let pairs = [Pair { key: 0, visitor: 0 }];
-    total.take_in(TOTALS, &keys, &visitors, &[SUMS], &pairs)?;
+    let keys = vec![in alloc; key(alloc, "192.0.2.1")?]?;
+    let visitors = vec![in alloc; visitor(alloc, "192.0.2.1")?]?;
+    let sums = vec![in alloc; SUMS]?;
+    let pairs = vec![in alloc; Pair { key: 0, visitor: 0 }]?;
+    let total = Total::with(TOTALS, keys, visitors, sums, pairs);
     assert_eq!(rt; total.totals(), TOTALS);
+    Ok(())
+}
+
+#[test]
+fn a_tally_becomes_a_total(rt: HostRuntime) -> Result<(), NoMemory> {
+    let alloc = rt.alloc();
+    let tally = Tally::new(alloc, Keyed::new(1, 2));
+    let totals = tally.totals();
+    let total = Total::of(alloc, tally)?;
+    assert_eq!(rt; total.totals(), totals);
     Ok(())
 }
 
 #[test]
 fn no_lines_are_summed_up(rt: HostRuntime) -> Result<(), NoMemory> {
     let alloc = rt.alloc();
-    let total = Total::new(alloc, Keyed::new(1, 2));
+    let total = Total::new(alloc);
     let sum = total.summary(alloc)?;
     assert_eq!(rt; sum.len(), 0);
     Ok(())
@@ -68,7 +78,7 @@ fn no_lines_are_summed_up(rt: HostRuntime) -> Result<(), NoMemory> {
 #[test]
 fn no_lines_are_told(rt: HostRuntime) -> Result<(), NoMemory> {
     let alloc = rt.alloc();
-    let total = Total::new(alloc, Keyed::new(1, 2));
+    let total = Total::new(alloc);
     let told = total.told(alloc)?;
     assert_eq!(rt; told.totals(), total.totals());
     assert_eq!(rt; told.len(), 0);

@@ -1,5 +1,5 @@
 -- Workers draw pieces of a batch, and each counts those that it drew.
-use Rattle.std.specs.Prelude.{◌≡◌, ◌<◌, ◌≤◌, ◌⊎◌, ℕ, true, nat_lt, List, [], ◌∷◌, length, map, filter, flat_map, slice_index_or, All}
+use Rattle.std.specs.Prelude.{◌≡◌, ◌<◌, ◌≤◌, ◌⊎◌, ℕ, true, nat_lt, List, [], ◌∷◌, ◌++◌, length, map, filter, flat_map, slice_index_or, All}
 use Rattle.std.specs.List.{Contains}
 use Rattle.ga_line.specs.Lines.{lines}
 use Rattle.ga_summary.specs.Outcomes.{Outcome}
@@ -29,18 +29,27 @@ pub record IsCame (setup : Setup) (pieces : List (List ℕ)) (piece : Came) : Ty
 abbrev pub of_pieces : ℕ → List ℕ → List ℕ
 of_pieces pieces drawn = filter (λ number. nat_lt number pieces) drawn
 
--- the tally is of the pieces drawn
-pub record TalliesDrawn (setup : Setup) (pieces : List (List ℕ)) (drawn : List ℕ) (t : TallySeen) : Type 0 where
+-- a tally counted the pieces drawn, behind what it had counted
+pub record TalliesDrawn (setup : Setup) (pieces : List (List ℕ)) (drawn : List ℕ) (old new : TallySeen) : Type 0 where
   pub came : List Came
   pub numbers : map (λ piece. piece.number) came ≡ of_pieces (length pieces) drawn
   pub each : All (IsCame setup pieces) came
-  pub tally : IsTallyOf (outcomes_in came) t
+  pub tally : (before : List Outcome) → IsTallyOf before old → IsTallyOf (before ++ outcomes_in came) new
 
 -- a worker is done: it drew a number that is no piece's, or more numbers than there are pieces
 abbrev pub IsDone : ℕ → List ℕ → Type 0
 IsDone pieces drawn = (pieces < length drawn) ⊎ ((number : ℕ) × (pieces ≤ number) × Contains drawn number)
 
 -- a worker counted what it drew, and is done
-pub record CountsDrawn (setup : Setup) (pieces : List (List ℕ)) (drawn : List ℕ) (t : TallySeen) : Type 0 where
+pub record CountsDrawn (setup : Setup) (pieces : List (List ℕ)) (drawn : List ℕ) (old new : TallySeen) : Type 0 where
   pub done : IsDone (length pieces) drawn
-  pub counts : TalliesDrawn setup pieces drawn t
+  pub counts : TalliesDrawn setup pieces drawn old new
+
+-- each worker counted what it drew, and is done
+abbrev pub AllCount : Setup → List (List ℕ) → List (List ℕ) → List TallySeen → List TallySeen → Type 0
+AllCount setup pieces [] [] [] = Unit {0}
+AllCount setup pieces [] [] (now ∷ new) = ⊥
+AllCount setup pieces [] (was ∷ old) new = ⊥
+AllCount setup pieces (one ∷ drawn) [] new = ⊥
+AllCount setup pieces (one ∷ drawn) (was ∷ old) [] = ⊥
+AllCount setup pieces (one ∷ drawn) (was ∷ old) (now ∷ new) = CountsDrawn setup pieces one was now × AllCount setup pieces drawn old new

@@ -1,5 +1,5 @@
 -- What lines weigh, for the limits of the counters.
-use Rattle.std.specs.Prelude.{◌≡◌, ◌+◌, ◌≤◌, ℕ, List, [], ◌∷◌, Option, Some, None, IfSome}
+use Rattle.std.specs.Prelude.{◌≡◌, ◌+◌, ◌≤◌, ℕ, List, [], ◌∷◌, Option, IfSome}
 use Rattle.std.specs.Option.{option_map}
 use Rattle.ga_base.specs.declared.counts.TheConstants.{BIG, LIMIT}
 use Rattle.ga_base.specs.declared.counts.Totals.{Totals}

@@ -11,7 +11,8 @@ use Rattle.ga_keep.specs.Database.{AreBase, FailsKeeping, Finds, IsUntouched, Ke
 use Rattle.ga_keep.specs.Steps.{Misses}
 use Rattle.ga_line.specs.declared.setup.LineSetup.{LineSetup}
 use Rattle.ga_outcomes.specs.Counting.{FillsAmong}
-use Rattle.ga_logs.specs.Following.{MissesAt, ReadsSome}
+use Rattle.ga_logs.specs.Following.{CanServe, MissesAt, ReadsSome}
+use Rattle.ga_logs.specs.Logs.{CountsLogs, StopsLogs}
 use Rattle.ga_logs.specs.Portions.{counted_lines}
 use Rattle.ga_logs.specs.declared.fault.CountFault.{CountFault}
 use Rattle.ga_logs.specs.declared.fault.CountFault.TheVariants.{Failed as LogFailed, Short as LogShort, Full, NoMemory as CountNoMemory}
@@ -25,13 +26,14 @@ use Rattle.ga_ports.specs.declared.outs.To.{To}
 use Rattle.ga_resume.specs.declared.fault.PlaceFault.{PlaceFault}
 use Rattle.ga_resume.specs.declared.fault.PlaceFault.TheVariants.{FileFault as PlaceFailed, FileShort as PlaceShort, NoMemory as PlaceNoMemory}
 use Rattle.ga_store.specs.Commit.{passes_generations}
-use Rattle.ga_store.specs.Database.{DbValue}
+use Rattle.ga_store.specs.Database.{DbValue, empty_db}
 use Rattle.ga_store.specs.Holding.{Holds}
 use Rattle.ga_store.specs.Reading.{db_value}
 use Rattle.ga_store.specs.declared.db.Db.{Db}
 use Rattle.ga_store.specs.declared.fault.StoreFault.{StoreFault}
 use Rattle.ga_store.specs.declared.fault.StoreFault.TheVariants.{CounterFull as StoreFull, Damaged, DiskFault as StoreFailed, NoMemory as StoreNoMemory}
 use Rattle.ga_streams.specs.declared.workers.Workers.{Workers}
+use Rattle.ga_tallies.specs.Tallies.{TallySeen}
 use Rattle.ga_words.specs.declared.fault.WordFault.{WordFault}
 use Rattle.ga_words.specs.declared.fault.WordFault.TheVariants.{NoMemory as WordNoMemory}
 use Rattle.ga_words.specs.declared.settings.Settings.{Settings}
@@ -149,6 +151,35 @@ StopsCounting setup s files files' disk disk' images images' (CounterFull which 
 StopsCounting setup s files files' disk disk' images images' NoMemory = StopsHungry s files files' disk disk' images images'
 StopsCounting setup s files files' disk disk' images images' _ = ⊥
 
+-- ---- a run that uses no database
+
+-- its logs were counted, and the text is the report on their sum
+pub record IsTextAlone (setup : Setup) (s : Settings) (stored : DbValue) (files files' : FilesView) (text : List ℕ) : Type 0 where
+  pub has : HasCounted setup s stored files files'
+  pub is_text : IsTextOf s has.whole text
+
+-- a log wasn't read, or the lines fill a counter, or memory ran out on the way
+pub record StopsLogsAlone (setup : Setup) (s : Settings) (stored : DbValue) (files files' : FilesView) (status : Status) : Type 0 where
+  pub entries : List Entry
+  pub begin : AreBase s stored entries
+  pub fault : CountFault
+  pub status_is : status ≡ status_of_count fault
+  pub stops : StopsLogs setup (start_of s stored) s.generate s.logs entries files files' fault
+
+-- memory ran out behind all logs
+pub record HungryAlone (setup : Setup) (s : Settings) (stored : DbValue) (files files' : FilesView) : Type 0 where
+  pub entries : List Entry
+  pub begin : AreBase s stored entries
+  pub entries' : List Entry
+  pub total : TallySeen
+  pub counts : CountsLogs setup (start_of s stored) s.generate s.logs entries entries' files files' total
+
+-- why there is no text: the second two are want of memory
+abbrev pub StopsAlone : Setup → Settings → DbValue → FilesView → FilesView → Status → Type 0
+StopsAlone setup s stored files files' status =
+    StopsLogsAlone setup s stored files files' status
+    ⊎ ((status ≡ NoMemory) × ((files' ≡ files) ⊎ HungryAlone setup s stored files files'))
+
 -- no call on a file failed
 abbrev pub NoFileFailed : Status → Type 0
 NoFileFailed (FileFault file) = ⊥
@@ -198,6 +229,28 @@ pub record EndsLast (s : Settings) (counted : Counted) (disk disk' : DiskView) (
   pub errors : outs'.stderr ≡ outs.stderr
   pub disk_went : DiskWent disk disk'
   pub outs_went : OutsWent outs outs'
+
+-- ---- a run that uses no database, behind its setup
+
+-- its report was delivered, or not
+pub record EndsTold (setup : Setup) (s : Settings) (stored : DbValue) (files files' : FilesView) (outs outs' : OutsView) (status : Status) : Type 0 where
+  pub text : List ℕ
+  pub is_text : IsTextAlone setup s stored files files' text
+  pub ends : EndsReport s text outs outs' status
+  pub errors : outs'.stderr ≡ outs.stderr
+  pub outs_went : OutsWent outs outs'
+
+-- there is none
+pub record EndsUntold (setup : Setup) (s : Settings) (stored : DbValue) (files files' : FilesView) (outs outs' : OutsView) (status : Status) : Type 0 where
+  pub stops : StopsAlone setup s stored files files' status
+  pub sure : CanServe s.logs files → NoFileFailed status
+  pub quiet : outs' ≡ outs
+
+pub record EndsAlone (setup : Setup) (s : Settings) (files files' : FilesView) (outs outs' : OutsView) (status : Status) : Type 0 where
+  pub stored : Db
+  pub empty : db_value stored ≡ empty_db
+  pub ends : EndsTold setup s (db_value stored) files files' outs outs' status ⊎ EndsUntold setup s (db_value stored) files files' outs outs' status
+  pub files_went : FilesWent files files'
 
 -- ---- the run over its inputs
 

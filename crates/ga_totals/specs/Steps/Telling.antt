@@ -1,7 +1,9 @@
 -- What is told of a total's keys: their order, and how many visitors each has.
-use Rattle.std.specs.Prelude.{◌≡◌, ℕ, ◌<◌, Bool, ◌==◌, ◌&&◌, eqb, List, length, map, filter, count_by, slice_index, slice_index_or}
+use Rattle.std.specs.Prelude.{◌≡◌, ℕ, ◌<◌, ◌==◌, eqb, List, length, map, filter, count_by, slice_index, slice_index_or}
 use Rattle.std.specs.List.{IsDistinct}
+use Rattle.std.specs.Ordering.{nat_cmp, ordering_then}
 use Rattle.std.specs.Set.{distinct_count}
+use Rattle.std.specs.declared.cmp.Ordering.{Ordering}
 use Rattle.ga_base.specs.declared.counts.Sums.{Sums}
 use Rattle.ga_base.specs.declared.key.Key.{Key}
 use Rattle.ga_report.specs.Told.{ToldRow}
@@ -10,9 +12,11 @@ use Rattle.ga_tallies.specs.Adding.{HoldTheSame}
 use Rattle.ga_tallies.specs.Tallies.{pair_of}
 use Rattle.ga_tallies.specs.declared.pairs.Pair.{Pair}
 use Rattle.ga_totals.specs.Steps.Rows.{AreByKey, NumberedKey}
+use Rattle.ga_totals.specs.Totals.{is_same_pair}
 
-abbrev pub is_same_pair : Pair → Pair → Bool
-is_same_pair a b = (a.key == b.key) && (a.visitor == b.visitor)
+-- by the key's number, then by the visitor's
+abbrev pub pair_cmp : Pair → Pair → Ordering
+pair_cmp a b = ordering_then (nat_cmp a.key b.key) (nat_cmp a.visitor b.visitor)
 
 -- the same pairs, each once
 pub record AreDifferent (pairs different : List Pair) : Type 0 where

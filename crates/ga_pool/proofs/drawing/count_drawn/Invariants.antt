@@ -10,5 +10,5 @@ invariant-loop-at g l = record {
   allowance : l.seat.view.allowance ≡ length l.pieces + 1 - l.at;
   drawn : length l.seat.view.drawn ≡ l.at;
   agents : AreAgents l.setup.panels.rules l.agents;
-  counts : TalliesDrawn l.setup (map (λ piece. piece.now) l.pieces) l.seat.view.drawn l.tally;
+  counts : TalliesDrawn l.setup (map (λ piece. piece.now) l.pieces) l.seat.view.drawn l.fn.turn.tally l.tally;
 }

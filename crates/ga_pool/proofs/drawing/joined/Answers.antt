@@ -1,12 +1,10 @@
-use Rattle.std.proofs.Common.{◌≡◌, ℕ, ◌+◌, ◌++◌, ◌∷◌, [], List, Ok, length, map, sym, ap, ◌∙◌, subst, arith, refl, append_assoc, append-nil, length-append, Result}
+use Rattle.std.proofs.Common.{◌≡◌, ℕ, ◌++◌, ◌∷◌, [], List, Ok, map, sym, ap, ◌∙◌, subst, arith, append_assoc, append-nil, length-append}
 use Rattle.std.specs.List.{All, flat_map}
 use Rattle.std.specs.Vec.Iter.{into_iter_items}
 use Rattle.std.proofs.lemmas.List.{map-append}
 use Rattle.std.proofs.lemmas.Grind.{flat_map-append}
 use Rattle.ga_draws.specs.Draws.{SeatSeen}
 use Rattle.ga_pool.specs.declared.drawing.Drawn.{Drawn}
-use Rattle.ga_tallies.specs.Tallies.{TallySeen}
-use Rattle.ga_tallies.specs.declared.fault.TallyFault.{TallyFault}
 use Rattle.ga_pool.proofs.DrawnPieces.{all-mid}
 use Rattle.ga_pool.proofs.drawing.joined.Goals as goal
 

@@ -1,10 +1,9 @@
-use Rattle.std.proofs.Common.{◌≡◌, ℕ, ◌<◌, ◌++◌, List, length, get_or, sym, ap, ◌∙◌, subst, arith}
+use Rattle.std.proofs.Common.{◌≡◌, ℕ, ◌<◌, ◌++◌, List, length, get_or, ap, ◌∙◌, arith}
 use Rattle.std.specs.List.{flat_map}
 use Rattle.ga_counts.specs.Counts.{maximum_at, tally_at}
-use Rattle.ga_counts.specs.declared.view.CountView.{CountView}
 use Rattle.ga_pairs.specs.declared.view.Pair.{Pair as Claim}
 use Rattle.ga_pairs.specs.declared.view.Claims.{Claims}
-use Rattle.ga_pool.specs.Steps.Filling.{adds, claims_of, lists_from, max_from, raises, sum_from}
+use Rattle.ga_pool.specs.Steps.Filling.{adds, claims_of, raises}
 use Rattle.ga_pool.specs.declared.filling.Put.{Put}
 use Rattle.ga_pool.specs.declared.parts.Rows.{Rows}
 use Rattle.ga_pool.proofs.FillTables.{blank-maximum, blank-tally, lists-each, max-each, sum-each}

@@ -1,4 +1,4 @@
-use Rattle.std.proofs.Common.{◌≡◌, ℕ, ◌+◌, ◌-◌, ◌<◌, ◌++◌, get_or, length}
+use Rattle.std.proofs.Common.{◌≡◌, ℕ, ◌+◌, ◌<◌, ◌++◌, get_or, length}
 use Rattle.std.specs.List.{All, sum_by}
 use Rattle.std.specs.Vec.Iter.{into_iter_items}
 use Rattle.ga_counts.specs.Counts.{blank}

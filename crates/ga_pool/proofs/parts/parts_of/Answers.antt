@@ -1,8 +1,6 @@
-use Rattle.std.proofs.Common.{◌≡◌, ◌∷◌, [], ◌++◌, List, map, sym, ap, ◌∙◌, subst}
+use Rattle.std.proofs.Common.{◌∷◌, [], ◌++◌, List, sym, ap, ◌∙◌, subst}
 use Rattle.std.specs.List.{AllZip}
 use Rattle.std.proofs.lemmas.List.{map-append}
-use Rattle.ga_base.specs.declared.key.Key.{Key}
-use Rattle.ga_base.specs.declared.key.Visitor.{Visitor}
 use Rattle.ga_tallies.specs.Tallies.{TallySeen}
 use Rattle.ga_pool.specs.declared.parts.Rows.{Rows}
 use Rattle.ga_pool.specs.Steps.Parts.{AreRowsOf}

@@ -1,4 +1,4 @@
-use Rattle.std.proofs.Common.{◌≡◌, ◌++◌, map}
+use Rattle.std.proofs.Common.{◌≡◌, map}
 use Rattle.std.specs.List.{AllZip}
 use Rattle.ga_pool.specs.Steps.Parts.{AreRowsOf}
 use Rattle.ga_pool.proofs.parts.parts_of.Given as goal

@@ -1,4 +1,4 @@
-use Rattle.std.proofs.Common.{◌≡◌, ◌<◌, ◌≤◌, length, take}
+use Rattle.std.proofs.Common.{◌≤◌, length, take}
 use Rattle.ga_line.specs.Lines.{IsEnded}
 use Rattle.ga_pool.proofs.pieces.piece_end.Given as goal
 

@@ -1,4 +1,4 @@
-use Rattle.std.proofs.Common.{◌≡◌, ◌+◌, ◌≤◌, ◌++◌, length, map, take}
+use Rattle.std.proofs.Common.{◌≡◌, ◌+◌, ◌++◌, map, take}
 use Rattle.ga_pool.specs.Steps.Filling.{claim_of, numbers_at}
 use Rattle.ga_pool.proofs.putting.claim_pairs.Given as goal
 

@@ -6,7 +6,8 @@ use Rattle.ga_ports.specs.Stretch.{no_files_call}
 use Rattle.ga_store.specs.Reading.{db_value}
 use Rattle.ga_summary.specs.Limits.{LinesAdd}
 use Rattle.ga_summary.specs.Sound.{TotalsFit}
-use Rattle.ga_run.proofs.Counting.{base-adds, base-fits, hungry-last, stops-as, whole-fits}
+use Rattle.ga_keep.specs.Database.{start_of}
+use Rattle.ga_run.proofs.Counting.{base-adds, base-fits, countable-total, hungry-last, sum-lines, stops-as, whole-fits}
 use Rattle.ga_run.proofs.run.count.Goals as goal
 
 pub returns-in_err-stored-clause-files_went : goal.returns-in_err-stored-clause-files_went
@@ -21,27 +22,43 @@ count_logs-requires-clause-fit g c = λ _ _. subst (λ (start : Start). TotalsFi
 pub count_logs-requires-clause-lines : goal.count_logs-requires-clause-lines
 count_logs-requires-clause-lines g c = λ _ _. subst (λ (start : Start). LinesAdd start.totals) (sym c.start-start.ensures) (base-adds c.args.settings.now (db_value c.in_ok-stored.stored) c.sound.ensures)
 
+pub returns-in_err-total-clause-stops : goal.returns-in_err-total-clause-stops
+returns-in_err-total-clause-stops g c =
+    let s = c.args.settings.now in
+    let before = g.F.Files.view c.args.files.now in
+    let after = g.F.Files.view c.count_logs.new.files in
+    let fault = c.in_err-total.field-0.0 in
+    let entries = c.in_ok-entries.entries in
+    let stops =
+    subst (λ (start : Start). StopsLogs c.args.setup.now start s.generate s.logs entries before after fault) c.start-start.ensures
+    (subst (λ (names : List (List ℕ)). StopsLogs c.args.setup.now c.start-start.result s.generate names entries before after fault) c.items-names.ensures c.in_err-total.ensures.stops) in
+    let p = err_from_is_err_and c.from_residual-in_err-total.result c.from_residual-in_err-total.ensures.1 in
+    rw (p.1, p.2) (stops-as c.args.setup.now s before after _ _ _ _ (db_value c.in_ok-stored.stored) c.in_ok-stored.ensures.ok entries c.in_ok-entries.ensures fault stops)
+
+pub summary-requires : goal.summary-requires
+summary-requires g c = countable-total _ _ _ _ c.in_ok-total.ensures.ok.counts
+
 pub returns-in_err-run-clause-stops : goal.returns-in_err-run-clause-stops
 returns-in_err-run-clause-stops g c =
     let s = c.args.settings.now in
     let before = g.F.Files.view c.args.files.now in
     let after = g.F.Files.view c.count_logs.new.files in
-    let fault = c.in_err-run.field-0.0 in
     let entries = c.in_ok-entries.entries in
-    let stops =
-    subst (λ (start : Start). StopsLogs c.args.setup.now start s.generate s.logs entries before after fault) c.start-start.ensures
-    (subst (λ (names : List (List ℕ)). StopsLogs c.args.setup.now c.start-start.result s.generate names entries before after fault) c.items-names.ensures c.in_err-run.ensures.stops) in
+    let total = c.in_ok-total.total in
+    let counts =
+    subst (λ (start : Start). CountsLogs c.args.setup.now start s.generate s.logs entries c.count_logs.new.entries before after total) c.start-start.ensures
+    (subst (λ (names : List (List ℕ)). CountsLogs c.args.setup.now c.start-start.result s.generate names entries c.count_logs.new.entries before after total) c.items-names.ensures c.in_ok-total.ensures.ok) in
     let p = err_from_is_err_and c.from_residual-in_err-run.result c.from_residual-in_err-run.ensures.1 in
-    rw (p.1, p.2) (stops-as c.args.setup.now s before after _ _ _ _ (db_value c.in_ok-stored.stored) c.in_ok-stored.ensures.ok entries c.in_ok-entries.ensures fault stops)
+    rw (p.1, p.2) (hungry-last c.args.setup.now s before after _ _ _ _ (db_value c.in_ok-stored.stored) c.in_ok-stored.ensures.ok entries c.in_ok-entries.ensures c.count_logs.new.entries total counts)
 
 pub whole-requires : goal.whole-requires
 whole-requires g c =
     let s = c.args.settings.now in
     let stored = db_value c.in_ok-stored.stored in
     let counts =
-    subst (λ (start : Start). CountsLogs c.args.setup.now start s.generate c.items-names.result.now c.in_ok-entries.entries c.count_logs.new.entries (g.F.Files.view c.args.files.now) (g.F.Files.view c.count_logs.new.files) c.in_ok-run.run') c.start-start.ensures
-    c.in_ok-run.ensures.ok in
-    whole-fits c.args.setup.now s stored _ c.in_ok-run.run' c.sound.ensures counts.counts
+    subst (λ (start : Start). CountsLogs c.args.setup.now start s.generate c.items-names.result.now c.in_ok-entries.entries c.count_logs.new.entries (g.F.Files.view c.args.files.now) (g.F.Files.view c.count_logs.new.files) c.in_ok-total.total) c.start-start.ensures
+    c.in_ok-total.ensures.ok in
+    whole-fits c.args.setup.now s stored _ c.in_ok-run.run' c.sound.ensures (sum-lines c.args.setup.now (start_of s stored).totals _ c.in_ok-total.total c.in_ok-run.run' counts.counts c.in_ok-run.ensures)
 
 pub returns-in_err-whole-clause-stops : goal.returns-in_err-whole-clause-stops
 returns-in_err-whole-clause-stops g c =
@@ -49,11 +66,12 @@ returns-in_err-whole-clause-stops g c =
     let before = g.F.Files.view c.args.files.now in
     let after = g.F.Files.view c.count_logs.new.files in
     let entries = c.in_ok-entries.entries in
+    let total = c.in_ok-total.total in
     let counts =
-    subst (λ (start : Start). CountsLogs c.args.setup.now start s.generate s.logs entries c.count_logs.new.entries before after c.in_ok-run.run') c.start-start.ensures
-    (subst (λ (names : List (List ℕ)). CountsLogs c.args.setup.now c.start-start.result s.generate names entries c.count_logs.new.entries before after c.in_ok-run.run') c.items-names.ensures c.in_ok-run.ensures.ok) in
+    subst (λ (start : Start). CountsLogs c.args.setup.now start s.generate s.logs entries c.count_logs.new.entries before after total) c.start-start.ensures
+    (subst (λ (names : List (List ℕ)). CountsLogs c.args.setup.now c.start-start.result s.generate names entries c.count_logs.new.entries before after total) c.items-names.ensures c.in_ok-total.ensures.ok) in
     let p = err_from_is_err_and c.from_residual-in_err-whole.result c.from_residual-in_err-whole.ensures.1 in
-    rw (p.1, p.2) (hungry-last c.args.setup.now s before after _ _ _ _ (db_value c.in_ok-stored.stored) c.in_ok-stored.ensures.ok entries c.in_ok-entries.ensures c.count_logs.new.entries c.in_ok-run.run' counts)
+    rw (p.1, p.2) (hungry-last c.args.setup.now s before after _ _ _ _ (db_value c.in_ok-stored.stored) c.in_ok-stored.ensures.ok entries c.in_ok-entries.ensures c.count_logs.new.entries total counts)
 
 pub returns-clause-ok : goal.returns-clause-ok
 returns-clause-ok g c =
@@ -61,9 +79,11 @@ returns-clause-ok g c =
     let before = g.F.Files.view c.args.files.now in
     let after = g.F.Files.view c.count_logs.new.files in
     let entries = c.in_ok-entries.entries in
+    let total = c.in_ok-total.total in
+    let run = c.in_ok-run.run' in
     let counts =
-    subst (λ (start : Start). CountsLogs c.args.setup.now start s.generate s.logs entries c.count_logs.new.entries before after c.in_ok-run.run') c.start-start.ensures
-    (subst (λ (names : List (List ℕ)). CountsLogs c.args.setup.now c.start-start.result s.generate names entries c.count_logs.new.entries before after c.in_ok-run.run') c.items-names.ensures c.in_ok-run.ensures.ok) in
+    subst (λ (start : Start). CountsLogs c.args.setup.now start s.generate s.logs entries c.count_logs.new.entries before after total) c.start-start.ensures
+    (subst (λ (names : List (List ℕ)). CountsLogs c.args.setup.now c.start-start.result s.generate names entries c.count_logs.new.entries before after total) c.items-names.ensures c.in_ok-total.ensures.ok) in
     record {
       finds = c.in_ok-stored.ensures.ok;
       has = record {
@@ -72,8 +92,8 @@ returns-clause-ok g c =
         entries' = c.count_logs.new.entries;
         portions = counts.portions;
         read = counts.read;
-        run = c.in_ok-run.run';
-        counts = counts.counts;
+        run = run;
+        counts = sum-lines c.args.setup.now (start_of s (db_value c.in_ok-stored.stored)).totals _ total run counts.counts c.in_ok-run.ensures;
         whole = c.in_ok-whole.whole;
         is_whole = c.in_ok-whole.ensures;
       };

@@ -1,4 +1,4 @@
-use Rattle.std.proofs.Common.{◌≢◌, ℕ, List, refl, subst, Option}
+use Rattle.std.proofs.Common.{◌≢◌, ℕ, List, refl, subst, sym, ◌∙◌, Option}
 use Rattle.ga_panels.specs.declared.setup.PanelSetup.{PanelSetup}
 use Rattle.ga_ports.specs.Stretch.{files_then}
 use Rattle.ga_logs.specs.Following.{CanServe}
@@ -6,8 +6,9 @@ use Rattle.ga_resume.specs.declared.fault.PlaceFault.TheVariants.{FileFault as P
 use Rattle.ga_run.specs.Course.{HasRules}
 use Rattle.ga_run.specs.Inputs.{rules_file}
 use Rattle.ga_run.specs.Steps.Rules.{StopsNamed}
-use Rattle.ga_run.specs.Steps.Run.{CountedValue, StopsCounting}
+use Rattle.ga_run.specs.Steps.Run.{CountedValue, EndsAlone, StopsCounting}
 use Rattle.ga_run.specs.declared.rules.RulesFault.TheVariants.{Unread}
+use Rattle.ga_run.proofs.Counting.{ends-alone}
 use Rattle.ga_run.proofs.InputsEnds.{ends-count, ends-hungry, ends-last, ends-rules}
 use Rattle.ga_run.proofs.run.run_inputs.Goals as goal
 
@@ -61,3 +62,18 @@ returns g c =
     ends-count c.args.line s before (g.D.Disk.view c.args.disk.now) (g.D.Disk.images c.args.disk.now) (g.O.Outs.view c.args.outs.now) mid after c.in-Ok.rules has (g.D.Disk.view c.count.new.disk)
     (g.D.Disk.images c.count.new.disk) (files_then c.rules_of.ensures.calls c.count.ensures.files_went) c.count.ensures.disk_went (c.files_stay.ensures before mid c.rules_of.ensures.calls) c.in-Err-count.status
     stops c.in-Err-count.ensures.sure
+
+pub returns-then-not-uses_database : goal.returns-then-not-uses_database
+returns-then-not-uses_database g c =
+    let s = c.args.settings.now in
+    let before = g.F.Files.view c.args.files.now in
+    let mid = g.F.Files.view c.rules_of.new.files in
+    let after = g.F.Files.view c.run_alone.new.files in
+    let d = c.args.disk.now in
+    let outs = g.O.Outs.view c.args.outs.now in
+    let has : HasRules s.browsers_file before mid c.in-Ok.rules =
+    subst (λ (file : Option (List ℕ)). HasRules file before mid c.in-Ok.rules) c.as_ref.ensures.value c.in-Ok.ensures.ok in
+    let ends =
+    subst (λ (panels : PanelSetup). EndsAlone (record { line = c.args.line; panels = panels }) s mid after outs (g.O.Outs.view c.run_alone.new.outs) c.run_alone.result) c.in-Ok-panel_setup.ensures c.run_alone.ensures in
+    ends-alone c.args.line s before (g.D.Disk.view d) (g.D.Disk.images d) outs (g.O.Outs.view c.run_alone.new.outs) mid after c.in-Ok.rules has (g.D.Disk.only_now d) c.rules_of.ensures.calls
+    (c.files_stay.ensures before mid c.rules_of.ensures.calls) (sym c.uses_database.ensures ∙ c.if-not-uses_database.true) c.run_alone.result ends

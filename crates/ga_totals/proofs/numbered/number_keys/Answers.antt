@@ -5,6 +5,8 @@ use Rattle.ga_totals.proofs.numbered.number_keys.Goals as goal
 
 pub loop-number-preserved : goal.loop-number-preserved
 loop-number-preserved c =
-    let more = first-more c.args.keys.now c.loop-number.all.items c.loop-number.number c.item.result.now c.item.ensures c.loop-number.invariant.keys c.loop-number.invariant.numbers in
-    let here = subst (λ (l : List NumberedKey). AreFirst c.args.keys.now (c.loop-number.number + 1) l) (sym c.in_ok-push.ensures.items) more in
+    let keys = c.args.keys.now in
+    let i = c.loop-number.number in
+    let more = first-more keys c.loop-number.all.items i c.index-keys-number.result c.loop-number-test.true c.index-keys-number.is c.loop-number.invariant.keys c.loop-number.invariant.numbers in
+    let here = subst (λ (l : List NumberedKey). AreFirst keys (i + 1) l) (sym c.in_ok-push.ensures.items) more in
     record { keys = here.keys_are; numbers = here.numbers }

@@ -1,0 +1,11 @@
+use Rattle.std.proofs.Common.{◌≡◌, drop}
+use Rattle.ga_pool.specs.Together.{totals_from, totals_in}
+use Rattle.ga_summary.specs.Rows.{totals_plus}
+use Rattle.ga_summary.specs.Sound.{TotalsFit}
+use Rattle.ga_pool.proofs.limits.counters_within.Given as goal
+
+abbrev pub invariant-loop-tally : goal.invariant-loop-tally
+invariant-loop-tally l = record {
+  rest : totals_from l.totals (drop l.tally-index l.tallies) ≡ totals_plus l.start (totals_in l.tallies);
+  fit : TotalsFit l.totals;
+}

@@ -1,0 +1,69 @@
+use Rattle.std.proofs.Common.{ℕ, List, refl, subst, sym, inl, inr}
+use Rattle.std.proofs.lemmas.Result.{err_from_is_err_and}
+use Rattle.ga_logs.specs.Logs.{CountsLogs, StopsLogs}
+use Rattle.ga_logs.specs.declared.start.Start.{Start}
+use Rattle.ga_ports.specs.Stretch.{no_files_call}
+use Rattle.ga_report.specs.Told.{ToldValue}
+use Rattle.ga_store.specs.Reading.{db_value}
+use Rattle.ga_summary.specs.Limits.{LinesAdd}
+use Rattle.ga_summary.specs.Sound.{TotalsFit}
+use Rattle.ga_run.specs.Reports.{IsTextTold}
+use Rattle.ga_run.proofs.Counting.{base-adds, base-fits, countable-total, overwrites}
+use Rattle.ga_run.proofs.run.text_alone.Goals as goal
+
+pub count_logs-requires-clause-fit : goal.count_logs-requires-clause-fit
+count_logs-requires-clause-fit g c = λ _ _. subst (λ (start : Start). TotalsFit start.totals) (sym c.start-start.ensures) (base-fits c.args.settings.now (db_value c.args.stored.now) c.sound.ensures)
+
+pub count_logs-requires-clause-lines : goal.count_logs-requires-clause-lines
+count_logs-requires-clause-lines g c = λ _ _. subst (λ (start : Start). LinesAdd start.totals) (sym c.start-start.ensures) (base-adds c.args.settings.now (db_value c.args.stored.now) c.sound.ensures)
+
+pub returns-in_err-entries-clause-files_went : goal.returns-in_err-entries-clause-files_went
+returns-in_err-entries-clause-files_went g c = no_files_call
+
+pub returns-in_err-entries-clause-stops : goal.returns-in_err-entries-clause-stops
+returns-in_err-entries-clause-stops g c =
+    let p = err_from_is_err_and c.from_residual.result c.from_residual.ensures.1 in
+    rw (p.1, p.2) (inr (refl, inl refl))
+
+pub returns-in_err-total-clause-stops : goal.returns-in_err-total-clause-stops
+returns-in_err-total-clause-stops g c =
+    let s = c.args.settings.now in
+    let before = g.F.Files.view c.args.files.now in
+    let after = g.F.Files.view c.count_logs.new.files in
+    let fault = c.in_err-total.field-0.0 in
+    let entries = c.in_ok-entries.entries in
+    let stops =
+    subst (λ (start : Start). StopsLogs c.args.setup.now start s.generate s.logs entries before after fault) c.start-start.ensures
+    (subst (λ (names : List (List ℕ)). StopsLogs c.args.setup.now c.start-start.result s.generate names entries before after fault) c.items-names.ensures c.in_err-total.ensures.stops) in
+    let p = err_from_is_err_and c.from_residual-in_err-total.result c.from_residual-in_err-total.ensures.1 in
+    rw (p.1, p.2) (inl (record { entries = entries; begin = c.in_ok-entries.ensures; fault = fault; status_is = refl; stops = stops }))
+
+pub told-requires : goal.told-requires
+told-requires g c = countable-total _ _ _ _ c.in_ok-total.ensures.ok.counts
+
+pub returns-clause-ok : goal.returns-clause-ok
+returns-clause-ok g c =
+    let s = c.args.settings.now in
+    let stored = db_value c.args.stored.now in
+    let before = g.F.Files.view c.args.files.now in
+    let after = g.F.Files.view c.count_logs.new.files in
+    let entries = c.in_ok-entries.entries in
+    let total = c.in_ok-total.total in
+    let counts =
+    subst (λ (start : Start). CountsLogs c.args.setup.now start s.generate s.logs entries c.count_logs.new.entries before after total) c.start-start.ensures
+    (subst (λ (names : List (List ℕ)). CountsLogs c.args.setup.now c.start-start.result s.generate names entries c.count_logs.new.entries before after total) c.items-names.ensures c.in_ok-total.ensures.ok) in
+    let tells = c.in_ok-told.ensures counts.counts.outcomes counts.counts.tally counts.counts.countable in
+    record {
+      has = record {
+        entries = entries;
+        begin = c.in_ok-entries.ensures;
+        entries' = c.count_logs.new.entries;
+        portions = counts.portions;
+        read = counts.read;
+        run = tells.sum;
+        counts = record { outcomes = counts.counts.outcomes; come = counts.counts.come; is_sum = tells.is_sum; fits = counts.counts.fits };
+        whole = tells.sum;
+        is_whole = overwrites s stored tells.sum c.requires;
+      };
+      is_text = subst (λ (told : ToldValue). IsTextTold s told c.in_ok-text.text) tells.same c.in_ok-text.ensures;
+    }
