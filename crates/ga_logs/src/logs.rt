@@ -25,7 +25,7 @@ use std::alloc::Global;
 use std::thread::Threads;
 
 /// The total of the generator's lines, where so many are asked for, and of the lines of these logs, which are read one after
-/// the other, each from where the start says. The entries go with them; after an `Err` they are those of some of the logs.
+/// the other, each from where the start says. The entries go with them; after an `Err` they may only be dropped.
 /// Nothing that is answered depends on the workers or on the gate.
 pub fn count_logs<R: Threads + Sync, G: Gate, F: Files>(
     rt: &R,

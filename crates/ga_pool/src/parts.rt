@@ -3,7 +3,7 @@ ghost use Rattle.ga_pool.specs.Steps.Parts.{AreParts};
 
 use ga_base::{Key, NoMemory, Noted, Sums, Totals, Visitor};
 use ga_shards::Dictionary;
-use ga_tallies::{Pair, Tally, TallyParts};
+use ga_tallies::{Pair, Tally, TallyParts, pairs_of};
 use std::alloc::Global;
 
 /// What a worker has to put into the tables.
@@ -41,14 +41,14 @@ pub(crate) fn parts_of(alloc: Global, tallies: Vec<Tally>) -> Result<Parts, NoMe
             keys: its_keys,
             visitors: its_visitors,
             sums,
-            pairs,
+            visits,
         } = tally.into_parts();
         keys.push(its_keys)?;
         visitors.push(its_visitors)?;
         rows.push(Rows {
             totals,
             sums,
-            pairs,
+            pairs: pairs_of(alloc, &visits)?,
         })?;
     }
     Ok(Parts {

@@ -75,10 +75,10 @@ pub(crate) fn item_order(a: &Key, b: &Key) -> Ordering
     panel_order();
     a.panel
         .cmp(&b.panel)
-        .then(a.parent.cmp(&b.parent))
-        .then(a.label.cmp(&b.label))
-        .then(a.method.cmp(&b.method))
-        .then(a.protocol.cmp(&b.protocol))
+        .then_with(|| a.parent.cmp(&b.parent))
+        .then_with(|| a.label.cmp(&b.label))
+        .then_with(|| a.method.cmp(&b.method))
+        .then_with(|| a.protocol.cmp(&b.protocol))
 }
 
 /// Adds up neighbours that are of one item.

@@ -117,7 +117,8 @@ fn time_format(alloc: Global, text: &Text) -> Result<TimeFormat, SetupFault>
 
 /// What a fault of a format comes to.
 fn refusal(which: Which, fault: FormatFault) -> SetupFault
-    ensures { IsRefusal which (λ other. (other ≡ fault) × (other ≢ FormatNoMemory)) result }
+    ensures refusal { IsRefusal which (λ other. (other ≡ fault) × (other ≢ FormatNoMemory)) result }
+    ensures want { result ≡ SetupNoMemory → fault ≡ FormatNoMemory }
 {
     match fault {
         FormatFault::NoMemory => SetupFault::NoMemory,

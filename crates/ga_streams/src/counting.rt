@@ -15,7 +15,6 @@ use ga_base::{NoMemory, Totals};
 use ga_outcomes::Setup;
 use ga_pool::{PoolFault, count_on, new_tallies};
 use ga_ports::Gate;
-use ga_shards::Keyed;
 use ga_tallies::Tally;
 use ga_totals::Total;
 use std::alloc::Global;
@@ -29,8 +28,6 @@ pub struct Counting {
     alloc: Global,
     /// How batches are counted.
     workers: Workers,
-    /// How maps hash: by what stands in the first batch that has bytes.
-    keyed: Keyed,
     /// What the counters began at.
     start: Totals,
     /// What each worker has counted since, over all batches. There is none before the first batch that has bytes.
@@ -67,7 +64,6 @@ impl Counting {
         Counting {
             alloc,
             workers,
-            keyed: keyed_by(b""),
             start,
             tallies: Vec::new(alloc),
             full: None,
@@ -102,8 +98,7 @@ impl Counting {
             → HasCounted setup before self.new) }
     {
         if self.tallies.is_empty() {
-            self.keyed = keyed_by(batch);
-            self.tallies = new_tallies(self.alloc, self.keyed, self.workers.jobs)?;
+            self.tallies = new_tallies(self.alloc, keyed_by(batch), self.workers.jobs)?;
         }
         Ok(())
     }
@@ -155,14 +150,13 @@ impl Counting {
         let Counting {
             alloc,
             workers: _,
-            keyed,
             start: _,
             tallies,
             full,
         } = self;
         match full {
             Some(full) => Err(CountingFault::Full(full)),
-            None => Ok(total_of(rt, alloc, keyed, tallies)?),
+            None => Ok(total_of(rt, alloc, tallies)?),
         }
     }
 }

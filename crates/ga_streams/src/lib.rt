@@ -9,7 +9,6 @@ mod full;
 mod keys;
 pub mod laws;
 mod streams;
-mod tables;
 mod total;
 mod workers;
 

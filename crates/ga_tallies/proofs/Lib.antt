@@ -4,6 +4,7 @@ pub mod OneKey
 pub mod Rows
 pub mod Partly
 pub mod OneHit
+pub mod PairRows
 pub mod PairLists
 pub mod NotedSo
 pub mod KeysOnKeys
@@ -12,3 +13,7 @@ pub mod NoLines
 pub mod OneLine
 pub mod FactsHit
 pub mod Taking
+pub mod AllNoted
+pub mod AddedRows
+pub mod AddedVisits
+pub mod Absorbed

@@ -63,7 +63,7 @@ no-stop row line totals within fit =
 
 -- ---- the rows
 
-none-alike : {T : Type 0} (eq : T → T → Bool) (x : T) (xs : List T) → AllByRecursion (λ y. eq x y ≡ false) xs → list_any (eq x) xs ≡ false
+pub none-alike : {T : Type 0} (eq : T → T → Bool) (x : T) (xs : List T) → AllByRecursion (λ y. eq x y ≡ false) xs → list_any (eq x) xs ≡ false
 none-alike eq x [] h = refl
 none-alike eq x (y ∷ xs) h = rw (h.0) (none-alike eq x xs h.1)
 

@@ -5,16 +5,20 @@ use Rattle.ga_tallies.specs.Tallies.{pair_of}
 use Rattle.ga_tallies.specs.declared.pairs.Pair.{Pair}
 use Rattle.ga_base.specs.declared.counts.Sums.{Sums}
 
--- a pair came to the others
-pub record AddsPair (pair : ℕ × ℕ) (old new : List (ℕ × ℕ)) : Type 0 where
-  pub kept : (other : ℕ × ℕ) → Contains old other → Contains new other
-  pub there : Contains new pair
-  pub only : (other : ℕ × ℕ) → Contains new other → Contains old other ⊎ (pair ≡ other)
+-- what was there is there still
+abbrev pub KeepsAll : {T : Type 0} → List T → List T → Type 0
+KeepsAll {T} old new = (other : T) → Contains old other → Contains new other
 
--- two lists have the same pairs
-pub record HoldTheSame (old new : List (ℕ × ℕ)) : Type 0 where
-  pub kept : (pair : ℕ × ℕ) → Contains old pair → Contains new pair
-  pub only : (pair : ℕ × ℕ) → Contains new pair → Contains old pair
+-- an item came to the others
+pub record AddsOne {T : Type 0} (item : T) (old new : List T) : Type 0 where
+  pub kept : KeepsAll old new
+  pub there : Contains new item
+  pub only : (other : T) → Contains new other → Contains old other ⊎ (item ≡ other)
+
+-- two lists have the same items
+pub record HoldTheSame {T : Type 0} (old new : List T) : Type 0 where
+  pub kept : KeepsAll old new
+  pub only : KeepsAll new old
 
 -- the pairs at these places are among the others
 abbrev pub AreThere : List (ℕ × ℕ) → List (Option Pair) → Type 0

@@ -1,3 +1,4 @@
 -- What only the contracts of private functions and their proofs say.
 pub mod Notes
+pub mod Absorbing
 pub mod OneLine

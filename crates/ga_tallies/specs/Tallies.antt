@@ -1,6 +1,7 @@
 -- What is counted of outcomes, in numbers: keys and visitors by their places in lists of different ones, sums by a key's place.
-use Rattle.std.specs.Prelude.{◌≡◌, ◌<◌, ◌++◌, ℕ, true, nat_lt, List, length, map, slice_get, Some}
+use Rattle.std.specs.Prelude.{◌≡◌, ◌<◌, ◌++◌, ◌∷◌, [], ◌+◌, ℕ, true, nat_lt, List, length, map, slice_get, Some, Vec}
 use Rattle.std.specs.List.{Contains, IsDistinct, list_any}
+use Rattle.std.specs.Global.{Global}
 use Rattle.ga_base.specs.declared.counts.Sums.{Sums}
 use Rattle.ga_base.specs.declared.counts.Totals.{Totals}
 use Rattle.ga_base.specs.declared.key.Key.{Key}
@@ -43,9 +44,26 @@ pub record IsTallyOf (outcomes : List Outcome) (t : TallySeen) : Type 0 where
   -- and each visitor that has a number is one of a key
   pub used : (v : ℕ) → v < length t.visitors → (k : ℕ) × Contains t.pairs (k, v)
 
--- the parts of a tally, seen as the tally that they were
+-- the numbers of a pair
 abbrev pub pair_of : Pair → ℕ × ℕ
 pair_of pair = (pair.key, pair.visitor)
+
+-- the pairs of a key's visitors, and those of rows of visitors, each row at its key's number
+abbrev pub row_pairs : ℕ → List ℕ → List (ℕ × ℕ)
+row_pairs key row = map (λ visitor. (key, visitor)) row
+
+abbrev pub pairs_from : ℕ → List (List ℕ) → List (ℕ × ℕ)
+pairs_from key [] = []
+pairs_from key (row ∷ rows) = row_pairs key row ++ pairs_from (key + 1) rows
+
+abbrev pub pairs_in : List (List ℕ) → List (ℕ × ℕ)
+pairs_in rows = pairs_from 0 rows
+
+-- the lists that vectors hold
+abbrev pub lists_in : {T : Type 0} → List (Vec T Global) → List (List T)
+lists_in rows = map (λ row. row.items) rows
+
+-- the parts of a tally, seen as the tally that they were
 
 abbrev pub seen_in : TallyParts → TallySeen
 seen_in parts = record {
@@ -53,7 +71,7 @@ seen_in parts = record {
   keys = parts.keys;
   visitors = parts.visitors;
   sums = parts.sums.items;
-  pairs = map pair_of parts.pairs.items;
+  pairs = pairs_in (lists_in parts.visits.items);
 }
 
 -- a tally took in these lines, behind the outcomes that it was of
@@ -75,3 +93,7 @@ pub record PassesLimit (setup : Setup) (before : List Outcome) (all : List (List
 -- whatever the tally is of, these lines behind it are too much
 abbrev pub Overfills : Setup → List (List ℕ) → TallySeen → Type 0
 Overfills setup all old = (before : List Outcome) → IsTallyOf before old → PassesLimit setup before all
+
+-- a tally took in what another has counted
+abbrev pub Absorbs : TallySeen → TallySeen → TallySeen → Type 0
+Absorbs other old new = (before more : List Outcome) → IsTallyOf before old → IsTallyOf more other → IsTallyOf (before ++ more) new

@@ -157,7 +157,7 @@ fn visitor_in<'a>(facts: &RecordFacts<'_>, rec: &RecordRef<'a>) -> Option<Visito
 }
 
 /// Both together.
-fn plus(a: Totals, b: Totals) -> Totals
+pub(crate) fn plus(a: Totals, b: Totals) -> Totals
     requires fit { TotalsFit a × TotalsFit b }
     requires lines { LinesAdd a × LinesAdd b }
     ensures value { result ≡ totals_plus a b }

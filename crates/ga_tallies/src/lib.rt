@@ -1,12 +1,15 @@
 //! What one worker counts of lines, in numbers of its own.
 //!
 //! Start with `Tally`. `specs/Tallies.antt` says what a tally of outcomes is: keys and visitors by numbers, sums by a key's
-//! number, and the pairs of a key and a visitor of it. `Agents` keeps what agents are from one line to the next.
+//! number, and the pairs of a key and a visitor of it, kept as a row of visitors for each key. `Agents` keeps what agents are
+//! from one line to the next. A tally can take in what another has counted.
 #![tactic(auto)]
 
+mod absorbing;
 mod agents;
 mod counting;
 mod fault;
+mod grown;
 mod hints;
 mod noting;
 mod numbers;
@@ -18,7 +21,7 @@ mod visitor_ref;
 
 pub use agents::Agents;
 pub use fault::TallyFault;
-pub use pairs::Pair;
+pub use pairs::{Pair, pairs_of};
 pub use parts::TallyParts;
 pub use tally::Tally;
 

@@ -113,7 +113,7 @@ impl Tally {
 }
 
 /// Adds a line's sums to the row at a place, or puts them behind the rows where none is there yet.
-fn add_line(rows: &mut Vec<Sums>, place: u32, line: Sums) -> Result<(), NoMemory>
+pub(crate) fn add_line(rows: &mut Vec<Sums>, place: u32, line: Sums) -> Result<(), NoMemory>
     ensures { OnOk result (rows.new.items ≡ added_at place line rows.old.items) }
 {
     let place = place as usize;

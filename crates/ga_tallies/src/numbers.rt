@@ -2,7 +2,9 @@ ghost use Rattle.std.specs.Prelude.{◌≡◌, Some, true, IfOk, IsTrue, OnOk, s
 ghost use Rattle.ga_base.specs.Orders.{is_same_key, is_same_visitor};
 ghost use Rattle.ga_panels.specs.Refs.{key_of};
 ghost use Rattle.ga_shards.specs.Numbers.{noted, place_of};
+ghost use Rattle.ga_shards.specs.Steps.{all_noted};
 ghost use Rattle.ga_tallies.specs.Refs.{visitor_of};
+ghost use Rattle.ga_tallies.specs.Steps.Absorbing.{places_of};
 ghost use Rattle.ga_tallies.specs.Steps.Notes.{IsNumbered};
 
 use crate::Agents;
@@ -92,6 +94,22 @@ fn key_hint(key: &KeyRef<'_>) -> u64 {
     hasher.write(key.method.as_bytes());
     hasher.write(key.protocol.as_bytes());
     hasher.finish()
+}
+
+/// Notes items, and gives the number of each.
+pub(crate) fn note_all<T: Noted + Drop>(
+    alloc: Global,
+    known: &mut Dictionary<T>,
+    items: Vec<T>,
+) -> Result<Vec<u32>, NoMemory>
+    ensures numbers { IfOk result (λ numbers. numbers.items ≡ places_of T.eq known.old items.items) }
+    ensures noted { OnOk result (known.new ≡ all_noted T.eq known.old items.items) }
+{
+    let mut numbers = Vec::with_capacity(alloc, items.len())?;
+    for item in items {
+        numbers.push(note(known, item)?)?;
+    }
+    Ok(numbers)
 }
 
 /// Notes an item, and gives its number. A dictionary that is full answers want of memory.

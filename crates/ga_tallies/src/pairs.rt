@@ -1,7 +1,7 @@
-ghost use Rattle.std.specs.Prelude.{◌≡◌, ◌∷◌, ◌++◌, [], IsTrue, OnOk, Some, map};
+ghost use Rattle.std.specs.Prelude.{◌≡◌, ◌<◌, ◌++◌, [], IfOk, IsTrue, OnOk, Some, map, vec_len};
 ghost use Rattle.std.specs.List.{Contains};
-ghost use Rattle.ga_tallies.specs.Adding.{AddsPair, HoldTheSame};
-ghost use Rattle.ga_tallies.specs.Tallies.{pair_of};
+ghost use Rattle.ga_tallies.specs.Adding.{AddsOne, HoldTheSame, KeepsAll};
+ghost use Rattle.ga_tallies.specs.Tallies.{lists_in, pair_of, pairs_in, row_pairs};
 
 use crate::places::{make_places, put_at};
 use ga_base::NoMemory;
@@ -17,8 +17,8 @@ pub struct Pair {
     pub visitor: u32,
 }
 
-/// So many pairs are kept before the first are looked for that stand there twice.
-const FEW: usize = 1024;
+/// From so many visitors on a row is looked over for those that stand there twice, each time before it grows.
+const FEW: usize = 64;
 
 /// So many places there are for pairs that came lately, once the first came.
 const PLACES: usize = 1 << PLACE_BITS;
@@ -32,24 +32,23 @@ const SPREAD: u64 = 0x9e37_79b9_7f4a_7c15;
 /// Pairs that are read as a set. Contracts see the list of them, in which one may stand more than once.
 #[derive(Drop)]
 pub(crate) struct PairList {
-    pairs: Vec<Pair>,
-    /// How many pairs there were when none stood there twice. Where there are three times as many, they are looked over again.
-    different: usize,
-    /// Pairs that came lately, all of which stand among `pairs`: none before the first came, and then `PLACES` places. What
+    /// The visitors of each key, at its number. Keys behind the last row have none.
+    rows: Vec<Vec<u32>>,
+    /// Pairs that came lately, all of which stand in their rows: none before the first came, and then `PLACES` places. What
     /// stands there isn't added again.
     recent: Vec<Option<Pair>>,
 }
 
 impl Model for PairList {
-    ghost use Rattle.std.specs.Prelude.{ℕ, List, map};
+    ghost use Rattle.std.specs.Prelude.{ℕ, List};
     ghost use Rattle.ga_tallies.specs.Adding.{AreThere};
-    ghost use Rattle.ga_tallies.specs.Tallies.{pair_of};
+    ghost use Rattle.ga_tallies.specs.Tallies.{lists_in, pairs_in};
 
     ghost Value = { List (ℕ × ℕ) };
 
-    ghost view = { λ l. map pair_of l.pairs.items };
+    ghost view = { λ l. pairs_in (lists_in l.rows.items) };
 
-    ghost invariant = { λ l. AreThere (map pair_of l.pairs.items) l.recent.items };
+    ghost invariant = { λ l. AreThere (pairs_in (lists_in l.rows.items)) l.recent.items };
 }
 
 impl PairList {
@@ -58,21 +57,19 @@ impl PairList {
         ensures { result ≡ [] }
     {
         PairList {
-            pairs: Vec::new(alloc),
-            different: FEW,
+            rows: Vec::new(alloc),
             recent: Vec::new(alloc),
         }
     }
 
-    /// Adds a pair. After an `Err` it isn't added.
+    /// Adds a pair.
     pub(crate) fn add(&mut self, pair: Pair) -> Result<(), NoMemory>
-        ensures { OnOk result (AddsPair (pair_of pair) self.old self.new) }
+        ensures { OnOk result (AddsOne (pair_of pair) self.old self.new) }
     {
         if self.is_recent(pair) {
             return Ok(());
         }
-        self.thin_out();
-        self.push(pair)
+        self.put(pair)
     }
 
     /// Whether a pair is among those that came lately.
@@ -83,40 +80,129 @@ impl PairList {
         place < self.recent.len() && is_at(&self.recent[place], pair)
     }
 
-    /// Puts a pair behind the others.
-    fn push(&mut self, pair: Pair) -> Result<(), NoMemory>
-        ensures { OnOk result (self.new ≡ self.old ++ pair_of pair ∷ []) }
+    /// Puts a pair into the row of its key.
+    fn put(&mut self, pair: Pair) -> Result<(), NoMemory>
+        ensures { OnOk result (AddsOne (pair_of pair) self.old self.new) }
     {
         make_places(&mut self.recent, PLACES)?;
-        self.pairs.push(pair)?;
+        put_pair(&mut self.rows, pair)?;
         put_at(&mut self.recent, place_of(pair), pair);
         Ok(())
     }
 
-    /// Drops the pairs that stand there again, where there are three times as many as there were different ones.
-    fn thin_out(&mut self)
-        ensures { HoldTheSame self.old self.new }
+    /// Puts a pair behind the others of its key, also where it is there. It costs less than `add`, and may take more memory.
+    pub(crate) fn push(&mut self, pair: Pair) -> Result<(), NoMemory>
+        ensures { OnOk result (AddsOne (pair_of pair) self.old self.new) }
     {
-        if self.pairs.len() / 3 >= self.different {
-            self.drop_equals();
-        }
+        push_pair(&mut self.rows, pair)
     }
 
-    /// Sorts the pairs, and drops those that stand there again.
-    fn drop_equals(&mut self)
-        ensures { HoldTheSame self.old self.new }
+    /// Gives the visitors of each key back, at its number.
+    pub(crate) fn into_rows(self) -> Vec<Vec<u32>>
+        ensures { pairs_in (lists_in result.items) ≡ self }
     {
-        self.pairs.sort_unstable_by_key(|pair| word_of(*pair));
-        self.pairs.dedup();
-        self.different = self.pairs.len().max(FEW);
+        self.rows
     }
+}
 
-    /// Gives the pairs back.
-    pub(crate) fn into_vec(self) -> Vec<Pair>
-        ensures { map pair_of result.items ≡ self }
-    {
-        self.pairs
+/// Puts a pair into the row of its key.
+fn put_pair(rows: &mut Vec<Vec<u32>>, pair: Pair) -> Result<(), NoMemory>
+    ensures kept { KeepsAll (pairs_in (lists_in rows.old.items)) (pairs_in (lists_in rows.new.items)) }
+    ensures added { OnOk result (AddsOne (pair_of pair) (pairs_in (lists_in rows.old.items)) (pairs_in (lists_in rows.new.items))) }
+{
+    let key = pair.key as usize;
+    make_rows(rows, key)?;
+    add_visitor(&mut rows[key], pair.visitor)
+}
+
+/// Puts a pair behind the row of its key, as it is.
+fn push_pair(rows: &mut Vec<Vec<u32>>, pair: Pair) -> Result<(), NoMemory>
+    ensures kept { KeepsAll (pairs_in (lists_in rows.old.items)) (pairs_in (lists_in rows.new.items)) }
+    ensures added { OnOk result (AddsOne (pair_of pair) (pairs_in (lists_in rows.old.items)) (pairs_in (lists_in rows.new.items))) }
+{
+    let key = pair.key as usize;
+    make_rows(rows, key)?;
+    push_visitor(&mut rows[key], pair.visitor)
+}
+
+/// Makes rows with nothing in them up to that of a key, where they aren't there.
+fn make_rows(rows: &mut Vec<Vec<u32>>, key: usize) -> Result<(), NoMemory>
+    ensures there { OnOk result (key < vec_len rows.new) }
+    ensures same { HoldTheSame (pairs_in (lists_in rows.old.items)) (pairs_in (lists_in rows.new.items)) }
+{
+    let alloc = *rows.allocator();
+    while rows.len() <= key {
+        rows.push(Vec::new(alloc))?;
     }
+    Ok(())
+}
+
+/// Adds a visitor to a row.
+fn add_visitor(row: &mut Vec<u32>, visitor: u32) -> Result<(), NoMemory>
+    ensures kept { KeepsAll row.old.items row.new.items }
+    ensures added { OnOk result (AddsOne visitor row.old.items row.new.items) }
+{
+    make_room(row)?;
+    push_visitor(row, visitor)
+}
+
+/// Puts a visitor behind a row.
+fn push_visitor(row: &mut Vec<u32>, visitor: u32) -> Result<(), NoMemory>
+    ensures kept { KeepsAll row.old.items row.new.items }
+    ensures added { OnOk result (AddsOne visitor row.old.items row.new.items) }
+{
+    Ok(row.push(visitor)?)
+}
+
+/// Makes room in a row that is full: drops the visitors that stand there again, and grows the row where that leaves more than
+/// half of it taken.
+fn make_room(row: &mut Vec<u32>) -> Result<(), NoMemory>
+    ensures { HoldTheSame row.old.items row.new.items }
+{
+    if row.len() < row.capacity() {
+        return Ok(());
+    }
+    thin_out(row);
+    Ok(row.reserve(row.len())?)
+}
+
+/// Drops the visitors that stand there again, where there are more than few.
+fn thin_out(row: &mut Vec<u32>)
+    ensures { HoldTheSame row.old.items row.new.items }
+{
+    if row.len() >= FEW {
+        row.sort_unstable();
+        row.dedup();
+    }
+}
+
+/// The pairs of rows of visitors, each of which stands at its key's number.
+pub fn pairs_of(alloc: Global, rows: &[Vec<u32>]) -> Result<Vec<Pair>, NoMemory>
+    ensures { IfOk result (λ pairs. map pair_of pairs.items ≡ pairs_in (lists_in rows.now)) }
+{
+    let mut pairs = Vec::new(alloc);
+    for (key, row) in rows.iter().enumerate() {
+        // More rows than numbers of 32 bits take more memory than there is.
+        let Ok(key) = u32::try_from(key) else {
+            return Err(NoMemory);
+        };
+        push_row(&mut pairs, key, row)?;
+    }
+    Ok(pairs)
+}
+
+/// Puts the pairs of a key's row behind the others.
+fn push_row(pairs: &mut Vec<Pair>, key: u32, row: &[u32]) -> Result<(), NoMemory>
+    ensures { OnOk result (map pair_of pairs.new.items ≡ map pair_of pairs.old.items ++ row_pairs key row.now) }
+{
+    pairs.reserve(row.len())?;
+    for visitor in row {
+        pairs.push(Pair {
+            key,
+            visitor: *visitor,
+        })?;
+    }
+    Ok(())
 }
 
 /// Whether this pair is at a place.
@@ -134,7 +220,7 @@ fn place_of(pair: Pair) -> usize {
     (word_of(pair).wrapping_mul(SPREAD) >> (u64::BITS - PLACE_BITS)) as usize
 }
 
-/// Both numbers of a pair as one word, which costs less to compare.
+/// Both numbers of a pair as one word, which costs less to spread.
 fn word_of(pair: Pair) -> u64 {
     u64::from(pair.key) << 32 | u64::from(pair.visitor)
 }

@@ -1,4 +1,3 @@
-use crate::Pair;
 use ga_base::{Key, Sums, Totals, Visitor};
 use ga_shards::Dictionary;
 
@@ -13,6 +12,7 @@ pub struct TallyParts {
     pub visitors: Dictionary<Visitor>,
     /// The sums of each key, at its number.
     pub sums: Vec<Sums>,
-    /// The keys' visitors. A pair may stand there more than once.
-    pub pairs: Vec<Pair>,
+    /// The visitors of each key, by their numbers, at the key's number. Keys behind the last row have none, and a visitor may
+    /// stand in a row more than once.
+    pub visits: Vec<Vec<u32>>,
 }

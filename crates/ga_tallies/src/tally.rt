@@ -108,7 +108,7 @@ impl Tally {
             keys: self.keys,
             visitors: self.visitors,
             sums: self.sums,
-            pairs: self.pairs.into_vec(),
+            visits: self.pairs.into_rows(),
         }
     }
 }

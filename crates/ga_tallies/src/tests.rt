@@ -1,4 +1,4 @@
-use crate::{Agents, Pair, Tally};
+use crate::{Agents, Pair, Tally, pairs_of};
 use ga_agents::Rules;
 use ga_base::{FormatFault, PanelSet, Statuses, Sums, Text, Texts, Totals};
 use ga_dates::{DEFAULT_DATE, DEFAULT_TIME, compile_date, compile_time};
@@ -83,8 +83,8 @@ fn counts_lines(rt: HostRuntime) -> Result<(), Fail> {
         .as_slice()
     );
     assert_eq!(rt;
-        parts.pairs.first().copied(),
-        Some(Pair { key: 0, visitor: 0 })
+        pairs_of(alloc, &parts.visits)?.as_slice(),
+        [Pair { key: 0, visitor: 0 }].as_slice()
     );
     Ok(())
 }

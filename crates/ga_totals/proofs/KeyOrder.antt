@@ -15,7 +15,7 @@ use Rattle.ga_base.proofs.OrderLemmas.{key_cmp_total}
 use Rattle.ga_tallies.proofs.Same.{key-laws}
 use Rattle.ga_totals.specs.Steps.Rows.{AreByKey, NumberedKey}
 
-less-by : (o p : Ordering) → p ≡ ordering_reverse o → is_lt p ≡ false → is_eq o ≡ false → o ≡ Less
+pub less-by : (o p : Ordering) → p ≡ ordering_reverse o → is_lt p ≡ false → is_eq o ≡ false → o ≡ Less
 less-by Less p back low apart = refl
 less-by Equal p back low apart = absurd (true≢false apart)
 less-by Greater p back low apart = absurd (false≢true (sym low ∙ ap is_lt back))

@@ -1,11 +1,10 @@
 pub mod OfOutcomes
-pub mod Cut
 pub mod Naming
+pub mod Ranking
 pub mod Numbering
 pub mod KeyRows
 pub mod KeyOrder
 pub mod Dates
 pub mod Summing
-pub mod PairOrder
 pub mod Visiting
 pub mod Told

@@ -1,34 +1,26 @@
 -- What holds of each tally of outcomes.
-use Rattle.std.proofs.Common.{◌≡◌, ℕ, ◌<◌, List, length, map, ap, ◌∙◌, subst}
+use Rattle.std.proofs.Common.{◌≡◌, ℕ, ◌<◌, List, [], get_or, length, ap, ◌∙◌, subst}
 use Rattle.std.specs.List.{All, Contains}
 use Rattle.std.proofs.lemmas.List.{length-map}
-use Rattle.std.proofs.lemmas.List.Elements.{All-contains_itself, All-weaker}
+use Rattle.std.proofs.lemmas.List.Elements.{All-contains_itself, All-from_get_or, All-weaker}
 use Rattle.std.proofs.lemmas.Option.{slice_get_within}
 use Rattle.ga_base.specs.declared.counts.Sums.{Sums}
 use Rattle.ga_base.specs.declared.key.Key.{Key}
 use Rattle.ga_summary.specs.Outcomes.{Outcome, sums_of}
-use Rattle.ga_tallies.specs.Tallies.{IsTallyOf, TallySeen, pair_of}
-use Rattle.ga_tallies.specs.declared.pairs.Pair.{Pair}
-use Rattle.ga_tallies.proofs.PairLists.{contains-map}
+use Rattle.ga_tallies.specs.Tallies.{IsTallyOf, TallySeen, pairs_in}
+use Rattle.ga_totals.specs.Steps.Rows.{AreWithin}
+use Rattle.ga_tallies.proofs.PairRows.{pair-of-row}
 
 -- each key has its sums
 pub as-many : (outcomes : List Outcome) (t : TallySeen) → IsTallyOf outcomes t → length t.sums ≡ length t.keys
 as-many outcomes t is = ap (λ (l : List Sums). length l) is.sums ∙ length-map t.keys (λ (key : Key). sums_of key outcomes)
 
--- its pairs are of numbers that are there
-abbrev IsWithin : TallySeen → Pair → Type 0
-IsWithin t pair = (pair.key < length t.keys) × (pair.visitor < length t.visitors)
-
-pairs-within : (outcomes : List Outcome) (t : TallySeen) (pairs : List Pair) → IsTallyOf outcomes t → map pair_of pairs ≡ t.pairs → All (IsWithin t) pairs
-pairs-within outcomes t pairs is same =
-    All-weaker (Contains pairs) (IsWithin t) (λ pair at.
-    let p = is.pairs pair.key pair.visitor (subst (λ (l : List (ℕ × ℕ)). Contains l (pair_of pair)) same (contains-map pair_of pairs pair at)) in
-    (slice_get_within t.keys pair.key p.0 p.2, slice_get_within t.visitors pair.visitor p.1 p.3)) pairs (All-contains_itself pairs)
-
-pub visitors-within : (outcomes : List Outcome) (t : TallySeen) (pairs : List Pair) → IsTallyOf outcomes t → map pair_of pairs ≡ t.pairs → All (λ pair. pair.visitor < length t.visitors) pairs
-visitors-within outcomes t pairs is same =
-    All-weaker (IsWithin t) (λ (pair : Pair). pair.visitor < length t.visitors) (λ pair both. both.1) pairs (pairs-within outcomes t pairs is same)
-
-pub keys-within : (outcomes : List Outcome) (t : TallySeen) (pairs : List Pair) → IsTallyOf outcomes t → map pair_of pairs ≡ t.pairs → All (λ pair. pair.key < length t.keys) pairs
-keys-within outcomes t pairs is same =
-    All-weaker (IsWithin t) (λ (pair : Pair). pair.key < length t.keys) (λ pair both. both.0) pairs (pairs-within outcomes t pairs is same)
+-- its rows are of visitors that are there
+pub rows-within : (outcomes : List Outcome) (t : TallySeen) (rows : List (List ℕ)) → IsTallyOf outcomes t → pairs_in rows ≡ t.pairs → AreWithin (length t.visitors) rows
+rows-within outcomes t rows is same = All-from_get_or (All (λ v. v < length t.visitors)) rows [] (λ key less. row-within key (get_or rows key []) (λ v at. pair-of-row rows key v at))
+  where
+    row-within : (key : ℕ) (row : List ℕ) → ((v : ℕ) → Contains row v → Contains (pairs_in rows) (key, v)) → All (λ v. v < length t.visitors) row
+    row-within key row into =
+        All-weaker (Contains row) (λ v. v < length t.visitors) (λ v at.
+        let p = is.pairs key v (subst (λ (l : List (ℕ × ℕ)). Contains l (key, v)) same (into v at)) in
+        slice_get_within t.visitors v p.1 p.3) row (All-contains_itself row)

@@ -1,5 +1,5 @@
 -- What is told of keys by their numbers is what the rows of a summary tell.
-use Rattle.std.proofs.Common.{◌≡◌, ℕ, suc, ◌<◌, ◌==◌, ◌||◌, Bool, true, false, cond, eqb, List, [], ◌∷◌, Some, length, map, filter, refl, sym, ap, ◌∙◌, subst, arith, eq-eqb}
+use Rattle.std.proofs.Common.{◌≡◌, ℕ, zero, suc, ◌<◌, ◌==◌, ◌||◌, Bool, true, false, cond, eqb, List, [], ◌∷◌, Some, length, map, filter, refl, sym, ap, ◌∙◌, subst, arith, eq-eqb}
 use Rattle.std.specs.Prelude.{slice_get, slice_index_or}
 use Rattle.std.specs.Cmp.{both_ways}
 use Rattle.std.specs.List.{AllByRecursion, Contains, list_any}
@@ -8,7 +8,7 @@ use Rattle.std.specs.Ordering.{is_eq}
 use Rattle.std.specs.Set.{distinct_count, unique_keys}
 use Rattle.std.proofs.lemmas.Bool.{eqb-true}
 use Rattle.std.proofs.lemmas.Cmp.{eq_by_cmp_equiv, tied_itself}
-use Rattle.std.proofs.lemmas.List.Elements.{All-from_recursion, recursion_from_All}
+use Rattle.std.proofs.lemmas.List.Elements.{All-contains, All-contains_itself, All-filter, All-from_recursion, filter_passes, recursion_from_All}
 use Rattle.std.proofs.lemmas.Map.Keys.{IsDistinct-from_sorted}
 use Rattle.std.proofs.lemmas.Map.Made.{length-from_keys}
 use Rattle.std.proofs.lemmas.Option.{same_Some, slice_get-get_or, slice_get_within}
@@ -28,16 +28,35 @@ use Rattle.ga_summary.proofs.Merging.{has_name-put_names}
 use Rattle.ga_summary.proofs.NameLists.{rising_put_name}
 use Rattle.ga_summary.proofs.Put.{equal_from_is_eq}
 use Rattle.ga_tallies.specs.Tallies.{IsTallyOf, TallySeen}
-use Rattle.ga_tallies.proofs.PairLists.{contains-map, from-map}
+use Rattle.ga_tallies.proofs.PairRows.{contains-map, from-map}
 use Rattle.ga_tallies.proofs.Same.{visitor-itself}
 use Rattle.ga_totals.specs.Steps.Rows.{AreByKey, AreRowsOf, IsRowOf, NumberedKey, name_at}
 use Rattle.ga_totals.specs.Steps.Telling.{AreToldRows, AreVisits, told_of, visitors_of}
 use Rattle.ga_totals.specs.Totals.{TellsSumOf}
 use Rattle.ga_totals.proofs.Dates.{visit-dated}
 use Rattle.ga_totals.proofs.KeyOrder.{one-place}
-use Rattle.ga_totals.proofs.KeyRows.{Contains-filter, Contains-from_filter, IsSomeRow, later, passes}
+use Rattle.ga_totals.proofs.KeyRows.{IsSomeRow}
 use Rattle.ga_totals.proofs.OfOutcomes.{as-many}
 use Rattle.ga_totals.proofs.Summing.{are-sum, are-summary, from-named, name-there, named, same-one}
+
+-- one place further on
+later : {X : Type 0} (y : X) (xs : List X) (x : X) → Contains xs x → Contains (y ∷ xs) x
+later y xs x (k, lt, e) = (suc k, omega (arith, lt), e)
+
+Contains-from_filter : {X : Type 0} (p : X → Bool) (xs : List X) (x : X) → Contains (filter p xs) x → Contains xs x
+Contains-from_filter p xs x at = All-contains (Contains xs) (filter p xs) x (All-filter p (Contains xs) xs (All-contains_itself xs)) at
+
+passes : {X : Type 0} (p : X → Bool) (xs : List X) (x : X) → Contains (filter p xs) x → p x ≡ true
+passes p xs x at = All-contains (λ y. p y ≡ true) (filter p xs) x (filter_passes p xs) at
+
+Contains-filter : {X : Type 0} (p : X → Bool) (xs : List X) (x : X) → p x ≡ true → Contains xs x → Contains (filter p xs) x
+Contains-filter p [] x pass at = at
+Contains-filter p (y ∷ xs) x pass (zero, lt, e) =
+    let here : p y ≡ true = ap p e ∙ pass in
+    rw here (0, omega arith, e)
+Contains-filter p (y ∷ xs) x pass (suc k, lt, e) =
+    let rest : Contains (filter p xs) x = Contains-filter p xs x pass (k, omega (arith, lt), e) in
+    elim (p y) as (λ b. Contains (cond b (y ∷ filter p xs) (filter p xs)) x) [ true ↦ later y (filter p xs) x rest | false ↦ rest ]
 
 -- names in their order, each once
 abbrev in-order : List Name → List Name

@@ -4,8 +4,10 @@
 //! `ga_tallies/specs/Tallies.antt` says when it is that of outcomes.
 #![tactic(auto)]
 
+mod by_name;
 mod names;
 mod numbered;
+mod ranks;
 mod rows;
 mod telling;
 mod total;

@@ -1,56 +1,36 @@
-ghost use Rattle.std.specs.Prelude.{◌≡◌, ◌==◌, ◌<◌, All, IfOk, filter, length, map};
-ghost use Rattle.std.specs.List.Sorted.{IsNonDecreasingBy, IsPermutation};
-ghost use Rattle.ga_totals.specs.Steps.Rows.{AreNamesOf, name_at};
+ghost use Rattle.std.specs.Prelude.{◌≡◌, ◌<◌, All, IfOk, length, map, slice_index};
+ghost use Rattle.ga_totals.specs.Steps.Ranks.{name_ranked};
 
 use ga_base::{Name, NoMemory, Visitor};
-use ga_tallies::Pair;
 use std::alloc::Global;
 
-/// The pairs, in the order of their keys' numbers.
-pub(crate) fn by_number(alloc: Global, pairs: &[Pair]) -> Result<Vec<Pair>, NoMemory>
-    ensures same { IfOk result (λ sorted. IsPermutation pairs.now sorted.items) }
-    ensures rise { IfOk result (λ sorted. IsNonDecreasingBy (λ pair. pair.key) sorted.items) }
+/// The ranks of the visitors with these numbers, one for each number.
+pub(crate) fn ranks_of(alloc: Global, ranks: &[u32], row: &[u32]) -> Result<Vec<u32>, NoMemory>
+    requires { All (λ v. v < length ranks.now) row.now }
+    ensures { IfOk result (λ all. all.items ≡ map (λ v. slice_index ranks.now v) row.now) }
 {
-    let mut sorted = pairs.to_vec(alloc)?;
-    sorted.sort_unstable_by_key(|pair| pair.key);
-    Ok(sorted)
+    let mut all = Vec::with_capacity(alloc, row.len())?;
+    for number in row {
+        all.push(ranks[*number as usize])?;
+    }
+    Ok(all)
 }
 
-/// The pairs of a key's number, among pairs in the order of these numbers.
-pub(crate) fn pairs_of(pairs: &[Pair], number: usize) -> &[Pair]
-    requires { IsNonDecreasingBy (λ pair. pair.key) pairs.now }
-    ensures { result.now ≡ filter (λ pair. pair.key == number) pairs.now }
-{
-    let end = pairs.partition_point(|pair| pair.key as usize <= number);
-    let up_to = &pairs[..end];
-    let start = up_to.partition_point(|pair| (pair.key as usize) < number);
-    &up_to[start..]
-}
-
-/// The names of the visitors of these pairs, which rise.
-pub(crate) fn names_of(
+/// The names of these ranks, one for each. The number of one visitor of each name stands at the name's rank.
+pub(crate) fn names_of_ranks(
     alloc: Global,
     visitors: &[Visitor],
-    pairs: &[Pair],
+    firsts: &[u32],
+    ranks: &[u32],
 ) -> Result<Vec<Name>, NoMemory>
-    requires { All (λ pair. pair.visitor < length visitors.now) pairs.now }
-    ensures { IfOk result (λ names. AreNamesOf visitors.now pairs.now names.items) }
-{
-    let mut names = all_names(alloc, visitors, pairs)?;
-    names.sort_unstable();
-    names.dedup();
-    Ok(names)
-}
-
-/// The names of the visitors of these pairs, one for each pair.
-fn all_names(alloc: Global, visitors: &[Visitor], pairs: &[Pair]) -> Result<Vec<Name>, NoMemory>
-    requires { All (λ pair. pair.visitor < length visitors.now) pairs.now }
+    requires firsts { All (λ v. v < length visitors.now) firsts.now }
+    requires ranks { All (λ r. r < length firsts.now) ranks.now }
     ensures { IfOk result (λ names.
-        names.items ≡ map (λ pair. name_at visitors.now pair.visitor) pairs.now) }
+        names.items ≡ map (λ r. name_ranked visitors.now firsts.now r) ranks.now) }
 {
-    let mut names = Vec::with_capacity(alloc, pairs.len())?;
-    for pair in pairs {
-        let visitor = &visitors[pair.visitor as usize];
+    let mut names = Vec::with_capacity(alloc, ranks.len())?;
+    for rank in ranks {
+        let visitor = &visitors[firsts[*rank as usize] as usize];
         names.push(Name {
             host: visitor.host.clone()?,
             agent: visitor.agent.clone()?,

@@ -1,34 +1,33 @@
-ghost use Rattle.std.specs.Prelude.{◌≡◌, ◌<◌, All, IfOk, length, map};
-ghost use Rattle.std.specs.List.Sorted.{IsNonDecreasingBy};
+ghost use Rattle.std.specs.Prelude.{◌≡◌, ◌<◌, IfOk, length};
 ghost use Rattle.ga_summary.specs.Parts.{row_of_part, rows_in};
-ghost use Rattle.ga_tallies.specs.Tallies.{pair_of};
-ghost use Rattle.ga_totals.specs.Steps.Rows.{AreRowsOf, IsRowOf};
+ghost use Rattle.ga_tallies.specs.Tallies.{lists_in, pairs_in};
+ghost use Rattle.ga_totals.specs.Steps.Rows.{AreRowsOf, AreWithin, IsRowOf};
 
-use crate::names::{by_number, names_of, pairs_of};
 use crate::numbered::{Numbered, by_key};
+use crate::ranks::Ranks;
+use crate::visits::row_at;
 use ga_base::{Key, Names, NoMemory, Sums, Visitor};
 use ga_summary::PartRow;
-use ga_tallies::Pair;
 use std::alloc::Global;
 
-/// A row for each key, in their order. Sums stand at the keys' numbers, and pairs are of numbers of keys and visitors.
+/// A row for each key, in their order. Sums stand at the keys' numbers, and so do rows of the numbers of their visitors.
 pub(crate) fn rows_of(
     alloc: Global,
     keys: &[Key],
     sums: &[Sums],
     visitors: &[Visitor],
-    pairs: &[Pair],
+    visits: &[Vec<u32>],
 ) -> Result<Vec<PartRow>, NoMemory>
     requires many { length sums.now ≡ length keys.now }
-    requires within { All (λ pair. pair.visitor < length visitors.now) pairs.now }
+    requires within { AreWithin (length visitors.now) (lists_in visits.now) }
     ensures { IfOk result (λ rows.
-        AreRowsOf keys.now sums.now visitors.now (map pair_of pairs.now) (rows_in rows.items)) }
+        AreRowsOf keys.now sums.now visitors.now (pairs_in (lists_in visits.now)) (rows_in rows.items)) }
 {
-    let sorted = by_number(alloc, pairs)?;
+    let ranks = Ranks::of(alloc, visitors)?;
     let order = by_key(alloc, keys)?;
     let mut rows = Vec::with_capacity(alloc, order.len())?;
     for entry in &order {
-        rows.push(row_of(alloc, entry, sums, visitors, &sorted)?)?;
+        rows.push(row_of(alloc, entry, sums, &ranks, visits)?)?;
     }
     Ok(rows)
 }
@@ -38,16 +37,15 @@ fn row_of(
     alloc: Global,
     entry: &Numbered<'_>,
     sums: &[Sums],
-    visitors: &[Visitor],
-    pairs: &[Pair],
+    visitors: &Ranks<'_>,
+    visits: &[Vec<u32>],
 ) -> Result<PartRow, NoMemory>
     requires many { entry.now.number < length sums.now }
-    requires within { All (λ pair. pair.visitor < length visitors.now) pairs.now }
-    requires rise { IsNonDecreasingBy (λ pair. pair.key) pairs.now }
+    requires within { AreWithin (length visitors.now) (lists_in visits.now) }
     ensures { IfOk result (λ row.
-        IsRowOf entry.now sums.now visitors.now (map pair_of pairs.now) (row_of_part row)) }
+        IsRowOf entry.now sums.now visitors.now (pairs_in (lists_in visits.now)) (row_of_part row)) }
 {
-    let names = names_of(alloc, visitors, pairs_of(pairs, entry.number()))?;
+    let names = visitors.names_of(alloc, row_at(visits, entry.number()))?;
     Ok(PartRow {
         key: entry.key().clone()?,
         sums: sums[entry.number()],

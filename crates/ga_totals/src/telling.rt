@@ -9,16 +9,17 @@ use std::alloc::Global;
 use std::marker::Model;
 
 /// What a total tells to a report: its keys in their order, each with its sums and the number of its visitors. It makes
-/// no names.
+/// no names. Keys and sums are copies that stand in this order, so that a report, which goes along them again and again,
+/// finds each beside the one before.
 #[derive(Drop)]
-pub struct TotalTold<'a> {
+pub struct TotalTold {
     /// What was counted over all lines.
     totals: Totals,
     /// A row for each key, in the order of the keys.
-    rows: Vec<KeyTold<'a>>,
+    rows: Vec<KeyTold>,
 }
 
-impl<'a> Model for TotalTold<'a> {
+impl Model for TotalTold {
     ghost use Rattle.ga_report.specs.Sound.{AreSound};
     ghost use Rattle.ga_report.specs.Told.{ToldValue};
 
@@ -29,17 +30,17 @@ impl<'a> Model for TotalTold<'a> {
     ghost invariant = { λ t. AreSound t.rows.items };
 }
 
-impl<'a> TotalTold<'a> {
+impl TotalTold {
     /// These totals, with these rows.
-    pub(crate) fn of(totals: Totals, rows: Vec<KeyTold<'a>>) -> TotalTold<'a>
+    pub(crate) fn of(totals: Totals, rows: Vec<KeyTold>) -> TotalTold
         requires { AreSound rows.items }
-        ensures { result ≡ record { totals = totals; rows = rows.entry.items } }
+        ensures { result ≡ record { totals = totals; rows = rows.items } }
     {
         TotalTold { totals, rows }
     }
 }
 
-impl<'a> Tells for TotalTold<'a> {
+impl Tells for TotalTold {
     ghost view = { λ told. told };
 
     fn totals(&self) -> Totals {
@@ -57,27 +58,27 @@ impl<'a> Tells for TotalTold<'a> {
 
 /// What a total tells of one key.
 #[derive(Drop)]
-pub(crate) struct KeyTold<'a> {
-    /// The key, which the total lends.
-    key: &'a Key,
-    /// Its sums, which the total lends.
-    sums: &'a Sums,
+pub(crate) struct KeyTold {
+    /// The key.
+    key: Key,
+    /// Its sums.
+    sums: Sums,
     /// How many visitors it has.
     visitors: u64,
 }
 
-impl<'a> Model for KeyTold<'a> {
+impl Model for KeyTold {
     ghost use Rattle.ga_report.specs.Told.{ToldRow};
 
     ghost Value = { ToldRow };
 
-    ghost view = { λ t. record { key = t.key.now; sums = t.sums.now; visitors = t.visitors } };
+    ghost view = { λ t. record { key = t.key; sums = t.sums; visitors = t.visitors } };
 }
 
-impl<'a> KeyTold<'a> {
+impl KeyTold {
     /// A key with what is told of it.
-    fn of(key: &'a Key, sums: &'a Sums, visitors: u64) -> KeyTold<'a>
-        ensures { result ≡ record { key = key.now; sums = sums.now; visitors = visitors } }
+    fn of(key: Key, sums: Sums, visitors: u64) -> KeyTold
+        ensures { result ≡ record { key = key; sums = sums; visitors = visitors } }
     {
         KeyTold {
             key,
@@ -87,20 +88,20 @@ impl<'a> KeyTold<'a> {
     }
 
     /// What is told, as a report reads it.
-    fn told(&self) -> Told<'a>
+    fn told(&self) -> Told<'_>
         ensures { result ≡ self.now }
     {
-        Told::of(self.key, *self.sums, self.visitors)
+        Told::of(&self.key, self.sums, self.visitors)
     }
 }
 
 /// What is told of each key, in the order of the keys. Sums and numbers of visitors stand at the keys' numbers.
-pub(crate) fn key_rows<'a>(
+pub(crate) fn key_rows(
     alloc: Global,
-    keys: &'a [Key],
-    sums: &'a [Sums],
+    keys: &[Key],
+    sums: &[Sums],
     visits: &[u64],
-) -> Result<Vec<KeyTold<'a>>, NoMemory>
+) -> Result<Vec<KeyTold>, NoMemory>
     requires sums { length sums.now ≡ length keys.now }
     requires visits { length visits.now ≡ length keys.now }
     ensures { IfOk result (λ rows. AreToldRows keys.now sums.now visits.now rows.items) }
@@ -109,7 +110,8 @@ pub(crate) fn key_rows<'a>(
     let mut rows = Vec::with_capacity(alloc, order.len())?;
     for entry in &order {
         let number = entry.number();
-        rows.push(KeyTold::of(entry.key(), &sums[number], visits[number]))?;
+        let key = entry.key().clone()?;
+        rows.push(KeyTold::of(key, sums[number], visits[number]))?;
     }
     Ok(rows)
 }

@@ -1,21 +1,15 @@
+ghost use Rattle.std.specs.Prelude.{IfOk};
+ghost use Rattle.ga_tallies.specs.Tallies.{lists_in};
+ghost use Rattle.ga_totals.specs.Steps.Rows.{AreWithin};
+
 use crate::Total;
-use ga_base::{Key, NoMemory, Panel, Sums, Text, Totals, Visitor};
+use crate::ranks::Ranks;
+use crate::visits::visits_of;
+use ga_base::{NoMemory, Text, Visitor};
 use ga_report::Tells;
 use ga_shards::Keyed;
-use ga_tallies::{Pair, Tally};
+use ga_tallies::Tally;
 use std::alloc::Global;
-
-/// A key for a host.
-fn key(alloc: Global, label: &str) -> Result<Key, NoMemory> {
-    Ok(Key {
-        panel: Panel::Hosts,
-        date: 20261128,
-        parent: Text::new(),
-        label: Text::of(alloc, label)?,
-        method: Text::new(),
-        protocol: Text::new(),
-    })
-}
 
 /// A visitor from a host.
 fn visitor(alloc: Global, host: &str) -> Result<Visitor, NoMemory> {
@@ -24,36 +18,6 @@ fn visitor(alloc: Global, host: &str) -> Result<Visitor, NoMemory> {
         date: 20261128,
         agent: Text::of(alloc, "curl")?,
     })
-}
-
-/// The sums of one line, of ten bytes and five microseconds.
-const SUMS: Sums = Sums {
-    hits: 1,
-    bytes: 10,
-    micros: 5,
-    max_micros: 5,
-};
-
-/// And its totals.
-const TOTALS: Totals = Totals {
-    lines: 1,
-    failed: 0,
-    excluded: 0,
-    hits: 1,
-    bytes: 10,
-    micros: 5,
-};
-
-#[test]
-fn parts_are_kept(rt: HostRuntime) -> Result<(), NoMemory> {
-    let alloc = rt.alloc();
-    let keys = vec![in alloc; key(alloc, "192.0.2.1")?]?;
-    let visitors = vec![in alloc; visitor(alloc, "192.0.2.1")?]?;
-    let sums = vec![in alloc; SUMS]?;
-    let pairs = vec![in alloc; Pair { key: 0, visitor: 0 }]?;
-    let total = Total::with(TOTALS, keys, visitors, sums, pairs);
-    assert_eq!(rt; total.totals(), TOTALS);
-    Ok(())
 }
 
 #[test]
@@ -82,5 +46,43 @@ fn no_lines_are_told(rt: HostRuntime) -> Result<(), NoMemory> {
     let told = total.told(alloc)?;
     assert_eq!(rt; told.totals(), total.totals());
     assert_eq!(rt; told.len(), 0);
+    Ok(())
+}
+
+/// The rows of four keys, of which the last has none: visitors 0 and 2 of the first key, nobody of the second, and visitors
+/// 2 and 1 of the third.
+fn rows(alloc: Global) -> Result<Vec<Vec<u32>>, NoMemory>
+    ensures { IfOk result (λ rows. AreWithin 3 (lists_in rows.items)) }
+{
+    let mut rows = Vec::new(alloc);
+    rows.push(vec![in alloc; 0, 2, 0, 0, 2]?)?;
+    rows.push(Vec::new(alloc))?;
+    rows.push(vec![in alloc; 2, 1]?)?;
+    Ok(rows)
+}
+
+#[test]
+fn a_visitor_counts_once_for_each_key(rt: HostRuntime) -> Result<(), NoMemory> {
+    let alloc = rt.alloc();
+    let visits = visits_of(alloc, 4, 3, &rows(alloc)?)?;
+    assert_eq!(rt; visits.len(), 4);
+    assert_eq!(rt; visits[0], 2);
+    assert_eq!(rt; visits[1], 0);
+    assert_eq!(rt; visits[2], 2);
+    assert_eq!(rt; visits[3], 0);
+    Ok(())
+}
+
+#[test]
+fn equal_names_are_one(rt: HostRuntime) -> Result<(), NoMemory> {
+    let alloc = rt.alloc();
+    let mut visitors = Vec::new(alloc);
+    visitors.push(visitor(alloc, "b")?)?;
+    visitors.push(visitor(alloc, "a")?)?;
+    visitors.push(visitor(alloc, "b")?)?;
+    let names = Ranks::of(alloc, &visitors)?.names_of(alloc, &vec![in alloc; 0, 2, 1, 0]?)?;
+    assert_eq!(rt; names.len(), 2);
+    assert_eq!(rt; names[0].host, Text::of(alloc, "a")?);
+    assert_eq!(rt; names[1].host, Text::of(alloc, "b")?);
     Ok(())
 }

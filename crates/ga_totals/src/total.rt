@@ -1,17 +1,16 @@
-ghost use Rattle.std.specs.Prelude.{◌≡◌, [], IfOk, List, true};
-ghost use Rattle.std.specs.List.{IsDistinct};
+ghost use Rattle.std.specs.Prelude.{◌≡◌, [], IfOk, List};
 ghost use Rattle.ga_summary.specs.Outcomes.{Outcome};
 ghost use Rattle.ga_summary.specs.Sound.{AllCountable, TotalsFit};
 ghost use Rattle.ga_summary.specs.Sums.{IsSumOf};
 ghost use Rattle.ga_tallies.specs.Tallies.{IsTallyOf};
-ghost use Rattle.ga_totals.specs.Totals.{IsOfCountable, TellsSumOf, batch_of, is_same_pair};
+ghost use Rattle.ga_totals.specs.Totals.{IsOfCountable, TellsSumOf};
 
 use crate::rows::rows_of;
 use crate::telling::{TotalTold, key_rows};
 use crate::visits::visits_of;
 use ga_base::{Key, NoMemory, Sums, Totals, Visitor};
 use ga_summary::{PartRows, Summary, SummaryParts};
-use ga_tallies::{Pair, Tally, TallyParts};
+use ga_tallies::{Tally, TallyParts};
 use std::alloc::Global;
 use std::marker::Model;
 
@@ -27,24 +26,26 @@ pub struct Total {
     visitors: Vec<Visitor>,
     /// The sums of each key, at its number.
     sums: Vec<Sums>,
-    /// The keys' visitors. A pair may stand there more than once.
-    pairs: Vec<Pair>,
-    /// Whether it is known that each pair stands there once.
-    once: bool,
+    /// The visitors of each key, by their numbers, at the key's number. Keys behind the last row have none, and a visitor may
+    /// stand in a row more than once.
+    visits: Vec<Vec<u32>>,
 }
 
 impl Model for Total {
-    ghost use Rattle.std.specs.Prelude.{◌≡◌, true};
-    ghost use Rattle.std.specs.List.{IsDistinct};
     ghost use Rattle.ga_summary.specs.Sound.{TotalsFit};
-    ghost use Rattle.ga_tallies.specs.Tallies.{TallySeen};
-    ghost use Rattle.ga_totals.specs.Totals.{batch_of, is_same_pair};
+    ghost use Rattle.ga_tallies.specs.Tallies.{TallySeen, lists_in, pairs_in};
 
     ghost Value = { TallySeen };
 
-    ghost view = { λ t. batch_of t.totals t.keys.items t.visitors.items t.sums.items t.pairs.items };
+    ghost view = { λ t. record {
+      totals = t.totals;
+      keys = t.keys.items;
+      visitors = t.visitors.items;
+      sums = t.sums.items;
+      pairs = pairs_in (lists_in t.visits.items);
+    } };
 
-    ghost invariant = { λ t. TotalsFit t.totals × (t.once ≡ true → IsDistinct is_same_pair t.pairs.items) };
+    ghost invariant = { λ t. TotalsFit t.totals };
 }
 
 impl Total {
@@ -64,8 +65,7 @@ impl Total {
             keys: Vec::new(alloc),
             visitors: Vec::new(alloc),
             sums: Vec::new(alloc),
-            pairs: Vec::new(alloc),
-            once: false,
+            visits: Vec::new(alloc),
         }
     }
 
@@ -80,64 +80,17 @@ impl Total {
             keys,
             visitors,
             sums,
-            pairs,
+            visits,
         } = tally.into_parts();
         let keys = keys.into_items(alloc)?;
         let visitors = visitors.into_items(alloc)?;
-        Ok(Total::with(totals, keys, visitors, sums, pairs))
-    }
-
-    /// The total with these parts: counters of which none passes `LIMIT`, keys and visitors at their numbers, the sums of each
-    /// key at its number, and pairs of a key's and a visitor's number, of which one may stand there more than once.
-    pub fn with(
-        totals: Totals,
-        keys: Vec<Key>,
-        visitors: Vec<Visitor>,
-        sums: Vec<Sums>,
-        pairs: Vec<Pair>,
-    ) -> Total
-        requires { TotalsFit totals }
-        ensures { result ≡ batch_of totals keys.items visitors.items sums.items pairs.items }
-    {
-        Total::made(totals, keys, visitors, sums, pairs, false)
-    }
-
-    /// The total with these parts, as `with` makes it, of pairs that stand there once each. It tells without sorting them.
-    pub fn with_distinct(
-        totals: Totals,
-        keys: Vec<Key>,
-        visitors: Vec<Visitor>,
-        sums: Vec<Sums>,
-        pairs: Vec<Pair>,
-    ) -> Total
-        requires fit { TotalsFit totals }
-        requires once { IsDistinct is_same_pair pairs.items }
-        ensures { result ≡ batch_of totals keys.items visitors.items sums.items pairs.items }
-    {
-        Total::made(totals, keys, visitors, sums, pairs, true)
-    }
-
-    /// The total with these parts, and whether it is known that each pair stands there once.
-    fn made(
-        totals: Totals,
-        keys: Vec<Key>,
-        visitors: Vec<Visitor>,
-        sums: Vec<Sums>,
-        pairs: Vec<Pair>,
-        once: bool,
-    ) -> Total
-        requires fit { TotalsFit totals }
-        requires once { once ≡ true → IsDistinct is_same_pair pairs.items }
-        ensures { result ≡ batch_of totals keys.items visitors.items sums.items pairs.items }
-    {
-        Total {
+        Ok(Total {
             totals,
             keys,
             visitors,
             sums,
-            pairs,
-            once,
-        }
+            visits,
+        })
     }
 
     /// What was counted over all lines. No counter passes `LIMIT`.
@@ -149,13 +102,14 @@ impl Total {
     }
 
     /// The summary of all that was counted: rows in the order of their keys, and names in theirs. It takes the time of
-    /// sorting the keys and the pairs.
+    /// sorting the keys, the visitors once by their names, and the numbers in each row; and the memory of the visitors'
+    /// ranks.
     pub fn summary(&self, alloc: Global) -> Result<Summary, NoMemory>
         requires { IsOfCountable self.now }
         ensures { IfOk result (λ sum. (xs : List Outcome) → IsTallyOf xs self.now → AllCountable xs
             → IsSumOf xs sum) }
     {
-        let rows = rows_of(alloc, &self.keys, &self.sums, &self.visitors, &self.pairs)?;
+        let rows = rows_of(alloc, &self.keys, &self.sums, &self.visitors, &self.visits)?;
         Summary::of_parts(SummaryParts {
             totals: self.totals,
             rows: PartRows::from(rows),
@@ -163,14 +117,14 @@ impl Total {
     }
 
     /// What the total tells to a report: what the summary would tell, without its names. It takes the time of sorting the
-    /// keys. Where it isn't known that each pair stands there once, it takes the time of sorting the pairs too, and the
-    /// memory of a copy of them.
-    pub fn told(&self, alloc: Global) -> Result<TotalTold<'_>, NoMemory>
+    /// keys, and of one look at each visitor of each row; and the memory of a mark for each visitor and of a copy
+    /// of each key.
+    pub fn told(&self, alloc: Global) -> Result<TotalTold, NoMemory>
         requires { IsOfCountable self.now }
         ensures { IfOk result (λ told. (xs : List Outcome) → IsTallyOf xs self.now → AllCountable xs
             → TellsSumOf xs told) }
     {
-        let visits = visits_of(alloc, self.keys.len(), &self.pairs, self.once)?;
+        let visits = visits_of(alloc, self.keys.len(), self.visitors.len(), &self.visits)?;
         let rows = key_rows(alloc, &self.keys, &self.sums, &visits)?;
         Ok(TotalTold::of(self.totals, rows))
     }

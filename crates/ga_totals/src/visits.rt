@@ -1,66 +1,56 @@
-ghost use Rattle.std.specs.Prelude.{◌≡◌, ◌+◌, ◌*◌, ◌<◌, All, IfOk, map, true};
-ghost use Rattle.std.specs.List.{IsDistinct};
-ghost use Rattle.ga_tallies.specs.Tallies.{pair_of};
-ghost use Rattle.ga_totals.specs.Steps.Telling.{AreCounts, AreDifferent, AreVisits, pair_cmp};
-ghost use Rattle.ga_totals.specs.Totals.{is_same_pair};
+ghost use Rattle.std.specs.Prelude.{◌≡◌, ◌<◌, ◌≤◌, All, IfOk, eqb, length};
+ghost use Rattle.std.specs.Set.{distinct_count};
+ghost use Rattle.ga_tallies.specs.Tallies.{lists_in, pairs_in};
+ghost use Rattle.ga_totals.specs.Steps.Rows.{AreWithin, visitors_at};
+ghost use Rattle.ga_totals.specs.Steps.Telling.{AreVisits};
 
 use ga_base::NoMemory;
-use ga_tallies::Pair;
 use std::alloc::Global;
-use std::cmp::Ordering;
 
-/// How many visitors each key has, at the key's number. Of equal pairs one counts. Pairs that are known to stand there once
-/// each are neither copied nor sorted.
+/// How many visitors each key has, at the key's number. Each is looked at once where it stands in a row, and counts once
+/// for the row's key.
 pub(crate) fn visits_of(
     alloc: Global,
     keys: usize,
-    pairs: &[Pair],
-    once: bool,
+    visitors: usize,
+    rows: &[Vec<u32>],
 ) -> Result<Vec<u64>, NoMemory>
-    requires within { All (λ pair. pair.key < keys) pairs.now }
-    requires once { once ≡ true → IsDistinct is_same_pair pairs.now }
-    ensures { IfOk result (λ visits. AreVisits keys (map pair_of pairs.now) visits.items) }
+    requires { AreWithin visitors (lists_in rows.now) }
+    ensures { IfOk result (λ visits. AreVisits keys (pairs_in (lists_in rows.now)) visits.items) }
 {
-    if once {
-        return count(alloc, keys, pairs);
+    let mut marks = vec![in alloc; 0u64; visitors]?;
+    let mut visits = Vec::with_capacity(alloc, keys)?;
+    for number in 0..keys {
+        let row = row_at(rows, number);
+        visits.push(count_different(&mut marks, number as u64 + 1, row))?;
     }
-    let pairs = different(alloc, pairs)?;
-    count(alloc, keys, &pairs)
+    Ok(visits)
 }
 
-/// The pairs, each once.
-fn different(alloc: Global, pairs: &[Pair]) -> Result<Vec<Pair>, NoMemory>
-    ensures { IfOk result (λ different. AreDifferent pairs.now different.items) }
+/// The visitors of a key's number, of rows that have them at the keys' numbers. Behind the last row there are none.
+pub(crate) fn row_at(rows: &[Vec<u32>], number: usize) -> &[u32]
+    ensures { result.now ≡ visitors_at (lists_in rows.now) number }
 {
-    let mut different = pairs.to_vec(alloc)?;
-    different.sort_unstable_by(|a, b| by_numbers(a, b));
-    different.dedup();
-    Ok(different)
-}
-
-/// The order of two pairs, which compares one word of each.
-fn by_numbers(a: &Pair, b: &Pair) -> Ordering
-    ensures { result ≡ pair_cmp a.now b.now }
-{
-    word_of(a).cmp(&word_of(b))
-}
-
-/// Both numbers of a pair as one word, the key's first.
-fn word_of(pair: &Pair) -> u64
-    ensures value { result ≡ 4294967296 * pair.now.key + pair.now.visitor }
-    ensures rest { pair.now.visitor < 4294967296 }
-{
-    u64::from(pair.key) * 4_294_967_296 + u64::from(pair.visitor)
-}
-
-/// How many pairs each key has, at the key's number.
-fn count(alloc: Global, keys: usize, pairs: &[Pair]) -> Result<Vec<u64>, NoMemory>
-    requires { All (λ pair. pair.key < keys) pairs.now }
-    ensures { IfOk result (λ counts. AreCounts keys pairs.now counts.items) }
-{
-    let mut counts = vec![in alloc; 0u64; keys]?;
-    for pair in pairs {
-        counts[pair.key as usize] += 1;
+    match rows.get(number) {
+        Some(row) => row,
+        None => &[],
     }
-    Ok(counts)
+}
+
+/// How many different visitors stand in a row. Each has the mark then, which none had before.
+fn count_different(marks: &mut [u64], mark: u64, row: &[u32]) -> u64
+    requires within { All (λ v. v < length marks.old) row.now }
+    requires new { All (λ m. m < mark) marks.old }
+    ensures count { result ≡ distinct_count eqb row.now }
+    ensures marks { All (λ m. m ≤ mark) marks.new }
+{
+    let mut count = 0;
+    for visitor in row {
+        let place = &mut marks[*visitor as usize];
+        if *place != mark {
+            *place = mark;
+            count += 1;
+        }
+    }
+    count
 }

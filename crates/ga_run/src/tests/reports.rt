@@ -20,6 +20,31 @@ pub const REPORTS: &str = "\
 {\"browsers\":{\"data\":[{\"avgts\":0,\"bytes\":{\"count\":512,\"percent\":\"100.00\"},\"cumts\":0,\"data\":\"Firefox\",\"hits\":{\"count\":1,\"percent\":\"100.00\"},\"items\":[{\"avgts\":0,\"bytes\":{\"count\":512,\"percent\":\"100.00\"},\"cumts\":0,\"data\":\"Firefox/124.0\",\"hits\":{\"count\":1,\"percent\":\"100.00\"},\"maxts\":0,\"visitors\":{\"count\":1,\"percent\":\"100.00\"}}],\"maxts\":0,\"visitors\":{\"count\":1,\"percent\":\"100.00\"}}]},\"cache_status\":{\"data\":[]},\"general\":{\"bandwidth\":512,\"excluded_hits\":0,\"failed_requests\":0,\"total_requests\":1,\"unique_visitors\":1,\"valid_requests\":1},\"hosts\":{\"data\":[{\"avgts\":0,\"bytes\":{\"count\":512,\"percent\":\"100.00\"},\"cumts\":0,\"data\":\"203.0.113.7\",\"hits\":{\"count\":1,\"percent\":\"100.00\"},\"maxts\":0,\"visitors\":{\"count\":1,\"percent\":\"100.00\"}}]},\"keyphrases\":{\"data\":[]},\"mime_type\":{\"data\":[]},\"not_found\":{\"data\":[]},\"os\":{\"data\":[{\"avgts\":0,\"bytes\":{\"count\":512,\"percent\":\"100.00\"},\"cumts\":0,\"data\":\"Linux\",\"hits\":{\"count\":1,\"percent\":\"100.00\"},\"items\":[{\"avgts\":0,\"bytes\":{\"count\":512,\"percent\":\"100.00\"},\"cumts\":0,\"data\":\"Linux\",\"hits\":{\"count\":1,\"percent\":\"100.00\"},\"maxts\":0,\"visitors\":{\"count\":1,\"percent\":\"100.00\"}}],\"maxts\":0,\"visitors\":{\"count\":1,\"percent\":\"100.00\"}}]},\"referrers\":{\"data\":[{\"avgts\":0,\"bytes\":{\"count\":512,\"percent\":\"100.00\"},\"cumts\":0,\"data\":\"https://www.example.org/start\",\"hits\":{\"count\":1,\"percent\":\"100.00\"},\"maxts\":0,\"visitors\":{\"count\":1,\"percent\":\"100.00\"}}]},\"referring_sites\":{\"data\":[{\"avgts\":0,\"bytes\":{\"count\":512,\"percent\":\"100.00\"},\"cumts\":0,\"data\":\"www.example.org\",\"hits\":{\"count\":1,\"percent\":\"100.00\"},\"maxts\":0,\"visitors\":{\"count\":1,\"percent\":\"100.00\"}}]},\"remote_user\":{\"data\":[]},\"requests\":{\"data\":[{\"avgts\":0,\"bytes\":{\"count\":512,\"percent\":\"100.00\"},\"cumts\":0,\"data\":\"/index.html\",\"hits\":{\"count\":1,\"percent\":\"100.00\"},\"maxts\":0,\"method\":\"GET\",\"protocol\":\"HTTP/1.1\",\"visitors\":{\"count\":1,\"percent\":\"100.00\"}}]},\"requests_static\":{\"data\":[]},\"status_codes\":{\"data\":[{\"avgts\":0,\"bytes\":{\"count\":512,\"percent\":\"100.00\"},\"cumts\":0,\"data\":\"2xx Success\",\"hits\":{\"count\":1,\"percent\":\"100.00\"},\"items\":[{\"avgts\":0,\"bytes\":{\"count\":512,\"percent\":\"100.00\"},\"cumts\":0,\"data\":\"200\",\"hits\":{\"count\":1,\"percent\":\"100.00\"},\"maxts\":0,\"visitors\":{\"count\":1,\"percent\":\"100.00\"}}],\"maxts\":0,\"visitors\":{\"count\":1,\"percent\":\"100.00\"}}]},\"tls_type\":{\"data\":[]},\"virtual_hosts\":{\"data\":[]},\"visit_times\":{\"data\":[{\"avgts\":0,\"bytes\":{\"count\":512,\"percent\":\"100.00\"},\"cumts\":0,\"data\":\"08\",\"hits\":{\"count\":1,\"percent\":\"100.00\"},\"maxts\":0,\"visitors\":{\"count\":1,\"percent\":\"100.00\"}}]},\"visitors\":{\"data\":[{\"avgts\":0,\"bytes\":{\"count\":512,\"percent\":\"100.00\"},\"cumts\":0,\"data\":\"20240312\",\"hits\":{\"count\":1,\"percent\":\"100.00\"},\"maxts\":0,\"visitors\":{\"count\":1,\"percent\":\"100.00\"}}]}}
 
 =====
+--log-format=COMMON|-o|csv|a.log
+-----
+192.0.2.1 - - [01/Jan/2024:00:00:00 +0000] \"GET /a HTTP/1.1\" 200 1000000000000000000
+192.0.2.1 - - [01/Jan/2024:00:00:00 +0000] \"GET /a HTTP/1.1\" 200 1000000000000000000
+192.0.2.1 - - [01/Jan/2024:00:00:00 +0000] \"GET /a HTTP/1.1\" 200 1000000000000000000
+192.0.2.1 - - [01/Jan/2024:00:00:00 +0000] \"GET /a HTTP/1.1\" 200 1000000000000000000
+192.0.2.1 - - [01/Jan/2024:00:00:00 +0000] \"GET /a HTTP/1.1\" 200 611686018427387903
+
+-----
+0
+id,parent_id,panel,hits,hits%,visitors,visitors%,bytes,bytes%,avgts,cumts,maxts,method,protocol,data
+0,,general,5,,,,,,,,,,,total_requests
+1,,general,5,,,,,,,,,,,valid_requests
+2,,general,0,,,,,,,,,,,failed_requests
+3,,general,0,,,,,,,,,,,excluded_hits
+4,,general,1,,,,,,,,,,,unique_visitors
+5,,general,4611686018427387903,,,,,,,,,,,bandwidth
+0,,visitors,5,100.00,1,100.00,4611686018427387903,100.00,0,0,0,,,20240101
+0,,requests,5,100.00,1,100.00,4611686018427387903,100.00,0,0,0,GET,HTTP/1.1,/a
+0,,hosts,5,100.00,1,100.00,4611686018427387903,100.00,0,0,0,,,192.0.2.1
+0,,visit_times,5,100.00,1,100.00,4611686018427387903,100.00,0,0,0,,,00
+0,,status_codes,5,100.00,1,100.00,4611686018427387903,100.00,0,0,0,,,2xx Success
+1,0,status_codes,5,100.00,1,100.00,4611686018427387903,100.00,0,0,0,,,200
+
+=====
 --log-format=COMMON|-o|csv|a.log|b.log
 -----
 192.0.2.1 - - [01/Jan/2024:00:00:00 +0000] \"GET /a HTTP/1.1\" 200 10

@@ -8,7 +8,7 @@ use Rattle.ga_panels.specs.Known.{facts_of, record_of, setup_of}
 use Rattle.ga_panels.specs.Table.{table_keys}
 use Rattle.ga_panels.specs.declared.record_facts.RecordFacts.{RecordFacts}
 use Rattle.ga_shards.specs.Numbers.{noted, place_of}
-use Rattle.ga_tallies.specs.Adding.{AddsPair, added_at}
+use Rattle.ga_tallies.specs.Adding.{AddsOne, added_at}
 use Rattle.ga_tallies.specs.Tallies.{TallySeen}
 
 -- an item was noted in a list of different ones, and has this number
@@ -20,7 +20,7 @@ pub record IsNumbered {T : Type 0} (eq : T → T → Bool) (item : T) (n : ℕ) 
 -- a key's number was put down with a visitor's, where there is a visitor
 abbrev pub AddsVisit : ℕ → Option ℕ → List (ℕ × ℕ) → List (ℕ × ℕ) → Type 0
 AddsVisit k None old new = new ≡ old
-AddsVisit k (Some v) old new = AddsPair (k, v) old new
+AddsVisit k (Some v) old new = AddsOne (k, v) old new
 
 -- one key of a line was noted, with its visitor's number
 pub record NotesKey (key : Key) (visitor : Option ℕ) (line : Sums) (old new : TallySeen) : Type 0 where

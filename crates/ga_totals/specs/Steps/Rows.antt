@@ -1,5 +1,5 @@
 -- The rows that are made of a total's lists.
-use Rattle.std.specs.Prelude.{◌≡◌, ℕ, List, [], Some, All, map, slice_get, slice_index_or}
+use Rattle.std.specs.Prelude.{◌≡◌, ◌<◌, ℕ, List, [], Some, All, map, slice_get, slice_index_or}
 use Rattle.std.specs.List.{Contains}
 use Rattle.std.specs.List.Sorted.{IsPermutation, IsSorted, IsStrictlySortedBy}
 use Rattle.std.specs.declared.cmp.Ordering.{Ordering}
@@ -9,7 +9,6 @@ use Rattle.ga_base.specs.declared.key.Visitor.{Visitor}
 use Rattle.ga_base.specs.declared.name.Name.{Name}
 use Rattle.ga_base.specs.Orders.{key_cmp, name_cmp, name_of}
 use Rattle.ga_summary.specs.Rows.{Row}
-use Rattle.ga_tallies.specs.declared.pairs.Pair.{Pair}
 
 -- a key with its number
 pub record NumberedKey : Type 0 where
@@ -29,11 +28,19 @@ pub record AreByKey (keys : List Key) (all : List NumberedKey) : Type 0 where
 abbrev pub name_at : List Visitor → ℕ → Name
 name_at visitors v = name_of (slice_index_or visitors v (record { host = []; date = 0; agent = [] }))
 
--- the names of the visitors of pairs, each once, in their order
-pub record AreNamesOf (visitors : List Visitor) (pairs : List Pair) (names : List Name) : Type 0 where
+-- the visitors of a key's number, of rows that have them at the keys' numbers: none behind the last row
+abbrev pub visitors_at : List (List ℕ) → ℕ → List ℕ
+visitors_at rows number = slice_index_or rows number []
+
+-- rows of visitors of whom there are so many
+abbrev pub AreWithin : ℕ → List (List ℕ) → Type 0
+AreWithin visitors rows = All (λ row. All (λ v. v < visitors) row) rows
+
+-- the names of the visitors with these numbers, each once, in their order
+pub record AreNamesOf (visitors : List Visitor) (row : List ℕ) (names : List Name) : Type 0 where
   pub rising : IsStrictlySortedBy name_cmp names
-  pub only : (name : Name) → Contains names name → (pair : Pair) × Contains pairs pair × (name_at visitors pair.visitor ≡ name)
-  pub all : (pair : Pair) → Contains pairs pair → Contains names (name_at visitors pair.visitor)
+  pub only : (name : Name) → Contains names name → (v : ℕ) × Contains row v × (name_at visitors v ≡ name)
+  pub all : (v : ℕ) → Contains row v → Contains names (name_at visitors v)
 
 -- the row of a key
 pub record IsRowOf (key : NumberedKey) (sums : List Sums) (visitors : List Visitor) (pairs : List (ℕ × ℕ)) (row : Row) : Type 0 where

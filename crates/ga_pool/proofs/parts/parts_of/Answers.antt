@@ -1,7 +1,7 @@
 use Rattle.std.proofs.Common.{◌∷◌, [], ◌++◌, List, sym, ap, ◌∙◌, subst}
 use Rattle.std.specs.List.{AllZip}
 use Rattle.std.proofs.lemmas.List.{map-append}
-use Rattle.ga_tallies.specs.Tallies.{TallySeen}
+use Rattle.ga_tallies.specs.Tallies.{TallySeen, lists_in, pairs_in}
 use Rattle.ga_pool.specs.declared.parts.Rows.{Rows}
 use Rattle.ga_pool.specs.Steps.Parts.{AreRowsOf}
 use Rattle.ga_pool.proofs.parts.parts_of.Goals as goal
@@ -17,7 +17,7 @@ loop-tally-preserved c =
     let before = c.loop-tally.invariant in
     let parts = c.into_parts-its_keys.result in
     let seen = c.into_parts-its_keys.ensures in
-    let rows : Rows = record { totals = parts.totals; sums = parts.sums; pairs = parts.pairs } in
+    let rows : Rows = record { totals = parts.totals; sums = parts.sums; pairs = c.in_ok-pairs_of.field-0 } in
     record {
       keys =
           c.in_ok-push.ensures.items ∙ (λ i. before.keys i ++ (seen i).keys ∷ []) ∙ sym (map-append (λ (t : TallySeen). t.keys) c.loop-tally.yielded (c.in-Some.tally ∷ []));
@@ -26,5 +26,5 @@ loop-tally-preserved c =
       rows =
           subst (AllZip AreRowsOf (c.loop-tally.yielded ++ c.in-Some.tally ∷ [])) (sym c.in_ok-push-3.ensures.items)
           (zip-push AreRowsOf c.loop-tally.yielded c.loop-tally.rows.items c.in-Some.tally rows before.rows
-          record { totals = ap (λ (t : TallySeen). t.totals) seen; sums = ap (λ (t : TallySeen). t.sums) seen; pairs = ap (λ (t : TallySeen). t.pairs) seen });
+          record { totals = ap (λ (t : TallySeen). t.totals) seen; sums = ap (λ (t : TallySeen). t.sums) seen; pairs = c.in_ok-pairs_of.ensures ∙ (λ i. pairs_in (lists_in (c.deref.ensures.value i))) ∙ ap (λ (t : TallySeen). t.pairs) seen });
     }

@@ -1,31 +1,58 @@
-use Rattle.std.proofs.Common.{◌≡◌, List, arith}
+use Rattle.std.proofs.Common.{◌≡◌, ◌∷◌, ◌++◌, [], ◌≢◌, ◌<◌, List, append_assoc, append-nil, ap, arith, length, remove, subst, sym, vec_len, ◌∙◌}
+use Rattle.std.proofs.lemmas.Bool.{eqb-true, eqb-false}
+use Rattle.std.specs.Vec.Iter.{into_iter_items}
 use Rattle.std.proofs.lemmas.Result.{IfOk-weaker}
-use Rattle.ga_pool.specs.Batches.{StandsForSum}
 use Rattle.ga_pool.specs.Together.{AreCounted}
-use Rattle.ga_streams.proofs.Counts.{tallies-fit}
-use Rattle.ga_streams.proofs.OneTally.{total-none, total-one}
+use Rattle.ga_streams.proofs.Absorbed.{absorbed-counted, absorbed-more, absorbed-one, first-removed, next-fits, none-counted}
+use Rattle.ga_streams.proofs.Counts.{no-items, tallies-fit}
 use Rattle.ga_summary.specs.Outcomes.{Outcome}
-use Rattle.ga_summary.specs.Sound.{AllCountable}
-use Rattle.ga_tallies.specs.Tallies.{IsTallyOf}
+use Rattle.ga_tallies.specs.Tallies.{IsTallyOf, TallySeen}
+use Rattle.ga_streams.specs.Steps.{AreAbsorbed}
 use Rattle.ga_streams.proofs.total.total_of.Goals as goal
 
-pub put_together-requires-clause-fit : goal.put_together-requires-clause-fit
-put_together-requires-clause-fit g c κs within =
+pub returns-then-is_empty : goal.returns-then-is_empty
+returns-then-is_empty g c outcomes are =
+    let len : vec_len c.args.tallies ≡ 0 = eqb-true _ _ (sym c.is_empty.ensures ∙ c.if-is_empty.true) in
+    let none : length c.args.tallies.items ≡ 0 = omega (arith, len, c.args.tallies.ok) in
+    none-counted c.args.tallies.items c.new.result (no-items c.args.tallies.items none) c.new.ensures outcomes are
+
+pub loop-other-init : goal.loop-other-init
+loop-other-init g c =
+    let len : vec_len c.args.tallies ≢ 0 = eqb-false _ _ (sym c.is_empty.ensures ∙ c.if-is_empty.false) in
+    let some : 0 < length c.args.tallies.items = omega (arith, len, c.args.tallies.ok) in
+    let left : remove c.args.tallies.items 0 ≡ into_iter_items c.into_iter-other-iterator.result = sym (c.into_iter-other-iterator.ensures.into_iter_gives.0 ∙ c.remove-tally.ensures.items) in
+    record {
+      absorbed = absorbed-one c.remove-tally.result;
+      rest = first-removed c.args.tallies.items c.remove-tally.result c.remove-tally.ensures.value some ∙ ap (λ (l : List TallySeen). c.remove-tally.result ∷ l) left;
+    }
+
+pub absorb-requires : goal.absorb-requires
+absorb-requires g c =
     let some = c.requires.some in
-    tallies-fit some.0 c.args.tallies.items some.1 some.2
+    let steps = c.in-Some.ensures.steps.0 in
+    next-fits c.args.tallies.items (c.remove-tally.result ∷ c.loop-other.yielded) c.in-Some.other _ c.loop-other.tally
+    (c.loop-other.invariant.rest ∙ ap (λ (l : List TallySeen). c.remove-tally.result ∷ (c.loop-other.yielded ++ l)) steps) c.loop-other.invariant.absorbed
+    (tallies-fit some.0 c.args.tallies.items some.1 some.2)
 
-pub returns-then-len-gt1 : goal.returns-then-len-gt1
-returns-then-len-gt1 g c =
-    let counted = c.in_ok-put_together.field-0 in
-    IfOk-weaker c.of_tables.result (λ total. (os : List Outcome) → StandsForSum os counted → IsTallyOf os total)
-    (λ total. (os : List Outcome) → AreCounted os c.args.tallies.items → AllCountable os → IsTallyOf os total)
-    (λ total read os are countable. read os (c.in_ok-put_together.ensures os are countable)) c.of_tables.ensures
-
-pub returns-in-None : goal.returns-in-None
-returns-in-None g c os are countable = total-none c.args.tallies.items c.new.result (omega (arith, c.in-None.ensures.cases, c.args.tallies.ok)) c.new.ensures os are
+pub loop-other-preserved : goal.loop-other-preserved
+loop-other-preserved g c =
+    let steps = c.in-Some.ensures.steps.0 in
+    record {
+      absorbed =
+          absorbed-more (c.remove-tally.result ∷ c.loop-other.yielded) c.in-Some.other c.loop-other.tally c.absorb.new.self c.loop-other.invariant.absorbed
+          c.in_ok-absorb.ensures.totals c.in_ok-absorb.ensures.absorbed;
+      rest =
+          c.loop-other.invariant.rest
+          ∙ ap (λ (l : List TallySeen). c.remove-tally.result ∷ (c.loop-other.yielded ++ l)) steps
+          ∙ ap (λ (l : List TallySeen). c.remove-tally.result ∷ l) (sym (append_assoc c.loop-other.yielded (c.in-Some.other ∷ []) _));
+    }
 
 pub returns : goal.returns
 returns g c =
-    IfOk-weaker c.of.result (λ total. total ≡ c.in-Some.tally) (λ total. (os : List Outcome) → AreCounted os c.args.tallies.items → AllCountable os → IsTallyOf os total)
-    (λ total is os are countable. total-one c.args.tallies.items c.pop.new.self.items c.in-Some.tally total c.in-Some.ensures.items
-    (omega (arith, c.len.ensures, c.if-len-gt1.false, c.args.tallies.ok)) is os are) c.of.ensures
+    let first = c.remove-tally.result in
+    let rest = c.loop-other.other-iterator.rest in
+    let short : length rest.items ≡ 0 = omega (arith, c.in-None.ensures.steps.0, rest.ok) in
+    let end = c.loop-other.invariant.rest ∙ ap (λ (l : List TallySeen). first ∷ (c.loop-other.yielded ++ l)) (no-items rest.items short) ∙ ap (λ (l : List TallySeen). first ∷ l) (append-nil c.loop-other.yielded) in
+    let all = subst (λ (l : List TallySeen). AreAbsorbed l c.loop-other.tally) (sym end) c.loop-other.invariant.absorbed in
+    IfOk-weaker c.of.result (λ total. total ≡ c.loop-other.tally) (λ total. (outcomes : List Outcome) → AreCounted outcomes c.args.tallies.items → IsTallyOf outcomes total)
+    (λ total is. absorbed-counted c.args.tallies.items total (subst (AreAbsorbed c.args.tallies.items) (sym is) all)) c.of.ensures

@@ -15,7 +15,7 @@ returns-in_ok-total_of-in-None-clause-ok g c setup all has =
     let is : AreInTotal setup inside.start all total = record {
       outcomes = was.outcomes;
       come = was.come;
-      tally = c.in_ok-total_of-in-None.ensures was.outcomes was.tallied.counted was.tallied.countable;
+      tally = c.in_ok-total_of-in-None.ensures was.outcomes was.tallied.counted;
       countable = was.tallied.countable;
       fits = was.tallied.fits;
     } in

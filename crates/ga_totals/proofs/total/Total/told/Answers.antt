@@ -1,20 +1,16 @@
-use Rattle.std.proofs.Common.{◌≡◌, length, map, refl, sym, subst, arith}
-use Rattle.std.specs.List.{IsDistinct}
-use Rattle.ga_tallies.specs.Tallies.{IsTallyOf, pair_of}
+use Rattle.std.proofs.Common.{◌≡◌, length, refl, sym, subst, arith}
+use Rattle.ga_tallies.specs.Tallies.{IsTallyOf, lists_in, pairs_in}
 use Rattle.ga_totals.specs.Steps.Telling.{AreToldRows, AreVisits}
-use Rattle.ga_totals.specs.Totals.{TellsSumOf, is_same_pair}
-use Rattle.ga_totals.proofs.OfOutcomes.{keys-within}
+use Rattle.ga_totals.specs.Totals.{TellsSumOf}
+use Rattle.ga_totals.proofs.OfOutcomes.{rows-within}
 use Rattle.ga_totals.proofs.Told.{tells-sum, tells-sound}
 use Rattle.ga_totals.proofs.total.Total.told.Goals as goal
 
-pub visits_of-requires-clause-within : goal.visits_of-requires-clause-within
-visits_of-requires-clause-within c =
-    let many : c.len.result ≡ length c.self.inside.keys.items = omega (arith, c.len.ensures, c.self.inside.keys.ok) in
+pub visits_of-requires : goal.visits_of-requires
+visits_of-requires c =
+    let many : c.len-2.result ≡ length c.self.inside.visitors.items = omega (arith, c.len-2.ensures, c.self.inside.visitors.ok) in
     let is = subst (IsTallyOf c.requires.outcomes) (sym c.self.view_is) c.requires.tally in
-    rw (many, c.deref.ensures.value) (keys-within c.requires.outcomes _ c.self.inside.pairs.items is refl)
-
-pub visits_of-requires-clause-once : goal.visits_of-requires-clause-once
-visits_of-requires-clause-once c once = subst (IsDistinct is_same_pair) (sym c.deref.ensures.value) (c.self.invariant.1 once)
+    rw (many, c.deref.ensures.value) (rows-within c.requires.outcomes _ (lists_in c.self.inside.visits.items) is refl)
 
 pub of-requires : goal.of-requires
 of-requires c =
@@ -22,10 +18,10 @@ of-requires c =
     let visits = c.in_ok-visits.visits.items in
     let rows = c.in_ok-rows.rows.items in
     let many : c.len.result ≡ length inside.keys.items = omega (arith, c.len.ensures, inside.keys.ok) in
-    let are_visits : AreVisits (length inside.keys.items) (map pair_of inside.pairs.items) visits = rw (many, c.deref.ensures.value) at c.in_ok-visits.ensures in
+    let are_visits : AreVisits (length inside.keys.items) (pairs_in (lists_in inside.visits.items)) visits = rw (many, c.deref.ensures.value) at c.in_ok-visits.ensures in
     let are : AreToldRows inside.keys.items inside.sums.items visits rows = rw (c.deref-2.ensures.value, c.deref-3.ensures.value, c.deref-4.ensures.value) at c.in_ok-rows.ensures in
     let is = subst (IsTallyOf c.requires.outcomes) (sym c.self.view_is) c.requires.tally in
-    tells-sound c.requires.outcomes _ (tells-sum c.requires.outcomes _ visits rows is c.requires.countable c.self.invariant.0 are_visits are)
+    tells-sound c.requires.outcomes _ (tells-sum c.requires.outcomes _ visits rows is c.requires.countable c.self.invariant are_visits are)
 
 pub returns : goal.returns
 returns c =
@@ -33,7 +29,7 @@ returns c =
     let visits = c.in_ok-visits.visits.items in
     let rows = c.in_ok-rows.rows.items in
     let many : c.len.result ≡ length inside.keys.items = omega (arith, c.len.ensures, inside.keys.ok) in
-    let are_visits : AreVisits (length inside.keys.items) (map pair_of inside.pairs.items) visits = rw (many, c.deref.ensures.value) at c.in_ok-visits.ensures in
+    let are_visits : AreVisits (length inside.keys.items) (pairs_in (lists_in inside.visits.items)) visits = rw (many, c.deref.ensures.value) at c.in_ok-visits.ensures in
     let are : AreToldRows inside.keys.items inside.sums.items visits rows = rw (c.deref-2.ensures.value, c.deref-3.ensures.value, c.deref-4.ensures.value) at c.in_ok-rows.ensures in
     λ xs tally can.
-    subst (TellsSumOf xs) (sym c.of.ensures) (tells-sum xs _ visits rows (subst (IsTallyOf xs) (sym c.self.view_is) tally) can c.self.invariant.0 are_visits are)
+    subst (TellsSumOf xs) (sym c.of.ensures) (tells-sum xs _ visits rows (subst (IsTallyOf xs) (sym c.self.view_is) tally) can c.self.invariant are_visits are)
