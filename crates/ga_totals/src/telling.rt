@@ -9,17 +9,16 @@ use std::alloc::Global;
 use std::marker::Model;
 
 /// What a total tells to a report: its keys in their order, each with its sums and the number of its visitors. It makes
-/// no names. Keys and sums are copies that stand in this order, so that a report, which goes along them again and again,
-/// finds each beside the one before.
+/// no names.
 #[derive(Drop)]
-pub struct TotalTold {
+pub struct TotalTold<'a> {
     /// What was counted over all lines.
     totals: Totals,
     /// A row for each key, in the order of the keys.
-    rows: Vec<KeyTold>,
+    rows: Vec<KeyTold<'a>>,
 }
 
-impl Model for TotalTold {
+impl<'a> Model for TotalTold<'a> {
     ghost use Rattle.ga_report.specs.Sound.{AreSound};
     ghost use Rattle.ga_report.specs.Told.{ToldValue};
 
@@ -30,17 +29,17 @@ impl Model for TotalTold {
     ghost invariant = { λ t. AreSound t.rows.items };
 }
 
-impl TotalTold {
+impl<'a> TotalTold<'a> {
     /// These totals, with these rows.
-    pub(crate) fn of(totals: Totals, rows: Vec<KeyTold>) -> TotalTold
+    pub(crate) fn of(totals: Totals, rows: Vec<KeyTold<'a>>) -> TotalTold<'a>
         requires { AreSound rows.items }
-        ensures { result ≡ record { totals = totals; rows = rows.items } }
+        ensures { result ≡ record { totals = totals; rows = rows.entry.items } }
     {
         TotalTold { totals, rows }
     }
 }
 
-impl Tells for TotalTold {
+impl<'a> Tells for TotalTold<'a> {
     ghost view = { λ told. told };
 
     fn totals(&self) -> Totals {
@@ -58,27 +57,27 @@ impl Tells for TotalTold {
 
 /// What a total tells of one key.
 #[derive(Drop)]
-pub(crate) struct KeyTold {
-    /// The key.
-    key: Key,
-    /// Its sums.
-    sums: Sums,
+pub(crate) struct KeyTold<'a> {
+    /// The key, which the total lends.
+    key: &'a Key,
+    /// Its sums, which the total lends.
+    sums: &'a Sums,
     /// How many visitors it has.
     visitors: u64,
 }
 
-impl Model for KeyTold {
+impl<'a> Model for KeyTold<'a> {
     ghost use Rattle.ga_report.specs.Told.{ToldRow};
 
     ghost Value = { ToldRow };
 
-    ghost view = { λ t. record { key = t.key; sums = t.sums; visitors = t.visitors } };
+    ghost view = { λ t. record { key = t.key.now; sums = t.sums.now; visitors = t.visitors } };
 }
 
-impl KeyTold {
+impl<'a> KeyTold<'a> {
     /// A key with what is told of it.
-    fn of(key: Key, sums: Sums, visitors: u64) -> KeyTold
-        ensures { result ≡ record { key = key; sums = sums; visitors = visitors } }
+    fn of(key: &'a Key, sums: &'a Sums, visitors: u64) -> KeyTold<'a>
+        ensures { result ≡ record { key = key.now; sums = sums.now; visitors = visitors } }
     {
         KeyTold {
             key,
@@ -88,20 +87,20 @@ impl KeyTold {
     }
 
     /// What is told, as a report reads it.
-    fn told(&self) -> Told<'_>
+    fn told(&self) -> Told<'a>
         ensures { result ≡ self.now }
     {
-        Told::of(&self.key, self.sums, self.visitors)
+        Told::of(self.key, *self.sums, self.visitors)
     }
 }
 
 /// What is told of each key, in the order of the keys. Sums and numbers of visitors stand at the keys' numbers.
-pub(crate) fn key_rows(
+pub(crate) fn key_rows<'a>(
     alloc: Global,
-    keys: &[Key],
-    sums: &[Sums],
+    keys: &'a [Key],
+    sums: &'a [Sums],
     visits: &[u64],
-) -> Result<Vec<KeyTold>, NoMemory>
+) -> Result<Vec<KeyTold<'a>>, NoMemory>
     requires sums { length sums.now ≡ length keys.now }
     requires visits { length visits.now ≡ length keys.now }
     ensures { IfOk result (λ rows. AreToldRows keys.now sums.now visits.now rows.items) }
@@ -110,8 +109,7 @@ pub(crate) fn key_rows(
     let mut rows = Vec::with_capacity(alloc, order.len())?;
     for entry in &order {
         let number = entry.number();
-        let key = entry.key().clone()?;
-        rows.push(KeyTold::of(key, sums[number], visits[number]))?;
+        rows.push(KeyTold::of(entry.key(), &sums[number], visits[number]))?;
     }
     Ok(rows)
 }

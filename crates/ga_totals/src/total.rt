@@ -117,9 +117,8 @@ impl Total {
     }
 
     /// What the total tells to a report: what the summary would tell, without its names. It takes the time of sorting the
-    /// keys, and of one look at each visitor of each row; and the memory of a mark for each visitor and of a copy
-    /// of each key.
-    pub fn told(&self, alloc: Global) -> Result<TotalTold, NoMemory>
+    /// keys, and of one look at each visitor of each row; and the memory of a mark for each visitor.
+    pub fn told(&self, alloc: Global) -> Result<TotalTold<'_>, NoMemory>
         requires { IsOfCountable self.now }
         ensures { IfOk result (λ told. (xs : List Outcome) → IsTallyOf xs self.now → AllCountable xs
             → TellsSumOf xs told) }

@@ -20,11 +20,13 @@ pub loop-other-init : goal.loop-other-init
 loop-other-init g c =
     let len : vec_len c.args.tallies ≢ 0 = eqb-false _ _ (sym c.is_empty.ensures ∙ c.if-is_empty.false) in
     let some : 0 < length c.args.tallies.items = omega (arith, len, c.args.tallies.ok) in
-    let left : remove c.args.tallies.items 0 ≡ into_iter_items c.into_iter-other-iterator.result = sym (c.into_iter-other-iterator.ensures.into_iter_gives.0 ∙ c.remove-tally.ensures.items) in
-    record {
-      absorbed = absorbed-one c.remove-tally.result;
-      rest = first-removed c.args.tallies.items c.remove-tally.result c.remove-tally.ensures.value some ∙ ap (λ (l : List TallySeen). c.remove-tally.result ∷ l) left;
-    }
+    let first = c.remove-tally.result in
+    let all = c.args.tallies.items in
+    let others = into_iter_items c.into_iter-other-iterator.result in
+    let left : remove all 0 ≡ others = sym (c.into_iter-other-iterator.ensures.into_iter_gives.0 ∙ c.remove-tally.ensures.items) in
+    let apart : all ≡ first ∷ remove all 0 = first-removed all first c.remove-tally.ensures.value some in
+    let same : first ∷ remove all 0 ≡ first ∷ others = ap (λ (l : List TallySeen). first ∷ l) left in
+    record { absorbed = absorbed-one first; rest = apart ∙ same }
 
 pub absorb-requires : goal.absorb-requires
 absorb-requires g c =
