@@ -1,5 +1,5 @@
 -- Lines cut one by one.
-use Rattle.std.proofs.Common.{◌≡◌, ℕ, ◌<◌, Bool, false, List, [], ◌∷◌, ◌++◌, length, take, map, refl, sym, ap, ◌∙◌, subst, arith, append_assoc, length-take, take_all, inl, inr, ⊎_elim}
+use Rattle.std.proofs.Common.{◌≡◌, ℕ, ◌<◌, ◌≤◌, Bool, false, List, [], ◌∷◌, ◌++◌, length, take, map, refl, sym, ap, ◌∙◌, subst, arith, append_assoc, length-append, length-take, take_all, inl, inr, ⊎_elim}
 use Rattle.std.proofs.lemmas.Bool.{cases_Bool, cases_lt, eqb-true, false_from_ne_true, false≢true}
 use Rattle.std.proofs.lemmas.List.{append-nil, take-take, take-append-le, length-map, map-append}
 use Rattle.std.proofs.lemmas.List.Splits.{slice_split-cons_yes, slice_split-cons_no, slice_split_none, slice_split_at, length-slice_split}
@@ -91,6 +91,15 @@ cut-none line none = ap (λ ps. join_with_byte LINE_FEED (map cut_line ps)) (sli
 
 pub cut-first : (line more : List ℕ) → NoFeed line → cut_lines (line ++ LINE_FEED ∷ more) ≡ cut_line line ++ LINE_FEED ∷ cut_lines more
 cut-first line more none = cut-feed line more ∙ ap (λ x. x ++ LINE_FEED ∷ cut_lines more) (cut-none line none)
+
+-- cut lines are no longer than whole ones
+pub cut-short : (text : List ℕ) → length (cut_lines text) ≤ length text
+cut-short text =
+    by-lines (λ text. length (cut_lines text) ≤ length text)
+    (λ line none. omega (arith, ap (λ (xs : List ℕ). length xs) (cut-none line none), length-take LINE_HELD line))
+    (λ line more none short. omega (arith, ap (λ (xs : List ℕ). length xs) (cut-first line more none), length-append (cut_line line) (LINE_FEED ∷ cut_lines more), length-append line (LINE_FEED ∷ more),
+        length-take LINE_HELD line, short))
+    text
 
 take-front : (n : ℕ) (line more : List ℕ) → take n (take n line ++ more) ≡ take n (line ++ more)
 take-front n line more =

@@ -5,10 +5,10 @@ use Rattle.std.proofs.lemmas.List.{append-nil, length-take-le, take-append-drop,
 use Rattle.std.proofs.lemmas.List.Elements.{Contains-get_or}
 use Rattle.std.specs.List.{Contains}
 use Rattle.ga_batches.specs.Lines.{cut_line, cut_lines, IsEnded, AreEnded}
-use Rattle.ga_batches.specs.Batches.{BatcherSeen, IsBatcher, Feeds, Holds, HoldsLast, held, fresh}
+use Rattle.ga_batches.specs.Batches.{BatcherSeen, IsBatcher, IsFull, Feeds, Holds, HoldsLast, held, fresh}
 use Rattle.ga_batches.specs.Steps.{GoesOn, with_line_ended}
 use Rattle.ga_batches.specs.declared.batcher.TheConstants.{LINE_FEED, LINE_HELD, LEAST_LIMIT, MOST_LIMIT}
-use Rattle.ga_batches.proofs.Cutting.{NoFeed, none-nil, none-take, none-append, cut-none, cut-first, cuts-once, cuts-apart, ended-cut, ended-append}
+use Rattle.ga_batches.proofs.Cutting.{NoFeed, none-nil, none-take, none-append, cut-none, cut-first, cut-short, cuts-once, cuts-apart, ended-cut, ended-append}
 
 -- ---- counts of ended bytes
 
@@ -74,6 +74,13 @@ take-parts piece at more =
     ap (λ x. x ++ take more (drop at piece)) (sym (take-take at (at + more) piece (omega arith)))
     ∙ ap (λ x. take at (take (at + more) piece) ++ x) (sym (drop-take at more piece))
     ∙ take-append-drop at (take (at + more) piece)
+
+-- a batcher that has room for a piece is full once all of it was taken, and not before
+pub whole-taken : (piece : List ℕ) (at : ℕ) (a b : BatcherSeen) → Feeds (take at piece) a b → IsFull b → at ≤ length piece → length (held a) + length piece ≤ a.limit → at ≡ length piece
+whole-taken piece at a b fed full within fits =
+    let short = cut-short (held a ++ take at piece) in
+    let lines = ap (λ (xs : List ℕ). length xs) fed.lines in
+    omega (arith, full, fed.limit, short, lines, length-append (held a) (take at piece), length-take at piece)
 
 -- a slice's rest is fed behind its front
 pub feeds-on : (piece : List ℕ) (at more : ℕ) (a b c : BatcherSeen) → Feeds (take at piece) a b

@@ -1,5 +1,6 @@
-ghost use Rattle.std.specs.Prelude.{◌≡◌, ◌≤◌, ◌<◌, ◌+◌, ◌^◌, ◌++◌, ℕ, List, [], IfOk, IsTrue, ◌↔◌, true, false, length, min, take, ◌-◌, if◌then◌else◌};
+ghost use Rattle.std.specs.Prelude.{◌≡◌, ◌≤◌, ◌<◌, ◌+◌, ◌^◌, ◌++◌, ℕ, List, [], IfOk, OnErr, OnOk, IsTrue, ◌↔◌, true, false, length, min, take, ◌-◌, if◌then◌else◌};
 ghost use Rattle.std.specs.List.{Contains};
+ghost use Rattle.std.specs.Vec.{vec_capacity};
 ghost use Rattle.ga_batches.specs.Lines.{cut_lines};
 ghost use Rattle.ga_batches.specs.Batches.{Feeds, Holds, HoldsLast, IsBatcher, IsFull, fresh, held};
 ghost use Rattle.ga_batches.specs.Steps.{GoesOn, with_line_ended};
@@ -8,6 +9,7 @@ use ga_base::NoMemory;
 use memchr::memchr;
 use std::alloc::Global;
 use std::marker::Model;
+use std::mem;
 
 /// The byte that ends a line.
 pub const LINE_FEED: u8 = 10;
@@ -99,12 +101,20 @@ impl Batcher {
         self.bytes.len() == self.limit
     }
 
+    /// How many bytes it can take before it is full, at least.
+    pub fn room(&self) -> u64
+        ensures { length (held self.now) + result ≡ self.now.limit }
+    {
+        (self.limit - self.bytes.len()) as u64
+    }
+
     /// How many bytes were fed up to and with the last line feed.
     pub fn ended(&self) -> u64
         ensures { result ≡ self.now.ended }
     {
         self.ended
     }
+
     /// Takes bytes from the front of the piece, and answers how many: all of them, or as many as make the batcher full. The
     /// conditions are that the stream isn't over and that its length stays below 2^64. No memory is taken.
     pub fn feed(&mut self, piece: &[u8]) -> u64
@@ -117,6 +127,8 @@ impl Batcher {
         ensures all { result < length piece.now → IsFull self.new }
         ensures before { (n : ℕ) → n < result → length (cut_lines (held self.old ++ take n piece.now)) < self.old.limit }
         ensures moves { length (held self.old) < self.old.limit → 0 < length piece.now → 0 < result }
+        // What it has room for it takes whole.
+        ensures whole { length (held self.old) + length piece.now ≤ self.old.limit → result ≡ length piece.now }
         ensures stream { (stream taken : List ℕ) → Holds stream taken self.old → Holds (stream ++ take result piece.now) taken self.new }
     {
         self.known();
@@ -231,6 +243,37 @@ impl Batcher {
     {
         self.known();
         self.drop_batch();
+    }
+
+    /// Takes the batch out into `spare`, whose bytes are dropped, and keeps the begun line: so the batch can be counted while
+    /// more is fed. The two exchange their memory. Where `spare` has less than the batcher it gets as much. After an `Err` the
+    /// batcher is as it was.
+    pub fn take_into(&mut self, spare: &mut Vec<u8>) -> Result<(), NoMemory>
+        ensures batch { OnOk result (spare.new.items ≡ self.old.batch) }
+        ensures small { OnOk result (length spare.new.items ≤ MOST_LIMIT) }
+        ensures value { OnOk result (self.new ≡ record self.old { batch = [] }) }
+        ensures batcher { IsBatcher self.new }
+        ensures stream { OnOk result ((stream taken : List ℕ) → Holds stream taken self.old → Holds stream (taken ++ spare.new.items) self.new) }
+        ensures err { OnErr result (self.new ≡ self.old) }
+    {
+        self.known();
+        spare.clear();
+        spare.reserve(self.limit)?;
+        self.exchange(spare);
+        Ok(())
+    }
+
+    /// Leaves the batch in `spare`, and goes on in the memory of `spare` with the begun line.
+    fn exchange(&mut self, spare: &mut Vec<u8>)
+        requires empty { spare.old.items ≡ [] }
+        requires room { self.old.limit ≤ vec_capacity spare.old }
+        ensures batch { spare.new.items ≡ self.old.batch }
+        ensures value { self.new ≡ record self.old { batch = [] } }
+    {
+        spare.extend_from_slice(&self.bytes[self.begun..]).unwrap();
+        self.bytes.truncate(self.begun);
+        mem::swap(&mut self.bytes, spare);
+        self.begun = 0;
     }
 
     /// Moves the begun line to the front.

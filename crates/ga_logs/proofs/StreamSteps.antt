@@ -1,6 +1,6 @@
 -- From one slice of a log's part to the next.
-use Rattle.std.proofs.Common.{◌≡◌, ℕ, ◌+◌, ◌-◌, ◌≤◌, Bool, false, List, [], ◌++◌, refl, ap, sym, ◌∙◌, subst, Option, IfSome, arith, length, length-append, length-take, take, drop, append_assoc, append-nil}
-use Rattle.ga_batches.specs.Batches.{BatcherSeen, Holds}
+use Rattle.std.proofs.Common.{◌≡◌, ℕ, ◌+◌, ◌-◌, ◌≤◌, Bool, false, List, [], ◌++◌, refl, ap, sym, ◌∙◌, subst, Option, IfSome, arith, length, length-append, length-take, take, take_all, drop, append_assoc, append-nil}
+use Rattle.ga_batches.specs.Batches.{BatcherSeen, Feeds, Holds}
 use Rattle.ga_batches.specs.Lines.{AreEnded}
 use Rattle.ga_line.specs.Lines.{lines}
 use Rattle.ga_outcomes.specs.declared.setup.Setup.{Setup}
@@ -9,9 +9,10 @@ use Rattle.ga_resume.specs.Reading.{after_reads, part_of, ReadsPart, ReadsSlice,
 use Rattle.ga_resume.specs.declared.fault.PlaceFault.TheVariants.{NoMemory}
 use Rattle.ga_resume.proofs.PartReads.{if_some-all, if_some-map, if_some-both, reads-nil, reads-more, bytes-after_reads, part-more, nothing}
 use Rattle.ga_streams.specs.Counting.{CountingSeen, HasCounted}
-use Rattle.ga_streams.specs.Streams.{IsWithin}
+use Rattle.ga_streams.specs.Streams.{IsBehind, IsWithin}
+use Rattle.ga_streams.proofs.Batches.{behind-none, behind-taken, within-fed}
 use Rattle.ga_logs.specs.Portions as portions
-use Rattle.ga_logs.specs.Steps.Streaming.{Adds, FeedsPart, HasCountedSome}
+use Rattle.ga_logs.specs.Steps.Streaming.{Adds, FeedsPart, FillsBehind, FillsPart, HasCountedSome}
 
 -- no bytes of a part were read
 read-none : (from : ℕ) (v : FilesView) → ReadsPart from from v v []
@@ -24,7 +25,7 @@ read-none from v =
     }
 
 -- a part and the next one are one part
-read-then : (from at to : ℕ) (v w u : FilesView) (part next : List ℕ) → from ≤ at → at ≤ to → ReadsPart from at v w part → ReadsPart at to w u next → ReadsPart from to v u (part ++ next)
+pub read-then : (from at to : ℕ) (v w u : FilesView) (part next : List ℕ) → from ≤ at → at ≤ to → ReadsPart from at v w part → ReadsPart at to w u next → ReadsPart from to v u (part ++ next)
 read-then from at to v w u part next begun on read more =
     let far : at + (to - at) ≡ to = omega (arith, on) in
     let long : (at - from) + (to - at) ≡ to - from = omega (arith, begun, on) in
@@ -49,42 +50,101 @@ read-slice at n buffer v w slice =
     }
 
 -- nothing was fed yet
+pub fills-none : (from : ℕ) (v : FilesView) (batcher : BatcherSeen) → batcher.is_over ≡ false → FillsPart from from v v batcher batcher
+fills-none from v batcher going = record {
+  part = [];
+  read = read-none from v;
+  going = going;
+  fed = omega arith;
+  holds = λ stream taken h. subst (λ (s : List ℕ). Holds s taken batcher) (sym (append-nil stream)) h;
+}
+
+-- a part was fed, and then the next one
+pub fills-then : (from at to : ℕ) (v w u : FilesView) (b0 b1 b2 : BatcherSeen) → from ≤ at → at ≤ to
+    → FillsPart from at v w b0 b1 → FillsPart at to w u b1 b2 → FillsPart from to v u b0 b2
+fills-then from at to v w u b0 b1 b2 begun on a b = record {
+  part = a.part ++ b.part;
+  read = read-then from at to v w u a.part b.part begun on a.read b.read;
+  going = b.going;
+  fed = omega (arith, a.fed, b.fed, length-append a.part b.part);
+  holds = λ stream taken h. subst (λ (s : List ℕ). Holds s taken b2) (append_assoc stream a.part b.part) (b.holds (stream ++ a.part) taken (a.holds stream taken h));
+}
+
+-- a slice was fed
+pub fills-slice : (at n : ℕ) (buffer : List ℕ) (v w : FilesView) (b0 b1 : BatcherSeen) (taken : ℕ) → ReadsSlice at n buffer v w → b0.is_over ≡ false → taken ≡ length (take n buffer)
+    → Feeds (take taken (take n buffer)) b0 b1 → ((stream before : List ℕ) → Holds stream before b0 → Holds (stream ++ take taken (take n buffer)) before b1)
+    → FillsPart at (at + n) v w b0 b1
+fills-slice at n buffer v w b0 b1 taken slice going whole feeds holds =
+    let all : take taken (take n buffer) ≡ take n buffer = take_all taken (take n buffer) (omega (arith, whole)) in
+    record {
+      part = take n buffer;
+      read = read-slice at n buffer v w slice;
+      going = feeds.going ∙ going;
+      fed = feeds.fed ∙ ap (λ (xs : List ℕ). b0.fed + length xs) all;
+      holds = λ stream before h. subst (λ (xs : List ℕ). Holds (stream ++ xs) before b1) all (holds stream before h);
+    }
+
+-- ---- a part that is counted on the way
+
+-- what was counted so far of a part, whose last batch waits
+pub record FeedsBehind (setup : Setup) (from end : ℕ) (files files' : FilesView) (counting counting' : CountingSeen) (taken : List ℕ)
+    (batcher batcher' : BatcherSeen) : Type 0 where
+  pub part : List ℕ
+  pub read : ReadsPart from end files files' part
+  pub going : batcher'.is_over ≡ false
+  pub fed : batcher'.fed ≡ batcher.fed + length part
+  pub start : counting'.start ≡ counting.start
+  pub within : (before : List (List ℕ)) (stream : List ℕ) → IsWithin setup before stream counting batcher
+      → IsBehind setup before (stream ++ part) counting' taken batcher'
+
+-- nothing was fed yet
 pub feeds-none : (setup : Setup) (from : ℕ) (v : FilesView) (counting : CountingSeen) (batcher : BatcherSeen) → batcher.is_over ≡ false
-    → FeedsPart setup from from v v counting counting batcher batcher
+    → FeedsBehind setup from from v v counting counting [] batcher batcher
 feeds-none setup from v counting batcher going = record {
   part = [];
   read = read-none from v;
   going = going;
   fed = omega arith;
   start = refl;
-  within = λ before stream h. subst (λ (s : List ℕ). IsWithin setup before s counting batcher) (sym (append-nil stream)) h;
+  within = λ before stream h. behind-none setup before (stream ++ []) counting batcher
+      (subst (λ (s : List ℕ). IsWithin setup before s counting batcher) (sym (append-nil stream)) h);
 }
 
--- a part was fed, and then the next one
-pub feeds-then : (setup : Setup) (from at to : ℕ) (v w u : FilesView) (c0 c1 c2 : CountingSeen) (b0 b1 b2 : BatcherSeen) → from ≤ at → at ≤ to
-    → FeedsPart setup from at v w c0 c1 b0 b1 → FeedsPart setup at to w u c1 c2 b1 b2 → FeedsPart setup from to v u c0 c2 b0 b2
-feeds-then setup from at to v w u c0 c1 c2 b0 b1 b2 begun on a b = record {
-  part = a.part ++ b.part;
-  read = read-then from at to v w u a.part b.part begun on a.read b.read;
-  going = b.going;
-  fed = omega (arith, a.fed, b.fed, length-append a.part b.part);
-  start = b.start ∙ a.start;
-  within = λ before stream h. subst (λ (s : List ℕ). IsWithin setup before s c2 b2) (append_assoc stream a.part b.part)
-      (b.within before (stream ++ a.part) (a.within before stream h));
+-- the batch that waited was counted while more was fed, and the next one was taken
+pub feeds-on : (setup : Setup) (from at to most : ℕ) (v w u : FilesView) (c0 c1 c2 : CountingSeen) (last next : List ℕ) (b0 b1 b2 b3 : BatcherSeen) → from ≤ at → at ≤ to
+    → FeedsBehind setup from at v w c0 c1 last b0 b1 → FillsBehind setup at most to w u c1 c2 last b1 b2
+    → b3.is_over ≡ b2.is_over → b3.fed ≡ b2.fed → ((stream taken : List ℕ) → Holds stream taken b2 → Holds stream (taken ++ next) b3)
+    → FeedsBehind setup from to v u c0 c2 next b0 b3
+feeds-on setup from at to most v w u c0 c1 c2 last next b0 b1 b2 b3 begun on a b going fed takes = record {
+  part = a.part ++ b.fills.fills.part;
+  read = read-then from at to v w u a.part b.fills.fills.part begun on a.read b.fills.fills.read;
+  going = going ∙ b.fills.fills.going;
+  fed = omega (arith, fed, a.fed, b.fills.fills.fed, length-append a.part b.fills.fills.part);
+  start = b.counts.start ∙ a.start;
+  within = λ before stream h.
+      let more = b.fills.fills.part in
+      let counted = b.counts.within before (stream ++ a.part) b1 (a.within before stream h) in
+      let filled = within-fed setup c2 b1 b2 more (λ s taken. b.fills.fills.holds s taken) before (stream ++ a.part) counted in
+      subst (λ (s : List ℕ). IsBehind setup before s c2 next b3) (append_assoc stream a.part more)
+      (behind-taken setup c2 b2 b3 next takes before ((stream ++ a.part) ++ more) filled);
 }
 
--- a slice was fed
-pub feeds-slice : (setup : Setup) (at n : ℕ) (buffer : List ℕ) (v w : FilesView) (c0 c1 : CountingSeen) (b0 b1 : BatcherSeen) → ReadsSlice at n buffer v w
-    → b1.is_over ≡ false → b1.fed ≡ b0.fed + length (take n buffer) → c1.start ≡ c0.start
-    → ((before : List (List ℕ)) (stream : List ℕ) → IsWithin setup before stream c0 b0 → IsWithin setup before (stream ++ take n buffer) c1 b1)
-    → FeedsPart setup at (at + n) v w c0 c1 b0 b1
-feeds-slice setup at n buffer v w c0 c1 b0 b1 slice going fed start within = record {
-  part = take n buffer;
-  read = read-slice at n buffer v w slice;
-  going = going;
-  fed = fed;
-  start = start;
-  within = within;
+-- what stays once a batch was taken
+pub after-taking : (b b' : BatcherSeen) → b' ≡ record b { batch = [] } → (b'.is_over ≡ b.is_over) × (b'.fed ≡ b.fed) × (length b'.batch ≡ 0)
+after-taking b b' value = (ap (λ (v : BatcherSeen). v.is_over) value, ap (λ (v : BatcherSeen). v.fed) value, ap (λ (v : BatcherSeen). length v.batch) value)
+
+-- the last one was counted
+pub feeds-all : (setup : Setup) (from to : ℕ) (v w : FilesView) (c0 c1 c2 : CountingSeen) (last : List ℕ) (b0 b1 : BatcherSeen)
+    → FeedsBehind setup from to v w c0 c1 last b0 b1 → c2.start ≡ c1.start
+    → ((before : List (List ℕ)) (stream : List ℕ) (b : BatcherSeen) → IsBehind setup before stream c1 last b → IsWithin setup before stream c2 b)
+    → FeedsPart setup from to v w c0 c2 b0 b1
+feeds-all setup from to v w c0 c1 c2 last b0 b1 a start counts = record {
+  part = a.part;
+  read = a.read;
+  going = a.going;
+  fed = a.fed;
+  start = start ∙ a.start;
+  within = λ before stream h. counts before (stream ++ a.part) b1 (a.within before stream h);
 }
 
 -- memory may be wanting before anything of a part is read, and once it is

@@ -1,12 +1,13 @@
 ghost use Rattle.std.specs.Prelude.{◌≡◌, ◌≢◌, ◌-◌, ◌+◌, ◌<◌, ◌≤◌, ◌^◌, [], true, false, IfOk, IfErr, IfSome, IsSome, IsTrue, OnOk, length};
-ghost use Rattle.ga_batches.specs.Batches.{Holds};
+ghost use Rattle.std.specs.Thread.{IsSync};
+ghost use Rattle.ga_batches.specs.Batches.{Holds, held};
 ghost use Rattle.ga_line.specs.Lines.{lines};
 ghost use Rattle.ga_ports.specs.Counts.{NoneDue};
 ghost use Rattle.ga_ports.specs.Stretch.{FilesWent};
 ghost use Rattle.ga_resume.specs.Reading.{StopsWithin};
 ghost use Rattle.ga_resume.specs.declared.fault.PlaceFault.TheVariants.{FileFault};
 ghost use Rattle.ga_streams.specs.Counting.{AreWorkers};
-ghost use Rattle.ga_logs.specs.Steps.Streaming.{Adds, CountsPart, FeedsPart, HasCountedSome};
+ghost use Rattle.ga_logs.specs.Steps.Streaming.{Adds, CanFill, CountsPart, CountsTaken, FeedsPart, FillsBehind, FillsOrStops, FillsPart, HasCountedSome};
 
 use ga_base::NoMemory;
 use ga_batches::Batcher;
@@ -14,9 +15,9 @@ use ga_outcomes::Setup;
 use ga_ports::laws::files_stay;
 use ga_ports::{Files, Gate};
 use ga_resume::{PlaceFault, read_slice, slice_buffer};
-use ga_streams::{Counting, Workers, end, feed};
+use ga_streams::{Counting, Workers, count_taken, end, feed};
 use std::alloc::Global;
-use std::thread::Threads;
+use std::thread::{Threads, join_mut};
 
 /// How many bytes a batch has for each worker.
 const JOB: u64 = 1_048_576;
@@ -71,7 +72,9 @@ pub(crate) fn count_part<R: Threads + Sync, G: Gate, F: Files>(
     feed_part(
         rt,
         gate,
+        alloc,
         setup,
+        workers.jobs,
         from,
         to,
         &mut buffer,
@@ -88,16 +91,19 @@ fn batcher_for(alloc: Global, workers: Workers) -> Result<Batcher, NoMemory>
     requires { AreWorkers workers }
     ensures going { IfOk result (λ batcher. batcher.is_over ≡ false) }
     ensures fed { IfOk result (λ batcher. batcher.fed ≡ 0) }
+    ensures room { IfOk result (λ batcher. length (held batcher) < batcher.limit) }
     ensures stream { IfOk result (λ batcher. Holds [] [] batcher) }
 {
     Batcher::new(alloc, u64::from(workers.jobs) * JOB)
 }
 
-/// Feeds a part of the open file, by reads of at most the buffer's length.
+/// Feeds a part of the open file to a batcher, and counts each batch but the last while the next is read.
 fn feed_part<R: Threads + Sync, G: Gate, F: Files>(
     rt: &R,
     gate: &G,
+    alloc: Global,
     setup: &Setup,
+    jobs: u32,
     from: u64,
     to: u64,
     buffer: &mut [u8],
@@ -110,9 +116,10 @@ fn feed_part<R: Threads + Sync, G: Gate, F: Files>(
     requires measured { IsSome (F.view files.old).measured }
     requires within { IfSome (F.view files.old).measured (λ size. to ≤ size) }
     requires told { IfSome (F.view files.old).bytes (λ bytes. to ≤ length bytes) }
-    requires room { 0 < length buffer.old }
+    requires some { 0 < length buffer.old }
     requires going { batcher.old.is_over ≡ false }
     requires fed { batcher.old.fed ≡ 0 }
+    requires room { length (held batcher.old) < batcher.old.limit }
     ensures ok { OnOk result (FeedsPart setup.now from to (F.view files.old) (F.view files.new) counting.old counting.new batcher.old batcher.new) }
     ensures failed { IfErr result (λ fault. StopsWithin (to - from) (F.view files.old) (F.view files.new) fault) }
     ensures calls { FilesWent (F.view files.old) (F.view files.new) }
@@ -120,50 +127,140 @@ fn feed_part<R: Threads + Sync, G: Gate, F: Files>(
 {
     // That the number of calls doesn't fall, for the proof alone.
     files_stay();
+    let mut taken = Vec::new(alloc);
     let mut at = from;
     while at < to {
-        let room = (to - at).min(buffer.len() as u64) as usize;
-        let count = feed_slice(
+        at = fill_and_count(
             rt,
             gate,
             setup,
+            jobs,
             at,
-            &mut buffer[..room],
+            to,
+            buffer,
             files,
             counting,
+            &taken,
             batcher,
         )?;
-        at += count as u64;
+        batcher.take_into(&mut taken)?;
     }
+    count_taken(rt, gate, setup, counting, &taken)?;
     Ok(())
 }
 
-/// Feeds bytes of the open file from a place below its size on, and answers how many: one at least.
-fn feed_slice<R: Threads + Sync, G: Gate, F: Files>(
+/// Fills the batcher from the open file, and counts the batch that was taken before. It answers up to where the file was
+/// read.
+fn fill_and_count<R: Threads + Sync, G: Gate, F: Files>(
     rt: &R,
     gate: &G,
     setup: &Setup,
-    at: u64,
+    jobs: u32,
+    from: u64,
+    to: u64,
     buffer: &mut [u8],
     files: &mut F,
     counting: &mut Counting,
+    taken: &[u8],
     batcher: &mut Batcher,
-) -> Result<usize, PlaceFault>
-    requires is_open { IsTrue (F.view files.old).is_open }
-    requires below { IfSome (F.view files.old).measured (λ size. at < size) }
-    requires measured { IsSome (F.view files.old).measured }
-    requires told { IfSome (F.view files.old).bytes (λ bytes. at < length bytes) }
-    requires room { 0 < length buffer.old }
-    requires going { batcher.old.is_over ≡ false }
-    requires countable { batcher.old.fed + length buffer.old < 2 ^ 64 }
-    ensures some { IfOk result (λ count. 0 < count) }
-    ensures within { IfOk result (λ count. count ≤ length buffer.old) }
-    ensures ok { IfOk result (λ count. FeedsPart setup.now at (at + count) (F.view files.old) (F.view files.new) counting.old counting.new batcher.old batcher.new) }
-    ensures failed { IfErr result (λ fault. StopsWithin (length buffer.old) (F.view files.old) (F.view files.new) fault) }
+) -> Result<u64, PlaceFault>
+    requires can_fill { CanFill from to buffer.old (F.view files.old) batcher.old }
+    requires small { length taken.now ≤ 2 ^ 24 }
+    ensures ok { IfOk result (λ end. FillsBehind setup.now from to end (F.view files.old) (F.view files.new) counting.old counting.new taken.now batcher.old batcher.new) }
+    ensures failed { IfErr result (λ fault. StopsWithin (to - from) (F.view files.old) (F.view files.new) fault) }
     ensures calls { FilesWent (F.view files.old) (F.view files.new) }
     ensures sure { NoneDue (F.view files.old).listed (F.view files.old).counts.calls → IfErr result (λ fault. fault ≢ FileFault) }
 {
-    let count = read_slice(files, at, buffer)?;
-    feed(rt, gate, setup, counting, batcher, &buffer[..count])?;
+    let (counted, end) = side_by_side(
+        rt, gate, setup, jobs, from, to, buffer, files, counting, taken, batcher,
+    );
+    let end = end?;
+    counted?;
+    Ok(end)
+}
+
+/// Counts a batch in a thread of its own, where there is more than one worker, and fills the batcher in this one.
+fn side_by_side<R: Threads + Sync, G: Gate, F: Files>(
+    rt: &R,
+    gate: &G,
+    setup: &Setup,
+    jobs: u32,
+    from: u64,
+    to: u64,
+    buffer: &mut [u8],
+    files: &mut F,
+    counting: &mut Counting,
+    taken: &[u8],
+    batcher: &mut Batcher,
+) -> (Result<(), NoMemory>, Result<u64, PlaceFault>)
+    requires can_fill { CanFill from to buffer.old (F.view files.old) batcher.old }
+    requires small { length taken.now ≤ 2 ^ 24 }
+    ensures counts { OnOk result.0 (CountsTaken setup.now taken.now counting.old counting.new) }
+    ensures fills { FillsOrStops from to (F.view files.old) (F.view files.new) batcher.old batcher.new result.1 }
+{
+    let mut count = || -> Result<(), NoMemory>
+        requires { IsSync R.row × (length taken.now ≤ 2 ^ 24) }
+        ensures { OnOk result (CountsTaken setup.entry.now taken.entry.now counting.entry.now counting.exit.now) }
+    { count_taken(rt, gate, setup, counting, taken) };
+    let mut read = || -> Result<u64, PlaceFault>
+        requires { CanFill from to buffer.now (F.view files.now) batcher.now }
+        ensures { FillsOrStops from to (F.view files.entry.now) (F.view files.exit.now) batcher.entry.now batcher.exit.now result }
+    { fill(from, to, buffer, files, batcher) };
+    if jobs > 1 {
+        join_mut(rt, &mut count, &mut read)
+    } else {
+        (count(), read())
+    }
+}
+
+/// Reads the open file from one place on, until the batcher is full or up to another place, by slices of at most the
+/// buffer's length. It answers up to where it read: behind the first place, where the batcher has room.
+fn fill<F: Files>(
+    from: u64,
+    to: u64,
+    buffer: &mut [u8],
+    files: &mut F,
+    batcher: &mut Batcher,
+) -> Result<u64, PlaceFault>
+    requires { CanFill from to buffer.old (F.view files.old) batcher.old }
+    ensures { FillsOrStops from to (F.view files.old) (F.view files.new) batcher.old batcher.new result }
+{
+    // That the number of calls doesn't fall, for the proof alone.
+    files_stay();
+    let mut at = from;
+    while at < to && batcher.room() > 0 {
+        at += fill_slice(at, to, buffer, files, batcher)? as u64;
+    }
+    Ok(at)
+}
+
+/// Feeds bytes of the open file from one place on, at most up to another, as many as the batcher has room for, and answers
+/// how many: one at least.
+fn fill_slice<F: Files>(
+    at: u64,
+    to: u64,
+    buffer: &mut [u8],
+    files: &mut F,
+    batcher: &mut Batcher,
+) -> Result<usize, PlaceFault>
+    requires is_open { IsTrue (F.view files.old).is_open }
+    requires order { at < to }
+    requires below { IfSome (F.view files.old).measured (λ size. at < size) }
+    requires measured { IsSome (F.view files.old).measured }
+    requires told { IfSome (F.view files.old).bytes (λ bytes. at < length bytes) }
+    requires some { 0 < length buffer.old }
+    requires going { batcher.old.is_over ≡ false }
+    requires countable { batcher.old.fed + (to - at) < 2 ^ 64 }
+    requires room { length (held batcher.old) < batcher.old.limit }
+    ensures some { IfOk result (λ count. 0 < count) }
+    ensures within { IfOk result (λ count. at + count ≤ to) }
+    ensures ok { IfOk result (λ count. FillsPart at (at + count) (F.view files.old) (F.view files.new) batcher.old batcher.new) }
+    ensures failed { IfErr result (λ fault. StopsWithin (to - at) (F.view files.old) (F.view files.new) fault) }
+    ensures calls { FilesWent (F.view files.old) (F.view files.new) }
+    ensures sure { NoneDue (F.view files.old).listed (F.view files.old).counts.calls → IfErr result (λ fault. fault ≢ FileFault) }
+{
+    let room = (to - at).min(batcher.room()).min(buffer.len() as u64) as usize;
+    let count = read_slice(files, at, &mut buffer[..room])?;
+    batcher.feed(&buffer[..count]);
     Ok(count)
 }

@@ -16,7 +16,7 @@ use Rattle.ga_line.specs.Lines.{KeepsItsLines, lines, lines_of_pieces}
 use Rattle.ga_outcomes.specs.declared.setup.Setup.{Setup}
 use Rattle.ga_streams.proofs.Held.{SayTheSame, behind-same, come-along, fills-along, held-lines}
 use Rattle.ga_streams.specs.Counting.{CountingSeen, HasCounted, HasCountedBy}
-use Rattle.ga_streams.specs.Streams.{IsWithin}
+use Rattle.ga_streams.specs.Streams.{IsBehind, IsWithin}
 use Rattle.ga_streams.specs.declared.full.Full.{Full}
 use Rattle.ga_tallies.specs.Tallies.{TallySeen}
 
@@ -81,6 +81,14 @@ module _ (law : EndedKeep) (setup : Setup) (old new : CountingSeen) (batch : Lis
     counted = more before h.taken h.holds.whole h.counted;
   }
 
+  -- one that was taken before was counted
+  pub within-behind : (before : List (List ℕ)) (stream : List ℕ) (b : BatcherSeen) → IsBehind setup before stream old batch b → IsWithin setup before stream new b
+  within-behind before stream b h = record {
+    taken = h.taken ++ batch;
+    holds = h.holds;
+    counted = more before h.taken h.whole h.counted;
+  }
+
   -- the last one was
   pub ended-with : (cuts : CutsEachPiece) (b b' : BatcherSeen) (keep : Bool) → b'.batch ≡ batch → ((stream taken : List ℕ) → Holds stream taken b → HoldsLast stream keep taken b')
       → (before : List (List ℕ)) (stream : List ℕ) → IsWithin setup before stream old b → AreEnded stream b'.ended × HasCounted setup (before ++ lines stream keep) new
@@ -92,6 +100,27 @@ module _ (law : EndedKeep) (setup : Setup) (old new : CountingSeen) (batch : Lis
       let along = counted-along new.full setup new.start (before ++ lines (cut_lines part) true) (before ++ lines part true) new.tallies
       (behind-same before (lines (cut_lines part) true) (lines part true) (held-lines cuts part true)) counted in
       (last.ended, subst (λ (ls : List (List ℕ)). HasCounted setup (before ++ ls) new) (kept-lines law stream b'.ended keep last.ended) along)
+
+-- ---- a batch that was taken and isn't counted yet
+
+-- none was taken
+pub behind-none : (setup : Setup) (before : List (List ℕ)) (stream : List ℕ) (c : CountingSeen) (b : BatcherSeen) → IsWithin setup before stream c b → IsBehind setup before stream c [] b
+behind-none setup before stream c b h = record {
+  taken = h.taken;
+  whole = h.holds.whole;
+  holds = subst (λ (taken : List ℕ). Holds stream taken b) (sym (append-nil h.taken)) h.holds;
+  counted = h.counted;
+}
+
+-- the next one was
+pub behind-taken : (setup : Setup) (c : CountingSeen) (b b' : BatcherSeen) (batch : List ℕ) → ((stream taken : List ℕ) → Holds stream taken b → Holds stream (taken ++ batch) b')
+    → (before : List (List ℕ)) (stream : List ℕ) → IsWithin setup before stream c b → IsBehind setup before stream c batch b'
+behind-taken setup c b b' batch takes before stream h = record {
+  taken = h.taken;
+  whole = h.holds.whole;
+  holds = takes stream h.taken h.holds;
+  counted = h.counted;
+}
 
 -- ---- bytes that are fed
 

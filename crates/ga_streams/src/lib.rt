@@ -14,5 +14,5 @@ mod workers;
 
 pub use counting::Counting;
 pub use full::{CountingFault, Full};
-pub use streams::{end, feed};
+pub use streams::{count_taken, end, feed};
 pub use workers::Workers;

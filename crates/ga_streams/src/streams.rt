@@ -1,9 +1,10 @@
-ghost use Rattle.std.specs.Prelude.{◌≡◌, ◌+◌, ◌<◌, ◌++◌, ◌^◌, ℕ, List, true, false, IfOk, OnOk, length};
+ghost use Rattle.std.specs.Prelude.{◌≡◌, ◌+◌, ◌<◌, ◌≤◌, ◌++◌, ◌^◌, ℕ, List, true, false, IfOk, OnOk, length};
+ghost use Rattle.ga_batches.specs.Batches.{BatcherSeen};
 ghost use Rattle.ga_batches.specs.Lines.{AreEnded};
 ghost use Rattle.ga_line.specs.Lines.{lines};
 ghost use Rattle.ga_streams.specs.Counting.{HasCounted};
 ghost use Rattle.ga_streams.specs.Steps.{HasRoom};
-ghost use Rattle.ga_streams.specs.Streams.{IsWithin};
+ghost use Rattle.ga_streams.specs.Streams.{IsBehind, IsWithin};
 
 use crate::Counting;
 use ga_base::NoMemory;
@@ -62,6 +63,25 @@ fn make_room<R: Threads + Sync, G: Gate>(
     }
     counting.count(rt, gate, setup, batch)?;
     batcher.take();
+    Ok(())
+}
+
+/// Counts a batch that was taken out of a batcher, to which more may have been fed since.
+pub fn count_taken<R: Threads + Sync, G: Gate>(
+    rt: &R,
+    gate: &G,
+    setup: &Setup,
+    counting: &mut Counting,
+    batch: &[u8],
+) -> Result<(), NoMemory>
+    requires { length batch.now ≤ 2 ^ 24 }
+    ensures start { OnOk result (counting.new.start ≡ counting.old.start) }
+    ensures within { OnOk result ((before : List (List ℕ)) (stream : List ℕ) (batcher : BatcherSeen)
+        → IsBehind setup.now before stream counting.old batch.now batcher → IsWithin setup.now before stream counting.new batcher) }
+{
+    // What is known of lines, for the proof alone: the call does nothing.
+    lines_added();
+    counting.count(rt, gate, setup, batch)?;
     Ok(())
 }
 

@@ -1,65 +1,93 @@
-use Rattle.std.proofs.Common.{arith, ℕ, ◌<◌, ◌≤◌, ◌+◌, ◌-◌, length, subst, sym, length-take}
-use Rattle.std.specs.Option.{IfSome}
+use Rattle.std.proofs.Common.{arith, ◌≡◌, ◌-◌, ap, length, length-append, List, ℕ, subst, sym}
 use Rattle.std.proofs.lemmas.Result.{err_from_is_err_and}
-use Rattle.ga_ports.specs.Counts.{NoneDue}
 use Rattle.ga_ports.specs.Stretch.FilesWent.{no_files_call, files_then}
-use Rattle.ga_resume.proofs.PartReads.{if_some-map, bytes-after_reads, measured-after_reads, listed-after_reads, stops-more-within, none-later}
-use Rattle.ga_logs.proofs.StreamSteps.{feeds-none, feeds-then}
+use Rattle.ga_resume.proofs.PartReads.{stops-more-within}
+use Rattle.ga_logs.proofs.StreamSteps.{FeedsBehind, after-taking, feeds-all, feeds-none, feeds-on, read-then, wants-after}
 use Rattle.ga_logs.proofs.streaming.feed_part.Goals as goal
 
 pub loop-at-init : goal.loop-at-init
-loop-at-init g c = record {
-  within = c.requires.order;
-  begun = omega arith;
-  going = c.requires.going;
-  fed = omega (arith, c.requires.fed);
-  went = no_files_call;
-  feeds = feeds-none c.args.setup.now c.args.from (g.F.Files.view c.args.files.now) c.args.counting.now c.args.batcher.now c.requires.going;
-}
-
-pub feed_slice-requires-clause-below : goal.feed_slice-requires-clause-below
-feed_slice-requires-clause-below g c =
+loop-at-init g c =
     let view = g.F.Files.view in
-    let same = measured-after_reads (c.loop-at.at - c.args.from) (view c.args.files.now) (view c.loop-at.files) c.loop-at.invariant.feeds.read.files in
-    let below = if_some-map (λ size. c.args.to ≤ size) (λ size. c.loop-at.at < size) _ (λ size e. omega (arith, e)) c.requires.within in
-    λ _ _. subst (λ o. IfSome o (λ size. c.loop-at.at < size)) (sym same) below
-
-pub feed_slice-requires-clause-told : goal.feed_slice-requires-clause-told
-feed_slice-requires-clause-told g c =
-    let view = g.F.Files.view in
-    let same = bytes-after_reads (c.loop-at.at - c.args.from) (view c.args.files.now) (view c.loop-at.files) c.loop-at.invariant.feeds.read.files in
-    let told = if_some-map (λ bytes. c.args.to ≤ length bytes) (λ bytes. c.loop-at.at < length bytes) _ (λ bytes e. omega (arith, e)) c.requires.told in
-    λ _ _. subst (λ o. IfSome o (λ bytes. c.loop-at.at < length bytes)) (sym same) told
+    let v = view c.args.files.now in
+    let none = c.new-taken.ensures.items in
+    record {
+      within = c.requires.order;
+      begun = omega arith;
+      went = no_files_call;
+      some = c.requires.some;
+      small = omega (arith, ap (λ (xs : List ℕ). length xs) none);
+      room = c.requires.room;
+      feeds = subst (λ (xs : List ℕ). FeedsBehind c.args.setup.now c.args.from c.args.from v v c.args.counting.now c.args.counting.now xs c.args.batcher.now c.args.batcher.now) (sym none)
+          (feeds-none c.args.setup.now c.args.from v c.args.counting.now c.args.batcher.now c.requires.going);
+    }
 
 pub loop-at-preserved : goal.loop-at-preserved
 loop-at-preserved g c =
     let view = g.F.Files.view in
     let was = c.loop-at.invariant in
-    let ok = c.in_ok-count.ensures in
+    let ok = c.in_ok-at.ensures.ok in
+    let took = c.in_ok-take_into.ensures in
+    let b = c.take_into.new.self in
+    let batcher = c.take_into.ensures.batcher in
+    let stays = after-taking c.fill_and_count.new.batcher b took.value in
+    let v = view c.args.files.now in
+    let w = view c.loop-at.files in
+    let feeds = subst (λ (xs : List ℕ). FeedsBehind c.args.setup.now c.args.from c.loop-at.at v w c.args.counting.now c.loop-at.counting xs c.args.batcher.now c.loop-at.batcher)
+        (sym c.deref.ensures.value) was.feeds in
     record {
-      within = omega (arith, ok.within, length-take {A = ℕ});
-      begun = omega (arith, was.begun);
-      going = ok.ok.going;
-      fed = omega (arith, ok.ok.fed, ok.ok.read.long, was.begun, was.fed);
-      went = files_then was.went c.feed_slice.ensures.calls;
-      feeds = feeds-then c.args.setup.now c.args.from c.loop-at.at (c.loop-at.at + c.in_ok-count.count) (view c.args.files.now) (view c.loop-at.files) (view c.feed_slice.new.files)
-          c.args.counting.now c.loop-at.counting c.feed_slice.new.counting c.args.batcher.now c.loop-at.batcher c.feed_slice.new.batcher was.begun (omega arith) was.feeds ok.ok;
+      within = ok.fills.within;
+      begun = omega (arith, was.begun, ok.fills.some);
+      went = files_then was.went c.fill_and_count.ensures.calls;
+      some = omega (arith, was.some, c.loop-at.auto.buffer, c.fill_and_count.auto.buffer);
+      small = took.small;
+      room = omega (arith, stays.2, length-append b.batch b.begun, batcher.short, batcher.limit.0);
+      feeds = feeds-on c.args.setup.now c.args.from c.loop-at.at c.in_ok-at.at c.args.to v w (view c.fill_and_count.new.files) c.args.counting.now c.loop-at.counting
+          c.fill_and_count.new.counting c.deref.result.now c.take_into.new.spare.items c.args.batcher.now c.loop-at.batcher c.fill_and_count.new.batcher b was.begun (omega (arith, ok.fills.some))
+          feeds ok stays.0 stays.1 took.stream;
     }
 
-pub returns-in_err-count-clause-failed : goal.returns-in_err-count-clause-failed
-returns-in_err-count-clause-failed g c =
+pub returns-in_err-at-clause-failed : goal.returns-in_err-at-clause-failed
+returns-in_err-at-clause-failed g c =
     let view = g.F.Files.view in
+    let was = c.loop-at.invariant in
     let p = err_from_is_err_and c.from_residual.result c.from_residual.ensures.1 in
-    rw (p.1, p.2) (stops-more-within (c.loop-at.at - c.args.from) _ (c.args.to - c.args.from) (view c.args.files.now) (view c.loop-at.files) _ _ c.loop-at.invariant.feeds.read.files
-    (omega (arith, length-take {A = ℕ}, c.loop-at.invariant.begun)) c.in_err-count.ensures.failed)
+    rw (p.1, p.2) (stops-more-within (c.loop-at.at - c.args.from) _ (c.args.to - c.args.from) (view c.args.files.now) (view c.loop-at.files) _ _ was.feeds.read.files
+    (omega (arith, was.begun, was.within)) c.in_err-at.ensures.failed)
 
-pub returns-in_err-count-clause-calls : goal.returns-in_err-count-clause-calls
-returns-in_err-count-clause-calls g c = files_then c.loop-at.invariant.went c.feed_slice.ensures.calls
+pub returns-in_err-at-clause-calls : goal.returns-in_err-at-clause-calls
+returns-in_err-at-clause-calls g c = files_then c.loop-at.invariant.went c.fill_and_count.ensures.calls
 
-pub returns-in_err-count-clause-sure : goal.returns-in_err-count-clause-sure
-returns-in_err-count-clause-sure g c =
+pub returns-in_err-take_into-clause-failed : goal.returns-in_err-take_into-clause-failed
+returns-in_err-take_into-clause-failed g c =
     let view = g.F.Files.view in
-    let p = err_from_is_err_and c.from_residual.result c.from_residual.ensures.1 in
-    let same = listed-after_reads (c.loop-at.at - c.args.from) (view c.args.files.now) (view c.loop-at.files) c.loop-at.invariant.feeds.read.files in
-    λ none. rw (p.1, p.2) (c.in_err-count.ensures.sure (subst (λ told. NoneDue told (view c.loop-at.files).counts.calls) (sym same)
-    (none-later _ _ (view c.args.files.now).listed (c.files_stay.ensures _ _ c.loop-at.invariant.went).calls none)))
+    let was = c.loop-at.invariant in
+    let ok = c.in_ok-at.ensures.ok in
+    let v = view c.args.files.now in
+    let u = view c.fill_and_count.new.files in
+    let read = read-then c.args.from c.loop-at.at c.in_ok-at.at v (view c.loop-at.files) u was.feeds.part ok.fills.fills.part was.begun (omega (arith, ok.fills.some)) was.feeds.read ok.fills.fills.read in
+    let p = err_from_is_err_and c.from_residual-in_err-take_into.result c.from_residual-in_err-take_into.ensures.1 in
+    rw (p.1, p.2) (wants-after (c.in_ok-at.at - c.args.from) (c.args.to - c.args.from) v u (omega (arith, ok.fills.within, ok.fills.some)) read.files)
+
+pub returns-in_err-take_into-clause-calls : goal.returns-in_err-take_into-clause-calls
+returns-in_err-take_into-clause-calls g c = files_then c.loop-at.invariant.went c.fill_and_count.ensures.calls
+
+pub returns-in_err-count_taken-clause-failed : goal.returns-in_err-count_taken-clause-failed
+returns-in_err-count_taken-clause-failed g c =
+    let view = g.F.Files.view in
+    let was = c.loop-at.invariant in
+    let p = err_from_is_err_and c.from_residual-in_err-count_taken.result c.from_residual-in_err-count_taken.ensures.1 in
+    rw (p.1, p.2) (wants-after (c.loop-at.at - c.args.from) (c.args.to - c.args.from) (view c.args.files.now) (view c.loop-at.files) (omega (arith, was.begun, was.within)) was.feeds.read.files)
+
+pub returns-clause-ok : goal.returns-clause-ok
+returns-clause-ok g c =
+    let view = g.F.Files.view in
+    let was = c.loop-at.invariant in
+    let v = view c.args.files.now in
+    let w = view c.loop-at.files in
+    let taken = c.deref-2.result.now in
+    let over : c.loop-at.at ≡ c.args.to = omega (arith, was.within) in
+    let same = subst (λ (xs : List ℕ). FeedsBehind c.args.setup.now c.args.from c.loop-at.at v w c.args.counting.now c.loop-at.counting xs c.args.batcher.now c.loop-at.batcher)
+        (sym c.deref-2.ensures.value) was.feeds in
+    let feeds = subst (λ (n : ℕ). FeedsBehind c.args.setup.now c.args.from n v w c.args.counting.now c.loop-at.counting taken c.args.batcher.now c.loop-at.batcher) over same in
+    feeds-all c.args.setup.now c.args.from c.args.to v w c.args.counting.now c.loop-at.counting c.count_taken.new.counting taken c.args.batcher.now c.loop-at.batcher feeds
+    c.in_ok-count_taken.ensures.start c.in_ok-count_taken.ensures.within

@@ -1,6 +1,8 @@
-use Rattle.std.proofs.Common.{◌≡◌, ◌-◌, ◌≤◌, false}
+use Rattle.std.proofs.Common.{◌-◌, ◌<◌, ◌≤◌, length}
+use Rattle.ga_batches.specs.Batches.{held}
+use Rattle.ga_batches.specs.declared.batcher.TheConstants.{MOST_LIMIT}
 use Rattle.ga_ports.specs.Stretch.{FilesWent}
-use Rattle.ga_logs.specs.Steps.Streaming.{FeedsPart}
+use Rattle.ga_logs.proofs.StreamSteps.{FeedsBehind}
 use Rattle.ga_logs.proofs.streaming.feed_part.Given as goal
 
 abbrev pub invariant-loop-at : goal.invariant-loop-at
@@ -9,10 +11,11 @@ invariant-loop-at g l =
     record {
       within : l.at ≤ l.to;
       begun : l.from ≤ l.at;
-      going : l.batcher.is_over ≡ false;
-      fed : l.batcher.fed ≡ l.at - l.from;
       went : FilesWent (view l.initial.files) (view l.files);
-      feeds : FeedsPart l.setup l.from l.at (view l.initial.files) (view l.files) l.initial.counting l.counting l.initial.batcher l.batcher;
+      some : 0 < length l.buffer;
+      small : length l.taken.items ≤ MOST_LIMIT;
+      room : length (held l.batcher) < l.batcher.limit;
+      feeds : FeedsBehind l.setup l.from l.at (view l.initial.files) (view l.files) l.initial.counting l.counting l.taken.items l.initial.batcher l.batcher;
     }
 
 abbrev pub decreases-loop-at : goal.decreases-loop-at

@@ -1,5 +1,5 @@
 use Rattle.std.proofs.Common.{◌-◌, length, take, drop, refl, arith, length-take, length-drop}
-use Rattle.ga_batches.proofs.Feeding.{feeds-none, feeds-on, before-on, holds-on}
+use Rattle.ga_batches.proofs.Feeding.{feeds-none, feeds-on, before-on, holds-on, whole-taken}
 use Rattle.ga_batches.proofs.batcher.Batcher.feed.Goals as goal
 
 pub loop-at-init : goal.loop-at-init
@@ -28,6 +28,10 @@ loop-at-preserved c =
 
 pub returns-else-not-is_full-clause-stream : goal.returns-else-not-is_full-clause-stream
 returns-else-not-is_full-clause-stream c = holds-on (take c.loop-at.at c.args.piece.now) c.args.self.now c.loop-at.self c.loop-at.invariant.feeds
+
+pub returns-else-not-is_full-clause-whole : goal.returns-else-not-is_full-clause-whole
+returns-else-not-is_full-clause-whole c =
+    whole-taken c.args.piece.now c.loop-at.at c.args.self.now c.loop-at.self c.loop-at.invariant.feeds (c.is_full.ensures.0 c.if-not-is_full.false) c.loop-at.invariant.within
 
 pub returns-after-loop-at-clause-stream : goal.returns-after-loop-at-clause-stream
 returns-after-loop-at-clause-stream c = holds-on (take c.loop-at.at c.args.piece.now) c.args.self.now c.loop-at.self c.loop-at.invariant.feeds
