@@ -1,13 +1,14 @@
 -- One log more, read and counted behind those before it.
-use Rattle.std.proofs.Common.{◌≡◌, ◌≢◌, ℕ, zero, suc, ◌+◌, ◌<◌, ◌≤◌, List, [], ◌∷◌, ◌++◌, inl, inr, refl, ap, sym, ◌∙◌, subst, length, take, drop, slice_index_or, arith, append_assoc, append-nil, Option, Some}
+use Rattle.std.proofs.Common.{◌≡◌, ◌≢◌, ℕ, zero, suc, ◌+◌, ◌<◌, ◌≤◌, List, [], ◌∷◌, ◌++◌, inl, inr, refl, ap, sym, ◌∙◌, subst, length, take, drop, slice_index_or, arith, append_assoc, append-nil, Option, Some, None}
 use Rattle.std.specs.List.{flat_map}
+use Rattle.ga_base.specs.declared.counts.Totals.{Totals}
 use Rattle.ga_base.specs.declared.entry.Entry.{Entry}
 use Rattle.ga_ports.specs.Files.{FilesView}
 use Rattle.ga_resume.specs.declared.fault.PlaceFault.{PlaceFault}
 use Rattle.ga_resume.specs.declared.fault.PlaceFault.TheVariants.{FileFault, FileShort, NoMemory}
 use Rattle.ga_outcomes.specs.Counting.{FillsAmong}
 use Rattle.ga_outcomes.specs.declared.setup.Setup.{Setup}
-use Rattle.ga_streams.specs.Counting.{AreInTotal, CountingSeen, HasCounted, HasCountedBy}
+use Rattle.ga_streams.specs.Counting.{AreInTotal, CountingSeen, HasCounted, HasCountedBy, LinesAreCounted}
 use Rattle.ga_streams.specs.declared.full.CountingFault.{CountingFault}
 use Rattle.ga_streams.specs.declared.full.CountingFault.TheVariants.{Full as CounterFull, NoMemory as CountingNoMemory}
 use Rattle.ga_streams.specs.declared.full.Full.{Full as TheFull}
@@ -16,7 +17,7 @@ use Rattle.ga_logs.specs.Following.{MissesAt, MissesLog, ReadsAll, ReadsPortion,
 use Rattle.ga_logs.specs.Following.MissesAt.{misses_first, misses_later}
 use Rattle.ga_logs.specs.Following.ReadsAll.{read_all, read_then}
 use Rattle.ga_logs.specs.Following.ReadsSome.{read_none, read_last, read_on}
-use Rattle.ga_logs.specs.Logs.{CountsLogs, NoneFailed, StopsLogs}
+use Rattle.ga_logs.specs.Logs.{CountsLogs, LinesFit, MissesLogs, NoneFailed, StopsLogs}
 use Rattle.ga_logs.specs.Portions.{Follows, counted_lines, generated_lines}
 use Rattle.ga_logs.specs.Steps.Logs.{CountsOneLog, HasCountedLogs, StopsOneLog, fault_of_counting, fault_of_full, fault_of_log, portion_lines}
 use Rattle.ga_logs.specs.Steps.Streaming.{Adds}
@@ -67,7 +68,7 @@ some-of-all back read_all = read_none
 some-of-all back (read_then one goes more) = read_on one goes (some-of-all back more)
 
 misses-more : {follow : Follow} {front : List (List ℕ)} (back : List (List ℕ)) {name : List ℕ} {old mid : List Entry} {a b c : FilesView} {ps : List Portion} {fault : PlaceFault}
-    → ReadsAll follow front old mid a b ps → MissesLog follow mid name b c fault → MissesAt follow (front ++ name ∷ back) old (length front) a c fault
+    → ReadsAll follow front old mid a b ps → MissesLog follow mid name b c fault → MissesAt follow (front ++ name ∷ back) old (length front) a c ps fault
 misses-more back read_all misses = misses_first misses
 misses-more back (read_then one goes more) misses = misses_later one goes (misses-more back more misses)
 
@@ -145,10 +146,20 @@ stops-full setup start n names front back split es es' a b counting h full is =
     let fills = subst (λ (o : Option TheFull). HasCountedBy o setup counting.start (counted_lines n start.follow h.portions) counting.tallies) is h.counted in
     record { portions = h.portions; read = rw split (some-of-all back h.read); fills = rw h.begun at fills }
 
+-- lines that are counted fill no counter
+lines-fit : {setup : Setup} {start : Totals} {all : List (List ℕ)} {tallies : List TallySeen} → LinesAreCounted setup start all tallies → LinesFit setup start all
+lines-fit h = record { outcomes = h.outcomes; come = h.come; fits = h.tallied.fits }
+
+-- a log is read only while no counter is full
 module _ (setup : Setup) (start : Start) (n : Option ℕ) (names front back : List (List ℕ)) (name : List ℕ) (split : names ≡ front ++ name ∷ back)
-    (es es' : List Entry) (a b c : FilesView) (old : CountingSeen) (h : HasCountedLogs setup start n front es es' a b old) where
-  misses : (place : ℕ) (fault : PlaceFault) → place ≡ length front → MissesLog start.follow es' name b c fault → MissesAt start.follow names es place a c fault
-  misses place fault at one = rw (split, at) (misses-more back h.read one)
+    (es es' : List Entry) (a b c : FilesView) (old : CountingSeen) (h : HasCountedLogs setup start n front es es' a b old) (unfilled : old.full ≡ None) where
+  fit : LinesFit setup start.totals (counted_lines n start.follow h.portions)
+  fit =
+      let lines = subst (λ (o : Option TheFull). HasCountedBy o setup old.start (counted_lines n start.follow h.portions) old.tallies) unfilled h.counted in
+      rw h.begun at (lines-fit lines)
+
+  misses : (place : ℕ) (fault : PlaceFault) → place ≡ length front → MissesLog start.follow es' name b c fault → MissesLogs setup start n names es a c place fault
+  misses place fault at one = record { portions = h.portions; misses = rw (split, at) (misses-more back h.read one); fits = fit }
 
   -- why one log more wasn't counted is why the logs weren't
   pub stops-more : (place : ℕ) (fault : PlaceFault) → place ≡ length front → StopsOneLog start.follow es' name b c fault → StopsLogs setup start n names es a c (fault_of_log place fault)
@@ -156,5 +167,5 @@ module _ (setup : Setup) (start : Start) (n : Option ℕ) (names front back : Li
   stops-more place FileFault at (inr (other, _)) = absurd (cc other)
   stops-more place (FileShort byte) at (inl one) = misses place (FileShort byte) at one
   stops-more place (FileShort byte) at (inr (other, _)) = absurd (cc other)
-  stops-more place NoMemory at (inl one) = inl (place, misses place NoMemory at one)
+  stops-more place NoMemory at (inl one) = let h' = misses place NoMemory at one in inl (place, h'.portions, h'.misses)
   stops-more place NoMemory at (inr (same, (portion, reads))) = inr (h.portions ++ portion ∷ [], rw split (some-more back h.read reads))

@@ -84,13 +84,13 @@ pub data ReadsSome (follow : Follow) : List (List ℕ) → List Entry → FilesV
       → ReadsSome follow (name ∷ names) old files files' (portion ∷ portions)
 
 -- the logs before the one at this place were read, and it was not
-pub data MissesAt (follow : Follow) : List (List ℕ) → List Entry → ℕ → FilesView → FilesView → PlaceFault → Type 0 where
+pub data MissesAt (follow : Follow) : List (List ℕ) → List Entry → ℕ → FilesView → FilesView → List Portion → PlaceFault → Type 0 where
   misses_first : {name : List ℕ} {names : List (List ℕ)} {entries : List Entry} {files files' : FilesView} {fault : PlaceFault}
-      → MissesLog follow entries name files files' fault → MissesAt follow (name ∷ names) entries 0 files files' fault
+      → MissesLog follow entries name files files' fault → MissesAt follow (name ∷ names) entries 0 files files' [] fault
   misses_later : {name : List ℕ} {names : List (List ℕ)} {old mid : List Entry} {place : ℕ} {files between files' : FilesView}
-      {portion : Portion} {fault : PlaceFault} → ReadsPortion follow old name files between portion
-      → Follows follow portion old mid → MissesAt follow names mid place between files' fault
-      → MissesAt follow (name ∷ names) old (suc place) files files' fault
+      {portion : Portion} {portions : List Portion} {fault : PlaceFault} → ReadsPortion follow old name files between portion
+      → Follows follow portion old mid → MissesAt follow names mid place between files' portions fault
+      → MissesAt follow (name ∷ names) old (suc place) files files' (portion ∷ portions) fault
 
 -- ---- told in advance
 

@@ -36,7 +36,7 @@ walks-some read_none = (0, walks_none)
 walks-some (read_last reads) = (1, walks_last reads.asks)
 walks-some (read_on reads follows rest) = let more = walks-some rest in (1 + more.0, walks_on reads follows more.1)
 
-pub walks-miss : {follow : Follow} {names : List (List ℕ)} {entries : List Entry} {place : ℕ} {a b : FilesView} {fault : PlaceFault} → MissesAt follow names entries place a b fault
+pub walks-miss : {follow : Follow} {names : List (List ℕ)} {entries : List Entry} {place : ℕ} {a b : FilesView} {portions : List Portion} {fault : PlaceFault} → MissesAt follow names entries place a b portions fault
     → (count : ℕ) × Walks follow names entries a b count
 walks-miss (misses_first misses) = (1, walks_last misses.asks)
 walks-miss (misses_later reads follows rest) = let more = walks-miss rest in (1 + more.0, walks_on reads follows more.1)
@@ -101,8 +101,8 @@ miss-one a FileFault same h = record { faults = h.cause.0 ∙ ap (λ n. raised n
 miss-one a (FileShort at) same h = record { faults = h.cause.3 ∙ same.faults; shorts = h.cause.0 ∙ ap (λ n. raised n 1) same.shorts; short_at = h.cause.1 }
 miss-one a NoMemory same h = record { faults = h.cause.0 ∙ same.faults; shorts = h.cause.1 ∙ same.shorts; short_at = h.cause.2 ∙ same.short_at }
 
-pub miss-counts : {follow : Follow} {names : List (List ℕ)} {entries : List Entry} {place : ℕ} {b c : FilesView} (a : FileCounts) (fault : PlaceFault) → SameFaults a b.counts
-    → MissesAt follow names entries place b c fault → SameFaults (counts-after fault a) c.counts
+pub miss-counts : {follow : Follow} {names : List (List ℕ)} {entries : List Entry} {place : ℕ} {b c : FilesView} {portions : List Portion} (a : FileCounts) (fault : PlaceFault) → SameFaults a b.counts
+    → MissesAt follow names entries place b c portions fault → SameFaults (counts-after fault a) c.counts
 miss-counts a fault same (misses_first misses) = miss-one a fault same misses
 miss-counts a fault same (misses_later reads follows rest) = miss-counts a fault (same-then same (same-read reads)) rest
 

@@ -125,7 +125,7 @@ module _ (setup : Setup) (s : Settings) (files files' : FilesView) (d d' : DiskV
   stops-as (LogShort place at) h = record { found = record { stored = stored; finds = finds; entries = entries; begin = begin }; misses = h }
   stops-as (Full which total) h =
       record { found = record { stored = stored; finds = finds; entries = entries; begin = begin }; portions = h.portions; read = h.read; fills = h.fills }
-  stops-as CountNoMemory (inl (place, h)) = record {
+  stops-as CountNoMemory (inl (place, portions, h)) = record {
     looks = looked-at s d d' i i' stored finds;
     asks = inr (walked (walks-miss h));
     faults = miss-counts files.counts PlaceNoMemory same-none h;

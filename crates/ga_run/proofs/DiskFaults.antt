@@ -48,7 +48,7 @@ module _ (line : LineSetup) (s : Settings) (old new : World) where
       go (inl (persists, k)) = k.faults
       go (inr (none, left)) = faults-of left.view
 
-  of-input : (file : Input) (fault : PlaceFault) → MissesInput s old new file fault → Same
+  of-input : (file : Input) (fault : PlaceFault) → MissesInput line s old new file fault → Same
   of-input Rules fault (name, named, misses, left) = faults-of left.view
   of-input (Log place) fault h = of-finds h.begun.stored h.begun.finds
 
@@ -100,7 +100,7 @@ module _ (line : LineSetup) (s : Settings) (old new : World) where
         go (inl (persists, k)) = not-kept persists
         go (inr (not, left)) = left.view ∙ alone-there h.found h.come.stored h.come.finds
 
-    alone-input : (file : Input) (fault : PlaceFault) → MissesInput s old new file fault → new.disk ≡ old.disk
+    alone-input : (file : Input) (fault : PlaceFault) → MissesInput line s old new file fault → new.disk ≡ old.disk
     alone-input Rules fault (name, named, misses, left) = left.view
     alone-input (Log place) fault h = alone-finds h.begun.stored h.begun.finds
 

@@ -72,7 +72,7 @@ module _ (line : LineSetup) (s : Settings) (old : World) (f : FilesView) (d : Di
   abbrev has-written : HasReport line s old (world f d i mid) → HasReport line s old (world f d i outs)
   has-written h = record { found = h.found; come = h.come; text = h.text; report = h.report; kept = h.kept }
 
-  misses-written : (file : Input) (fault : PlaceFault) → MissesInput s old (world f d i mid) file fault → MissesInput s old (world f d i outs) file fault
+  misses-written : (file : Input) (fault : PlaceFault) → MissesInput line s old (world f d i mid) file fault → MissesInput line s old (world f d i outs) file fault
   misses-written Rules fault h = h
   misses-written (Log place) fault h = record { mid = h.mid; begun = h.begun; misses = h.misses }
 
@@ -122,17 +122,17 @@ kept-one : {follow : Follow} {entries : List Entry} {name : List ℕ} {a b : Fil
 kept-one h = ap (λ (v : FilesView). v.contents) h.asks.others
 
 -- only contents that aren't told fall short
-miss-untold : {follow : Follow} {names : List (List ℕ)} {entries : List Entry} {place at : ℕ} {a b : FilesView} → MissesAt follow names entries place a b (PlaceShort at) → a.contents ≡ None
+miss-untold : {follow : Follow} {names : List (List ℕ)} {entries : List Entry} {place at : ℕ} {a b : FilesView} {portions : List Portion} → MissesAt follow names entries place a b portions (PlaceShort at) → a.contents ≡ None
 miss-untold (misses_first misses) = misses.cause.2
 miss-untold (misses_later reads follows rest) = sym (kept-one reads) ∙ miss-untold rest
 
-short-untold : (s : Settings) (old new : World) (file : Input) (at : ℕ) → MissesInput s old new file (PlaceShort at) → old.files.contents ≡ None
-short-untold s old new Rules at (name, named, misses, left) = misses.cause.2
-short-untold s old new (Log place) at h =
-    sym (kept-rules s.browsers_file old.files h.mid h.begun.rules h.begun.has_rules) ∙ miss-untold h.misses
+short-untold : (line : LineSetup) (s : Settings) (old new : World) (file : Input) (at : ℕ) → MissesInput line s old new file (PlaceShort at) → old.files.contents ≡ None
+short-untold line s old new Rules at (name, named, misses, left) = misses.cause.2
+short-untold line s old new (Log place) at h =
+    sym (kept-rules s.browsers_file old.files h.mid h.begun.rules h.begun.has_rules) ∙ miss-untold h.misses.misses
 
 -- some log stands where one was missed
-miss-name : {follow : Follow} {names : List (List ℕ)} {entries : List Entry} {place : ℕ} {a b : FilesView} {fault : PlaceFault} → MissesAt follow names entries place a b fault
+miss-name : {follow : Follow} {names : List (List ℕ)} {entries : List Entry} {place : ℕ} {a b : FilesView} {portions : List Portion} {fault : PlaceFault} → MissesAt follow names entries place a b portions fault
     → (name : List ℕ) × (slice_get names place ≡ Some name)
 miss-name (misses_first {name} misses) = (name, refl)
 miss-name (misses_later reads follows rest) = miss-name rest
@@ -141,9 +141,9 @@ behind : (file : Option (List ℕ)) (logs : List (List ℕ)) (place : ℕ) → s
 behind None logs place = ap (slice_get logs) (let e : 0 + place ≡ place = omega arith in e)
 behind (Some name) logs place = ap (slice_get (name ∷ logs)) (let e : 1 + place ≡ suc place = omega arith in e)
 
-some-input : (s : Settings) (old new : World) (file : Input) (fault : PlaceFault) → MissesInput s old new file fault → (name : List ℕ) × (slice_get (inputs_of s) (place_of s file) ≡ Some name)
-some-input s old new Rules fault (name, named, misses, left) = (name, ap (λ o. slice_get (rules_file o ++ s.logs) 0) named)
-some-input s old new (Log place) fault h = let found = miss-name h.misses in (found.0, behind s.browsers_file s.logs place ∙ found.1)
+some-input : (line : LineSetup) (s : Settings) (old new : World) (file : Input) (fault : PlaceFault) → MissesInput line s old new file fault → (name : List ℕ) × (slice_get (inputs_of s) (place_of s file) ≡ Some name)
+some-input line s old new Rules fault (name, named, misses, left) = (name, ap (λ o. slice_get (rules_file o ++ s.logs) 0) named)
+some-input line s old new (Log place) fault h = let found = miss-name h.misses.misses in (found.0, behind s.browsers_file s.logs place ∙ found.1)
 
 there : (files : FilesView) (names : List (List ℕ)) (place : ℕ) (name : List ℕ) → AllByRecursion (λ n. told n files.contents ≢ None) names → slice_get names place ≡ Some name
     → told name files.contents ≡ None → ⊥
@@ -155,11 +155,11 @@ failed-not : (s : Settings) (old new : World) → ¬ CanServe (inputs_of s) old.
 failed-not s old new unsure counted (inl can) = unsure can
 failed-not s old new unsure counted (inr still) = still.0 (rose-at _ _ counted)
 
-short-not : (s : Settings) (old new : World) (file : Input) (at : ℕ) → MissesInput s old new file (PlaceShort at) → new.files.counts.shorts ≡ raised old.files.counts.shorts 1 → FilesServed s old new → ⊥
-short-not s old new file at misses counted (inl can) =
-    let (name, stands) = some-input s old new file (PlaceShort at) misses in
-    there old.files (inputs_of s) (place_of s file) name can.present stands (ap (told name) (short-untold s old new file at misses))
-short-not s old new file at misses counted (inr still) = still.1 (rose-at _ _ counted)
+short-not : (line : LineSetup) (s : Settings) (old new : World) (file : Input) (at : ℕ) → MissesInput line s old new file (PlaceShort at) → new.files.counts.shorts ≡ raised old.files.counts.shorts 1 → FilesServed s old new → ⊥
+short-not line s old new file at misses counted (inl can) =
+    let (name, stands) = some-input line s old new file (PlaceShort at) misses in
+    there old.files (inputs_of s) (place_of s file) name can.present stands (ap (told name) (short-untold line s old new file at misses))
+short-not line s old new file at misses counted (inr still) = still.1 (rose-at _ _ counted)
 
 stopped-not : (line : LineSetup) (s : Settings) (old new : World) (to : To) (at : ℕ) → StopsPrinting line s old new to at → OutputServed line s old new → ⊥
 stopped-not line s old new to at h (inl (fits, fed)) =
@@ -173,7 +173,7 @@ complete-by line s old new (BadWords fault) ends counted served disk took good =
 complete-by line s old new (BadFormat which fault) ends counted served disk took good = absurd ends
 complete-by line s old new (BadRules at) ends counted served disk took good = absurd (good.rules at refl)
 complete-by line s old new (FileFault file) ends counted served disk took good = absurd (failed-not s old new ends.0.unsure counted.faults served)
-complete-by line s old new (FileShort file at) ends counted served disk took good = absurd (short-not s old new file at ends.0 counted.shorts served)
+complete-by line s old new (FileShort file at) ends counted served disk took good = absurd (short-not line s old new file at ends.0 counted.shorts served)
 complete-by line s old new DiskFault (inl h, quiet) counted served disk took good = absurd (disk (rose-at _ _ h.misses.cause))
 complete-by line s old new DiskFault (inr h, quiet) counted served disk took good =
     absurd (disk (rose-at _ _ (h.fails.fault ∙ ap (λ (n : ℕ). raised n 1) (found-faults s old.disk h.found h.come.stored h.come.finds))))
@@ -195,7 +195,7 @@ present-all (read_then reads follows rest) zero name stands gone = present-one r
 present-all (read_then reads follows rest) (suc place) name stands gone = present-all rest place name stands (ap (is_absent name) (kept-one reads) ∙ gone)
 
 -- no log before the one that was missed is absent
-miss-place : {follow : Follow} {names : List (List ℕ)} {entries : List Entry} {at : ℕ} {a b : FilesView} {fault : PlaceFault} → MissesAt follow names entries at a b fault
+miss-place : {follow : Follow} {names : List (List ℕ)} {entries : List Entry} {at : ℕ} {a b : FilesView} {portions : List Portion} {fault : PlaceFault} → MissesAt follow names entries at a b portions fault
     → (place : ℕ) (name : List ℕ) → slice_get names place ≡ Some name → is_absent name a.contents ≡ true → at ≤ place
 miss-place (misses_first misses) place name stands gone = omega arith
 miss-place (misses_later reads follows rest) zero name stands gone = absurd (present-one reads stands gone)
@@ -217,11 +217,11 @@ module _ (line : LineSetup) (s : Settings) (old new : World) where
         let found = past-rules s.browsers_file come.mid come.rules come.has_rules place name stands gone in
         present-all come.counted.read found.0 name found.2 found.3
 
-    at-or-before : (file : Input) → MissesInput s old new file PlaceFailed → place_of s file ≤ place
+    at-or-before : (file : Input) → MissesInput line s old new file PlaceFailed → place_of s file ≤ place
     at-or-before Rules misses = omega arith
     at-or-before (Log p) h =
         let found = past-rules s.browsers_file h.mid h.begun.rules h.begun.has_rules place name stands gone in
-        let within = miss-place h.misses found.0 name found.2 found.3 in
+        let within = miss-place h.misses.misses found.0 name found.2 found.3 in
         let is = found.1 in
         omega (arith, within, is)
 
@@ -231,7 +231,7 @@ module _ (line : LineSetup) (s : Settings) (old new : World) where
     absent-by (BadFormat which fault) ends = tt
     absent-by (BadRules at) ends = tt
     absent-by (FileFault file) ends = at-or-before file ends.0.misses
-    absent-by (FileShort file at) ends = false≢true (sym (ap (is_absent name) (short-untold s old new file at ends.0)) ∙ gone)
+    absent-by (FileShort file at) ends = false≢true (sym (ap (is_absent name) (short-untold line s old new file at ends.0)) ∙ gone)
     absent-by DiskFault ends = tt
     absent-by (DbDamaged side at) ends = tt
     absent-by (OutFault to at) ends = passed-not new.files old.disk ends.has.found ends.has.come
@@ -275,7 +275,7 @@ module _ (s : Settings) (old new : World) (only : OnlyNow old.images) where
         let may = subst (λ (o : Option Sides). IfSome o (λ seen. MayKeepSince h.come.stored h.fails.new h.found new.disk old.images new.images)) (found-seen h.found h.come.stored h.come.finds) h.fails.may in
         inr (record { stored = h.come.stored; later = h.fails.new; had = had h.found h.come.stored h.come.finds h.persists; rises = may.later; moments = may.moments })
 
-    input-leaves : (file : Input) (fault : PlaceFault) → MissesInput s old new file fault → LeavesDisk old new
+    input-leaves : (file : Input) (fault : PlaceFault) → MissesInput line s old new file fault → LeavesDisk old new
     input-leaves Rules fault (name, named, misses, left) = untouched-leaves old.disk new.disk old.images new.images only left
     input-leaves (Log place) fault h = found-leaves s old.disk new.disk old.images new.images only h.begun.stored h.begun.finds
 
@@ -317,7 +317,7 @@ module _ (s : Settings) (old new : World) (only : OnlyNow old.images) (line : Li
       go (inl (persists, k)) = absurd (false≢true (sym not ∙ persists))
       go (inr (none, left)) = record { seen = ap (λ (d : DiskView). d.seen) left.view ∙ seen-same s old.disk h.found h.come.stored h.come.finds; moments = left.moments }
 
-  of-input : (file : Input) (fault : PlaceFault) → MissesInput s old new file fault → LeavesSides old new
+  of-input : (file : Input) (fault : PlaceFault) → MissesInput line s old new file fault → LeavesSides old new
   of-input Rules fault (name, named, misses, left) = of-untouched left
   of-input (Log place) fault h = of-finds h.begun.stored h.begun.finds
 
@@ -366,10 +366,10 @@ nothing-taken old new (inr (at, stops)) = absurd (omega (arith, stops.early))
 some-own : (found : Option (List ℕ)) (name : List ℕ) → found ≡ Some name → found ≡ Some (unwrap_or found [])
 some-own found name e = e ∙ sym (ap (λ o. Some (unwrap_or o [])) e)
 
-input-named : (words : List (List ℕ)) (s : Settings) → WordsOf words (Ok s) → (old new : World) (file : Input) (fault : PlaceFault) → MissesInput s old new file fault
+input-named : (words : List (List ℕ)) (line : LineSetup) (s : Settings) → WordsOf words (Ok s) → (old new : World) (file : Input) (fault : PlaceFault) → MissesInput line s old new file fault
     → NamesInput words file (input_name s file)
-input-named words s says old new Rules fault (name, named, misses, left) = (s, says, some-own s.browsers_file name named)
-input-named words s says old new (Log place) fault h = let found = miss-name h.misses in (s, says, some-own (slice_get s.logs place) found.0 found.1)
+input-named words line s says old new Rules fault (name, named, misses, left) = (s, says, some-own s.browsers_file name named)
+input-named words line s says old new (Log place) fault h = let found = miss-name h.misses.misses in (s, says, some-own (slice_get s.logs place) found.0 found.1)
 
 -- the name in a fault line is one that the words give
 pub named : (words : List (List ℕ)) (s : Settings) → WordsOf words (Ok s) → (old new : World) (status : Status) → EndsRun s old new status → NamesFailed words status (failed_name s status)
@@ -378,9 +378,9 @@ named words s says old new (BadWords fault) ends = refl
 named words s says old new (BadFormat which fault) ends = refl
 named words s says old new (BadRules at) ends = refl
 named words s says old new (FileFault file) (inl early) = absurd early.0
-named words s says old new (FileFault file) (inr (line, is, ended)) = input-named words s says old new file PlaceFailed ended.ends.0.misses
+named words s says old new (FileFault file) (inr (line, is, ended)) = input-named words line s says old new file PlaceFailed ended.ends.0.misses
 named words s says old new (FileShort file at) (inl early) = absurd early.0
-named words s says old new (FileShort file at) (inr (line, is, ended)) = input-named words s says old new file (PlaceShort at) ended.ends.0
+named words s says old new (FileShort file at) (inr (line, is, ended)) = input-named words line s says old new file (PlaceShort at) ended.ends.0
 named words s says old new DiskFault ends = refl
 named words s says old new (DbDamaged side at) ends = refl
 named words s says old new (OutFault to at) (inl early) = absurd early.0

@@ -240,9 +240,9 @@ module _ (line : LineSetup) (s : Settings) (files : FilesView) (d : DiskView) (i
       rules-still : files' ≡ mid → HasRules s.browsers_file files files' rules
       rules-still same = subst (λ (v : FilesView). HasRules s.browsers_file files v rules) (sym same) has
 
-      miss-asked : (place : ℕ) (fault : PlaceFault) → StopsAtLog s mid files' d d' i i' place fault → (count : ℕ) × WalksInputs s d files files' count
+      miss-asked : (place : ℕ) (fault : PlaceFault) → StopsAtLog (setup_of line s rules) s mid files' d d' i i' place fault → (count : ℕ) × WalksInputs s d files files' count
       miss-asked place fault h =
-          let walked = walks-miss h.misses in
+          let walked = walks-miss h.misses.misses in
           asks-logs (record {
             stored = h.found.stored;
             is_stored = there-in s d d' h.found.stored (found-there s d d' i i' h.found.stored h.found.finds);
@@ -266,11 +266,11 @@ module _ (line : LineSetup) (s : Settings) (files : FilesView) (d : DiskView) (i
               unsure = λ can. sure (served-later s.logs files mid stay (served-back (rules_file s.browsers_file) s.logs files can));
             },
             refl,
-          ) (miss-counts files.counts PlaceFailed same-before h.misses)
+          ) (miss-counts files.counts PlaceFailed same-before h.misses.misses)
       ends-count stay (FileShort Rules at) h sure = absurd h
       ends-count stay (FileShort (Log place) at) h sure =
           stopped files' d' i' went dwent (FileShort (Log place) at) (miss-asked place (PlaceShort at) h) (record { mid = mid; begun = begun h.found; misses = h.misses }, refl)
-          (miss-counts files.counts (PlaceShort at) same-before h.misses)
+          (miss-counts files.counts (PlaceShort at) same-before h.misses.misses)
       ends-count stay DiskFault (misses, same) sure =
           stopped files' d' i' went dwent DiskFault (none-asked same) (inl (record { rules = rules; has_rules = rules-still same; misses = misses }), refl) (same-then same-before (same-files same))
       ends-count stay (DbDamaged side at) (misses, same) sure =

@@ -12,7 +12,8 @@ use Rattle.ga_keep.specs.Database.{AreBase, Finds, IsUntouched, LooksAtMost, lac
 use Rattle.ga_keep.specs.Steps.{Misses}
 use Rattle.ga_line.specs.declared.setup.LineSetup.{LineSetup}
 use Rattle.ga_outcomes.specs.Counting.{FillsAmong}
-use Rattle.ga_logs.specs.Following.{CanServe, MissesAt, MissesLog, ReadsPortion, ReadsSome}
+use Rattle.ga_logs.specs.Following.{CanServe, MissesLog, ReadsPortion, ReadsSome}
+use Rattle.ga_logs.specs.Logs.{MissesLogs}
 use Rattle.ga_logs.specs.Portions.{counted_lines}
 use Rattle.ga_logs.specs.declared.follow.Follow.TheVariants.{Whole}
 use Rattle.ga_logs.specs.declared.portion.Portion.{Portion}
@@ -85,21 +86,22 @@ pub record HasBegun (s : Settings) (old : World) (mid : FilesView) (disk' : Disk
   pub entries : List Entry
   pub begin : AreBase s stored entries
 
--- a log wasn't read, for this fault; the files before it were
-pub record MissesTheLog (s : Settings) (old new : World) (place : ℕ) (fault : PlaceFault) : Type 0 where
+-- a log wasn't read, for this fault; the files before it were, and the lines that are counted then fill no counter
+pub record MissesTheLog (line : LineSetup) (s : Settings) (old new : World) (place : ℕ) (fault : PlaceFault) : Type 0 where
   pub mid : FilesView
   pub begun : HasBegun s old mid new.disk new.images
-  pub misses : MissesAt (start_of s begun.stored).follow s.logs begun.entries place mid new.files fault
+  pub misses : MissesLogs (setup_of line s begun.rules) (start_of s begun.stored) s.generate s.logs begun.entries mid new.files
+      place fault
 
--- the same of any file
-abbrev pub MissesInput : Settings → World → World → Input → PlaceFault → Type 0
-MissesInput s old new Rules fault = (name : List ℕ) × (s.browsers_file ≡ Some name)
+-- a file wasn't read, for this fault
+abbrev pub MissesInput : LineSetup → Settings → World → World → Input → PlaceFault → Type 0
+MissesInput line s old new Rules fault = (name : List ℕ) × (s.browsers_file ≡ Some name)
     × MissesLog Whole [] name old.files new.files fault × IsUntouched old.disk new.disk old.images new.images
-MissesInput s old new (Log place) fault = MissesTheLog s old new place fault
+MissesInput line s old new (Log place) fault = MissesTheLog line s old new place fault
 
 -- a call on this file failed, and it wasn't told that none can
-pub record FailsInput (s : Settings) (old new : World) (file : Input) : Type 0 where
-  pub misses : MissesInput s old new file PlaceFailed
+pub record FailsInput (line : LineSetup) (s : Settings) (old new : World) (file : Input) : Type 0 where
+  pub misses : MissesInput line s old new file PlaceFailed
   pub unsure : ¬ CanServe (inputs_of s) old.files
 
 -- ---- counters
@@ -143,8 +145,8 @@ Ends line s old new Done = Finishes line s old new
 Ends line s old new (BadWords fault) = ⊥
 Ends line s old new (BadFormat which fault) = ⊥
 Ends line s old new (BadRules at) = HasBadRule s old new at × SaysOnly old new
-Ends line s old new (FileFault file) = FailsInput s old new file × SaysOnly old new
-Ends line s old new (FileShort file at) = MissesInput s old new file (PlaceShort at) × SaysOnly old new
+Ends line s old new (FileFault file) = FailsInput line s old new file × SaysOnly old new
+Ends line s old new (FileShort file at) = MissesInput line s old new file (PlaceShort at) × SaysOnly old new
 Ends line s old new DiskFault = (MissesDatabase s old new StoreFailed ⊎ FailsAtLast line s old new) × SaysOnly old new
 Ends line s old new (DbDamaged side at) = MissesDatabase s old new (Damaged side at) × SaysOnly old new
 Ends line s old new (OutFault to at) = StopsPrinting line s old new to at

@@ -11,8 +11,8 @@ use Rattle.ga_keep.specs.Database.{AreBase, FailsKeeping, Finds, IsUntouched, Ke
 use Rattle.ga_keep.specs.Steps.{Misses}
 use Rattle.ga_line.specs.declared.setup.LineSetup.{LineSetup}
 use Rattle.ga_outcomes.specs.Counting.{FillsAmong}
-use Rattle.ga_logs.specs.Following.{CanServe, MissesAt, ReadsSome}
-use Rattle.ga_logs.specs.Logs.{CountsLogs, StopsLogs}
+use Rattle.ga_logs.specs.Following.{CanServe, ReadsSome}
+use Rattle.ga_logs.specs.Logs.{CountsLogs, MissesLogs, StopsLogs}
 use Rattle.ga_logs.specs.Portions.{counted_lines}
 use Rattle.ga_logs.specs.declared.fault.CountFault.{CountFault}
 use Rattle.ga_logs.specs.declared.fault.CountFault.TheVariants.{Failed as LogFailed, Short as LogShort, Full, NoMemory as CountNoMemory}
@@ -113,11 +113,11 @@ pub record CountedValue (setup : Setup) (s : Settings) (counted : Counted) (file
   pub whole : has.whole ≡ counted.whole
   pub entries : has.entries' ≡ counted.entries
 
--- a log wasn't read
-pub record StopsAtLog (s : Settings) (files files' : FilesView) (disk disk' : DiskView) (images images' : Images) (place : ℕ)
-    (fault : PlaceFault) : Type 0 where
+-- a log wasn't read, and no counter was full
+pub record StopsAtLog (setup : Setup) (s : Settings) (files files' : FilesView) (disk disk' : DiskView) (images images' : Images)
+    (place : ℕ) (fault : PlaceFault) : Type 0 where
   pub found : HasFound s disk disk' images images'
-  pub misses : MissesAt (start_of s found.stored).follow s.logs found.entries place files files' fault
+  pub misses : MissesLogs setup (start_of s found.stored) s.generate s.logs found.entries files files' place fault
 
 -- a counter is full
 pub record StopsFull (setup : Setup) (s : Settings) (files files' : FilesView) (disk disk' : DiskView) (images images' : Images)
@@ -143,8 +143,8 @@ pub record StopsHungry (s : Settings) (files files' : FilesView) (disk disk' : D
   pub faults : SameFaults files.counts files'.counts
 
 abbrev pub StopsCounting : Setup → Settings → FilesView → FilesView → DiskView → DiskView → Images → Images → Status → Type 0
-StopsCounting setup s files files' disk disk' images images' (FileFault (Log place)) = StopsAtLog s files files' disk disk' images images' place PlaceFailed
-StopsCounting setup s files files' disk disk' images images' (FileShort (Log place) at) = StopsAtLog s files files' disk disk' images images' place (PlaceShort at)
+StopsCounting setup s files files' disk disk' images images' (FileFault (Log place)) = StopsAtLog setup s files files' disk disk' images images' place PlaceFailed
+StopsCounting setup s files files' disk disk' images images' (FileShort (Log place) at) = StopsAtLog setup s files files' disk disk' images images' place (PlaceShort at)
 StopsCounting setup s files files' disk disk' images images' DiskFault = Misses s disk disk' images images' StoreFailed × (files' ≡ files)
 StopsCounting setup s files files' disk disk' images images' (DbDamaged side at) = Misses s disk disk' images images' (Damaged side at) × (files' ≡ files)
 StopsCounting setup s files files' disk disk' images images' (CounterFull which total) = StopsFull setup s files files' disk disk' images images' which total

@@ -40,8 +40,8 @@ returns-in-Err-clause-stops g c =
     let split : names ≡ take place names ++ c.index-names-place.result ∷ drop (suc place) names =
     split-at names place c.index-names-place.result c.loop-place-test.true ∙ ap (λ name. take place names ++ name ∷ drop (suc place) names) at in
     rw c.of_log.ensures
-    (stops-more c.args.setup.now c.args.start c.args.generated names (take place names) (drop (suc place) names) c.index-names-place.result split _ _ _ _ _ c.loop-place.counting c.loop-place.invariant.counted place _
-    (taken-length names place c.loop-place.invariant.within) c.in-Err.ensures.stops)
+    (stops-more c.args.setup.now c.args.start c.args.generated names (take place names) (drop (suc place) names) c.index-names-place.result split _ _ _ _ _ c.loop-place.counting c.loop-place.invariant.counted
+    (sym c.full.ensures ∙ c.in_default.is) place _ (taken-length names place c.loop-place.invariant.within) c.in-Err.ensures.stops)
 
 pub returns-in-Err-clause-sure : goal.returns-in-Err-clause-sure
 returns-in-Err-clause-sure g c =
