@@ -4,9 +4,9 @@ use Rattle.std.specs.Prelude.{slice_get}
 use Rattle.std.specs.List.{All}
 use Rattle.std.specs.List.Sorted.{IsPermutation, IsSorted}
 use Rattle.std.proofs.lemmas.List.{map_push, take_more}
-use Rattle.std.proofs.lemmas.List.Elements.{All-push}
+use Rattle.std.proofs.lemmas.List.Elements.{All-push, All-weaker}
 use Rattle.std.proofs.lemmas.List.Sorted.{All-permutation, IsPermutation-map}
-use Rattle.std.proofs.lemmas.Option.{slice_get-get_or}
+use Rattle.std.proofs.lemmas.Option.{slice_get-get_or, slice_get_within}
 use Rattle.ga_base.specs.declared.key.Key.{Key}
 use Rattle.ga_totals.specs.Steps.Rows.{AreByKey, NumberedKey, number_cmp}
 
@@ -36,3 +36,7 @@ module _ (keys : List Key) where
     numbers = All-permutation (λ n. slice_get keys n.number ≡ Some n.key) all sorted moved numbers;
     sorted = rise;
   }
+
+  pub numbers-within : (all : List NumberedKey) (many : ℕ) → length keys ≡ many → AreByKey keys all → All (λ n. n.number < many) all
+  numbers-within all many long by_key = All-weaker (λ n. slice_get keys n.number ≡ Some n.key) (λ n. n.number < many)
+      (λ n stands. subst (λ k. n.number < k) long (slice_get_within keys n.number n.key stands)) all by_key.numbers

@@ -1,12 +1,16 @@
-ghost use Rattle.std.specs.Prelude.{◌≡◌, IfOk, length};
+ghost use Rattle.std.specs.Prelude.{◌≡◌, ◌<◌, All, IfOk, length, map};
 ghost use Rattle.ga_report.specs.Sound.{AreSound};
-ghost use Rattle.ga_totals.specs.Steps.Telling.{AreToldRows};
+ghost use Rattle.ga_tallies.specs.Tallies.{lists_in, pairs_in};
+ghost use Rattle.ga_totals.specs.Steps.Rows.{AreByKey, AreWithin};
+ghost use Rattle.ga_totals.specs.Steps.Telling.{AreVisits, told_of};
 
-use crate::numbered::by_key;
+use crate::numbered::{Numbered, by_key, by_key_in_jobs};
+use crate::visits::visits_of;
 use ga_base::{Key, NoMemory, Sums, Totals};
 use ga_report::{Tells, Told};
 use std::alloc::Global;
 use std::marker::Model;
+use std::thread::{self, Threads};
 
 /// What a total tells to a report: its keys in their order, each with its sums and the number of its visitors. It makes
 /// no names.
@@ -94,20 +98,48 @@ impl<'a> KeyTold<'a> {
     }
 }
 
-/// What is told of each key, in the order of the keys. Sums and numbers of visitors stand at the keys' numbers.
+/// How many visitors each key has, at the key's number, and the keys in their order. With more than one job the two are made
+/// side by side: a thread of its own counts the visitors, while this one and others sort the keys.
+pub(crate) fn visits_and_order<'a, R: Threads + Sync>(
+    rt: &R,
+    alloc: Global,
+    jobs: u32,
+    keys: &'a [Key],
+    visitors: usize,
+    rows: &[Vec<u32>],
+) -> Result<(Vec<u64>, Vec<Numbered<'a>>), NoMemory>
+    requires { AreWithin visitors (lists_in rows.now) }
+    ensures visits { IfOk result (λ both. AreVisits (length keys.now) (pairs_in (lists_in rows.now)) both.0.items) }
+    ensures order { IfOk result (λ both. AreByKey keys.now both.1.items) }
+{
+    if jobs < 2 {
+        let visits = visits_of(alloc, keys.len(), visitors, rows)?;
+        return Ok((visits, by_key(alloc, keys)?));
+    }
+    let count_visits = || -> Result<Vec<u64>, NoMemory>
+        requires { AreWithin visitors (lists_in rows.now) }
+        ensures { IfOk result (λ visits. AreVisits (length keys.entry.now) (pairs_in (lists_in rows.entry.now)) visits.items) }
+    { visits_of(alloc, keys.len(), visitors, rows) };
+    let order_keys = || -> Result<Vec<Numbered<'_>>, NoMemory>
+        ensures { IfOk result (λ all. AreByKey keys.entry.now all.items) }
+    { by_key_in_jobs(rt, alloc, jobs, keys) };
+    let (visits, order) = thread::join(rt, count_visits, order_keys);
+    Ok((visits?, order?))
+}
+
+/// What is told of each key, in the order that is given. Sums and numbers of visitors stand at the keys' numbers.
 pub(crate) fn key_rows<'a>(
     alloc: Global,
-    keys: &'a [Key],
+    order: &[Numbered<'a>],
     sums: &'a [Sums],
     visits: &[u64],
 ) -> Result<Vec<KeyTold<'a>>, NoMemory>
-    requires sums { length sums.now ≡ length keys.now }
-    requires visits { length visits.now ≡ length keys.now }
-    ensures { IfOk result (λ rows. AreToldRows keys.now sums.now visits.now rows.items) }
+    requires sums { All (λ n. n.number < length sums.now) order.now }
+    requires visits { length visits.now ≡ length sums.now }
+    ensures { IfOk result (λ rows. rows.items ≡ map (told_of sums.now visits.now) order.now) }
 {
-    let order = by_key(alloc, keys)?;
     let mut rows = Vec::with_capacity(alloc, order.len())?;
-    for entry in &order {
+    for entry in order {
         let number = entry.number();
         rows.push(KeyTold::of(entry.key(), &sums[number], visits[number]))?;
     }
