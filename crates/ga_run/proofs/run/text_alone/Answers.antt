@@ -38,8 +38,8 @@ returns-in_err-total-clause-stops g c =
     let p = err_from_is_err_and c.from_residual-in_err-total.result c.from_residual-in_err-total.ensures.1 in
     rw (p.1, p.2) (inl (record { entries = entries; begin = c.in_ok-entries.ensures; fault = fault; status_is = refl; stops = stops }))
 
-pub told-requires : goal.told-requires
-told-requires g c = countable-total _ _ _ _ c.in_ok-total.ensures.ok.counts
+pub told-requires-after_bounds : goal.told-requires-after_bounds
+told-requires-after_bounds g c κs within = countable-total _ _ _ _ c.in_ok-total.ensures.ok.counts
 
 pub returns-clause-ok : goal.returns-clause-ok
 returns-clause-ok g c =
