@@ -97,8 +97,14 @@ pub cut-short : (text : List ℕ) → length (cut_lines text) ≤ length text
 cut-short text =
     by-lines (λ text. length (cut_lines text) ≤ length text)
     (λ line none. omega (arith, ap (λ (xs : List ℕ). length xs) (cut-none line none), length-take LINE_HELD line))
-    (λ line more none short. omega (arith, ap (λ (xs : List ℕ). length xs) (cut-first line more none), length-append (cut_line line) (LINE_FEED ∷ cut_lines more), length-append line (LINE_FEED ∷ more),
-        length-take LINE_HELD line, short))
+    (λ line more none short. omega (
+      arith,
+      ap (λ (xs : List ℕ). length xs) (cut-first line more none),
+      length-append (cut_line line) (LINE_FEED ∷ cut_lines more),
+      length-append line (LINE_FEED ∷ more),
+      length-take LINE_HELD line,
+      short,
+    ))
     text
 
 take-front : (n : ℕ) (line more : List ℕ) → take n (take n line ++ more) ≡ take n (line ++ more)

@@ -270,8 +270,9 @@ impl Batcher {
         ensures batch { spare.new.items ≡ self.old.batch }
         ensures value { self.new ≡ record self.old { batch = [] } }
     {
-        spare.extend_from_slice(&self.bytes[self.begun..]).unwrap();
-        self.bytes.truncate(self.begun);
+        let begun = self.begun;
+        spare.extend_from_slice(&self.bytes[begun..]).unwrap();
+        self.bytes.truncate(begun);
         mem::swap(&mut self.bytes, spare);
         self.begun = 0;
     }

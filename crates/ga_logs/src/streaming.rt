@@ -131,17 +131,7 @@ fn feed_part<R: Threads + Sync, G: Gate, F: Files>(
     let mut at = from;
     while at < to {
         at = fill_and_count(
-            rt,
-            gate,
-            setup,
-            jobs,
-            at,
-            to,
-            buffer,
-            files,
-            counting,
-            &taken,
-            batcher,
+            rt, gate, setup, jobs, at, to, buffer, files, counting, &taken, batcher,
         )?;
         batcher.take_into(&mut taken)?;
     }

@@ -72,16 +72,16 @@ pub fn count_taken<R: Threads + Sync, G: Gate>(
     gate: &G,
     setup: &Setup,
     counting: &mut Counting,
-    batch: &[u8],
+    taken: &[u8],
 ) -> Result<(), NoMemory>
-    requires { length batch.now ≤ 2 ^ 24 }
+    requires { length taken.now ≤ 2 ^ 24 }
     ensures start { OnOk result (counting.new.start ≡ counting.old.start) }
     ensures within { OnOk result ((before : List (List ℕ)) (stream : List ℕ) (batcher : BatcherSeen)
-        → IsBehind setup.now before stream counting.old batch.now batcher → IsWithin setup.now before stream counting.new batcher) }
+        → IsBehind setup.now before stream counting.old taken.now batcher → IsWithin setup.now before stream counting.new batcher) }
 {
     // What is known of lines, for the proof alone: the call does nothing.
     lines_added();
-    counting.count(rt, gate, setup, batch)?;
+    counting.count(rt, gate, setup, taken)?;
     Ok(())
 }
 

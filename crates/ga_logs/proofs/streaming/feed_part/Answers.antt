@@ -33,7 +33,7 @@ loop-at-preserved g c =
     let v = view c.args.files.now in
     let w = view c.loop-at.files in
     let feeds = subst (λ (xs : List ℕ). FeedsBehind c.args.setup.now c.args.from c.loop-at.at v w c.args.counting.now c.loop-at.counting xs c.args.batcher.now c.loop-at.batcher)
-        (sym c.deref.ensures.value) was.feeds in
+    (sym c.deref.ensures.value) was.feeds in
     record {
       within = ok.fills.within;
       begun = omega (arith, was.begun, ok.fills.some);
@@ -87,7 +87,7 @@ returns-clause-ok g c =
     let taken = c.deref-2.result.now in
     let over : c.loop-at.at ≡ c.args.to = omega (arith, was.within) in
     let same = subst (λ (xs : List ℕ). FeedsBehind c.args.setup.now c.args.from c.loop-at.at v w c.args.counting.now c.loop-at.counting xs c.args.batcher.now c.loop-at.batcher)
-        (sym c.deref-2.ensures.value) was.feeds in
+    (sym c.deref-2.ensures.value) was.feeds in
     let feeds = subst (λ (n : ℕ). FeedsBehind c.args.setup.now c.args.from n v w c.args.counting.now c.loop-at.counting taken c.args.batcher.now c.loop-at.batcher) over same in
     feeds-all c.args.setup.now c.args.from c.args.to v w c.args.counting.now c.loop-at.counting c.count_taken.new.counting taken c.args.batcher.now c.loop-at.batcher feeds
     c.in_ok-count_taken.ensures.start c.in_ok-count_taken.ensures.within

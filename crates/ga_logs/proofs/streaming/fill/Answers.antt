@@ -44,8 +44,8 @@ returns-in_err-at g c =
     rw (p.1, p.2) (record {
       ok = tt;
       failed = stops-more-within (c.loop-at.at - c.args.from) _ (c.args.to - c.args.from) (view c.args.files.now) (view c.loop-at.files) _ _ read
-      (omega (arith, c.loop-at.invariant.begun)) c.in_err-at.ensures.failed;
+          (omega (arith, c.loop-at.invariant.begun)) c.in_err-at.ensures.failed;
       calls = files_then c.loop-at.invariant.went c.fill_slice.ensures.calls;
       sure = λ none. c.in_err-at.ensures.sure (subst (λ told. NoneDue told (view c.loop-at.files).counts.calls) (sym same)
-      (none-later _ _ (view c.args.files.now).listed (c.files_stay.ensures _ _ c.loop-at.invariant.went).calls none));
+          (none-later _ _ (view c.args.files.now).listed (c.files_stay.ensures _ _ c.loop-at.invariant.went).calls none));
     })
