@@ -1,7 +1,10 @@
 pub mod Lists
+pub mod Sorting
 pub mod ItemSums
 pub mod Shares
-pub mod MergeSteps
+pub mod Alike
+pub mod RowsAdded
+pub mod Firsts
 pub mod Arrangement
 pub mod OfSummaries
 pub mod Generals

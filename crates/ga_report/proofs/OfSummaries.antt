@@ -3,13 +3,14 @@ use Rattle.std.proofs.Common.{◌≡◌, ℕ, suc, ◌+◌, ◌≤◌, ◌==◌,
 use Rattle.std.specs.declared.cmp.Ordering.{Ordering}
 use Rattle.std.specs.Ordering.{is_eq, ordering_reverse}
 use Rattle.std.specs.Option.{is_some, option_map_or}
-use Rattle.std.specs.List.{AllByRecursion, list_any}
+use Rattle.std.specs.List.{AllByRecursion, IsDistinct, list_any}
 use Rattle.std.specs.List.Sorted.{IsStrictlySortedBy}
 use Rattle.std.proofs.lemmas.Bool.{false≢true}
 use Rattle.std.proofs.lemmas.Bool.Decides.{Decides-eqb}
 use Rattle.std.proofs.lemmas.Cmp.{tied_itself}
 use Rattle.std.proofs.lemmas.List.Elements.{All-from_recursion, recursion_from_All}
 use Rattle.std.proofs.lemmas.List.Sums.{sum_by-cons}
+use Rattle.std.proofs.lemmas.Map.Keys.{IsDistinct-from_sorted}
 use Rattle.ga_base.specs.declared.counts.Sums.{Sums}
 use Rattle.ga_base.specs.declared.key.Key.{Key}
 use Rattle.ga_base.specs.declared.key.Visitor.{Visitor}
@@ -255,7 +256,7 @@ module _ (s : SummaryValue) (is : IsSummary s) where
 
   pub told-sound : AreSound (map told_of s.rows)
   told-sound = record {
-    rising = subst (λ (ks : List Key). IsStrictlySortedBy key_cmp ks) (sym (keys-told s.rows)) is.ordered.keys;
+    different = subst (λ (ks : List Key). IsDistinct is_same_key ks) (sym (keys-told s.rows)) (IsDistinct-from_sorted key_cmp _ is.ordered.keys);
     hit = rows-all (λ row. 1 ≤ row.sums.hits) (λ row at. omega (arith, is.sound.rows.hit row.key (rw at refl), ap (λ (x : Sums). x.hits) (sums-found row at)));
     dated = rows-all (HasDay (day_rows (map told_of s.rows))) dated;
     layers = days-all (λ day. (layer : Layer) → SumsWithin (layer_rows layer day.key.date (map told_of s.rows)) day.sums) layered;

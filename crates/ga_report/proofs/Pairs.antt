@@ -1,17 +1,15 @@
 -- Lists that are related pair by pair.
-use Rattle.std.proofs.Common.{◌≡◌, ℕ, zero, suc, ◌+◌, ◌<◌, ◌≤◌, Bool, true, false, List, [], ◌∷◌, ◌++◌, length, map, filter, take, get_or, refl, sym, ap, ◌∙◌, subst, arith, All, append-nil, take_all}
-use Rattle.std.specs.List.Sorted.{IsPermutation}
+use Rattle.std.proofs.Common.{◌≡◌, ℕ, zero, suc, ◌+◌, ◌<◌, ◌≤◌, Bool, true, false, List, [], ◌∷◌, ◌++◌, length, map, filter, take, get_or, refl, sym, ap, ◌∙◌, subst, arith, append-nil, take_all}
 use Rattle.std.proofs.lemmas.List.{map-append}
-use Rattle.std.proofs.lemmas.List.Elements.{All-filter, All-take, filter-append}
-use Rattle.std.proofs.lemmas.List.Sorted.{All-permutation}
+use Rattle.std.proofs.lemmas.List.Elements.{filter-append}
 use Rattle.ga_base.specs.Panels.{has_panel}
 use Rattle.ga_report.specs.declared.report.General.{General}
 use Rattle.ga_report.specs.declared.report.Item.{Item}
 use Rattle.ga_base.specs.declared.panel.Panel.{Panel}
 use Rattle.ga_report.specs.declared.report.Row.{Row}
-use Rattle.ga_report.specs.Items.{AreItems, is_child, is_row}
+use Rattle.ga_report.specs.Items.{is_child, is_row}
 use Rattle.ga_report.specs.Reports.{AreChildren, IsPanelList, IsRow, Pairwise, all_panels, panels_of, shown_as}
-use Rattle.ga_report.specs.Steps.Summed.{IsPart, undate}
+use Rattle.ga_report.specs.Steps.Summed.{AreTop, undate}
 use Rattle.ga_report.specs.Told.{ToldRow}
 
 pub pairs-push : {X Y : Type 0} (R : X → Y → Type 0) (xs : List X) (ys : List Y) (x : X) (y : Y) → Pairwise R xs ys → R x y → Pairwise R (xs ++ x ∷ []) (ys ++ y ∷ [])
@@ -31,10 +29,6 @@ pub shown-undated : (general : General) (xs : List ToldRow) → map (shown_as ge
 shown-undated general [] = refl
 shown-undated general (x ∷ xs) = ap (λ (ys : List Item). shown_as general x ∷ ys) (shown-undated general xs)
 
--- parts of the whole, of which some are kept, in another order
-pub parts-among : (general : General) (p : ToldRow → Bool) (items kept : List ToldRow) → All (IsPart general) items → IsPermutation (filter p items) kept → All (IsPart general) kept
-parts-among general p items kept parts moved = All-permutation (IsPart general) (filter p items) kept moved (All-filter p (IsPart general) items parts)
-
 pub filter-push : {X : Type 0} (p : X → Bool) (xs : List X) (x : X) → p x ≡ true → filter p (xs ++ x ∷ []) ≡ filter p xs ++ x ∷ []
 filter-push {X} p xs x e =
     let one : filter p (x ∷ []) ≡ x ∷ [] = rw e refl in
@@ -45,29 +39,23 @@ filter-pass {X} p xs x e =
     let none : filter p (x ∷ []) ≡ [] = rw e refl in
     filter-append p xs (x ∷ []) ∙ ap (λ (ys : List X). filter p xs ++ ys) none ∙ append-nil (filter p xs)
 
--- the first of those that are kept
-pub parts-shown : (general : General) (p : ToldRow → Bool) (most : ℕ) (items kept lent shown : List ToldRow) → All (IsPart general) items → IsPermutation (filter p items) kept
-    → lent ≡ kept → shown ≡ take most lent → All (IsPart general) shown
-parts-shown general p most items kept lent shown parts moved e f =
-    subst (λ (xs : List ToldRow). All (IsPart general) xs) (sym (f ∙ ap (take most) e)) (All-take (IsPart general) most kept (parts-among general p items kept parts moved))
-
-pub children-are : (general : General) (most : ℕ) (told : List ToldRow) (top : ToldRow) (kept lent shown : List ToldRow) (children : List Item)
-    → lent ≡ kept → shown ≡ take most lent → children ≡ map (shown_as general) shown → AreItems top.key.panel (is_child top.key) told (map undate kept)
+pub children-are : (general : General) (most : ℕ) (told : List ToldRow) (top : ToldRow) (kept lent : List ToldRow) (children : List Item)
+    → lent ≡ kept → children ≡ map (shown_as general) lent → AreTop top.key.panel (is_child top.key) most told (map undate kept)
     → AreChildren general most told (undate top) children
-children-are general most told top kept lent shown children e f g are = record {
-  entries = map undate kept;
-  are_entries = are;
-  shown = g ∙ ap (map (shown_as general)) (f ∙ ap (take most) e) ∙ shown-undated general (take most kept) ∙ ap (map (shown_as general)) (map-take undate most kept);
+children-are general most told top kept lent children e g are = record {
+  entries = are.items;
+  are_entries = are.are_items;
+  shown = g ∙ ap (map (shown_as general)) e ∙ shown-undated general kept ∙ ap (map (shown_as general)) are.front;
 }
 
-pub panel-is : (general : General) (most : ℕ) (told : List ToldRow) (panel : Panel) (kept lent shown : List ToldRow) (rows : List Row)
-    → lent ≡ kept → shown ≡ take most lent → Pairwise (IsRow general most told) (map undate shown) rows → AreItems panel (is_row panel) told (map undate kept)
+pub panel-is : (general : General) (most : ℕ) (told : List ToldRow) (panel : Panel) (kept lent : List ToldRow) (rows : List Row)
+    → lent ≡ kept → Pairwise (IsRow general most told) (map undate lent) rows → AreTop panel (is_row panel) most told (map undate kept)
     → IsPanelList general most told panel (record { panel = panel; rows = rows })
-panel-is general most told panel kept lent shown rows e f pairs are = record {
+panel-is general most told panel kept lent rows e pairs are = record {
   is_panel = refl;
-  items = map undate kept;
-  are_items = are;
-  shown = subst (λ (xs : List ToldRow). Pairwise (IsRow general most told) xs rows) (ap (map undate) (f ∙ ap (take most) e) ∙ map-take undate most kept) pairs;
+  items = are.items;
+  are_items = are.are_items;
+  shown = subst (λ (xs : List ToldRow). Pairwise (IsRow general most told) xs rows) (ap (map undate) e ∙ are.front) pairs;
 }
 
 take-get : {X : Type 0} (n : ℕ) (xs : List X) (d : X) → n < length xs → take (n + 1) xs ≡ take n xs ++ get_or xs n d ∷ []

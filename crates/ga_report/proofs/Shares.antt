@@ -1,24 +1,26 @@
 -- What an item has together is at most what the days have.
-use Rattle.std.proofs.Common.{◌≡◌, ℕ, ◌+◌, ◌≤◌, ◌==◌, ◌&&◌, ◌||◌, Bool, true, false, cond, List, [], ◌∷◌, Less, map, sum_by, refl, sym, ap, ◌∙◌, subst, arith, eq-eqb, All}
-use Rattle.std.specs.List.{AllByRecursion, list_any}
-use Rattle.std.specs.List.Sorted.{IsStrictlySortedBy, IsPermutation}
+use Rattle.std.proofs.Common.{◌≡◌, ℕ, ◌+◌, ◌≤◌, ◌==◌, ◌&&◌, ◌||◌, Bool, true, false, cond, List, [], ◌∷◌, map, sum_by, refl, sym, ap, ◌∙◌, arith, eq-eqb, All}
+use Rattle.std.specs.Ordering.{is_eq}
+use Rattle.std.specs.List.{AllByRecursion, IsDistinct, list_any}
+use Rattle.std.specs.List.Sorted.{IsPermutation}
 use Rattle.std.proofs.lemmas.Bool.{false≢true}
 use Rattle.std.proofs.lemmas.Bool.Decides.{Decides-eqb}
+use Rattle.std.proofs.lemmas.Cmp.{tied_itself}
 use Rattle.std.proofs.lemmas.List.Elements.{All-from_recursion, recursion_from_All}
 use Rattle.std.proofs.lemmas.List.Sums.{sum_by-cons}
 use Rattle.ga_base.specs.declared.key.Key.{Key}
 use Rattle.ga_base.specs.declared.panel.Panel.{Panel}
 use Rattle.ga_base.specs.Layers.{Layer, in_layer, is_flag, is_empty}
-use Rattle.ga_base.specs.Orders.{key_cmp}
+use Rattle.ga_base.specs.Orders.{is_same_key}
 use Rattle.ga_base.specs.Panels.{is_same_panel, panel_number}
 use Rattle.ga_base.proofs.OrderLemmas.{key_cmp_total}
 use Rattle.ga_report.specs.Told.{ToldRow, ToldValue}
 use Rattle.ga_report.specs.Items.{is_of, of_item, item_of}
 use Rattle.ga_report.specs.Reports.{general_of}
 use Rattle.ga_report.specs.Sound.{AreSound, SumsFit, SumsWithin, day_rows, layer_rows}
-use Rattle.ga_report.specs.Steps.Summed.{plus, undate, AreSummed, IsPart, ItemsFit, FitTogether}
-use Rattle.ga_report.proofs.ItemSums.{same-item, own-item, item-cons, item-plus, item-moved}
-use Rattle.ga_report.proofs.Lists.{all-weaker, map-all, not-itself, sum_by-filter}
+use Rattle.ga_report.specs.Steps.Summed.{undate, AreSummed, IsPart, ItemsFit}
+use Rattle.ga_report.proofs.ItemSums.{same-item, item-moved}
+use Rattle.ga_report.proofs.Lists.{all-weaker, map-all, sum_by-filter}
 
 module _ (f : ToldRow → ℕ) where
   abbrev weight : (ToldRow → Bool) → ToldRow → ℕ
@@ -78,21 +80,22 @@ module _ (f : ToldRow → ℕ) where
       (λ d h. omega (arith, h, weaker (λ row. of-day d row && off row) (λ row. of-day d row && p row) (λ row. and-both (of-day d row) (of-day day row) (p row)) rows)) days within.1) in
       omega (arith, sum_by-cons f day days, split (of-day day) p rows, within.0, rest)
 
-  -- of rows whose keys rise, one at the most has a key
-  one-row : (k : Key) (n : ℕ) (q : ToldRow → Bool) (rows : List ToldRow) → IsStrictlySortedBy key_cmp (map (λ row. row.key) rows) → ((row : ToldRow) → q row ≡ true → row.key ≡ k)
+  -- of rows whose keys are different, one at the most has a key
+  one-row : (k : Key) (n : ℕ) (q : ToldRow → Bool) (rows : List ToldRow) → IsDistinct is_same_key (map (λ row. row.key) rows) → ((row : ToldRow) → q row ≡ true → row.key ≡ k)
       → AllByRecursion (λ row. q row ≡ true → f row ≤ n) rows → total q rows ≤ n
-  unfolding IsStrictlySortedBy
-  one-row k n q [] rise is within = omega arith
-  one-row k n q (x ∷ xs) rise is within = go (q x) refl (one-row k n q xs rise.1 is within.1)
+  unfolding IsDistinct
+  one-row k n q [] apart is within = omega arith
+  one-row k n q (x ∷ xs) apart is within = go (q x) refl (one-row k n q xs apart.1 is within.1)
     where
-      not-again : q x ≡ true → (y : ToldRow) → key_cmp x.key y.key ≡ Less → q y ≡ true → false ≡ true
-      not-again here y less e =
-          absurd (not-itself key_cmp key_cmp_total k (subst (λ (a : Key). key_cmp a k ≡ Less) (is x here) (subst (λ (b : Key). key_cmp x.key b ≡ Less) (is y e) less)))
+      not-again : q x ≡ true → (y : ToldRow) → is_same_key x.key y.key ≡ false → q y ≡ true → false ≡ true
+      not-again here y other e =
+          let same : is_same_key x.key y.key ≡ true = rw (is x here, is y e) (ap is_eq (tied_itself key_cmp_total k)) in
+          absurd (false≢true (sym other ∙ same))
 
       go : (b : Bool) → q x ≡ b → total q xs ≤ n → total q (x ∷ xs) ≤ n
       go true here rest =
-          let above = map-all (λ (row : ToldRow). row.key) (λ b. key_cmp x.key b ≡ Less) xs rise.0 in
-          let none = none-pass q xs (all-weaker (λ y. key_cmp x.key y.key ≡ Less) (λ y. q y ≡ true → false ≡ true) (not-again here) xs above) in
+          let others = map-all (λ (row : ToldRow). row.key) (λ b. is_same_key x.key b ≡ false) xs apart.0 in
+          let none = none-pass q xs (all-weaker (λ y. is_same_key x.key y.key ≡ false) (λ y. q y ≡ true → false ≡ true) (not-again here) xs others) in
           omega (arith, sum_by-cons (weight q) x xs, weaker-one (q x) true (f x) (λ e. refl), none, within.0 here)
       go false other rest =
           omega (arith, sum_by-cons (weight q) x xs, weaker-one (q x) false (f x) (λ e. sym other ∙ e), rest)
@@ -169,7 +172,7 @@ module _ (rows : List ToldRow) (sound : AreSound rows) (key : Key) where
 
   visitors-on : (day : ToldRow) → All (λ row. row.key.date ≡ day.key.date → row.visitors ≤ day.visitors) rows → total (λ row. row.visitors) (λ row. (row.key.date == day.key.date) && is_of key row) rows ≤ day.visitors
   visitors-on day within =
-      one-row (λ row. row.visitors) (on-day key day.key.date) day.visitors (λ row. (row.key.date == day.key.date) && is_of key row) rows sound.rising (is-on-day key day.key.date)
+      one-row (λ row. row.visitors) (on-day key day.key.date) day.visitors (λ row. (row.key.date == day.key.date) && is_of key row) rows sound.different (is-on-day key day.key.date)
       (all-weaker (λ row. row.key.date ≡ day.key.date → row.visitors ≤ day.visitors) (λ row. ((row.key.date == day.key.date) && is_of key row) ≡ true → row.visitors ≤ day.visitors)
       (λ row h e. h ((Decides-eqb row.key.date day.key.date).0 (and-left (row.key.date == day.key.date) (is_of key row) e))) rows (recursion_from_All _ rows within))
 
@@ -209,51 +212,3 @@ are-parts told items sound are =
       visitors = omega (arith, ap (λ (r : ToldRow). r.visitors) e, visitors-within told.rows sound item.key);
       bytes = omega (arith, ap (λ (r : ToldRow). r.sums.bytes) e, bytes-within told.rows sound item.key);
     }
-
--- while neighbours are added up: an item and the next row fit together
-pub fit-together : (x y : ToldRow) (rest : List ToldRow) → ItemsFit (x ∷ y ∷ rest) → is_of y.key x ≡ true → FitTogether x y
-fit-together x y rest fits same =
-    let own = fits y.key in
-    let e = item-cons y.key x (y ∷ rest) true same in
-    let h = item-cons y.key y rest true (own-item y) in
-    record {
-      hits = omega (arith, own.hits, ap (λ (r : ToldRow). r.sums.hits) e, ap (λ (r : ToldRow). r.sums.hits) h);
-      bytes = omega (arith, own.bytes, ap (λ (r : ToldRow). r.sums.bytes) e, ap (λ (r : ToldRow). r.sums.bytes) h);
-      micros = omega (arith, own.micros, ap (λ (r : ToldRow). r.sums.micros) e, ap (λ (r : ToldRow). r.sums.micros) h);
-      visitors = omega (arith, own.visitors, ap (λ (r : ToldRow). r.visitors) e, ap (λ (r : ToldRow). r.visitors) h);
-    }
-
-fits-as : (xs ys : List ToldRow) → ((key : Key) → item_of key ys ≡ item_of key xs) → ItemsFit xs → ItemsFit ys
-fits-as xs ys same fits = λ key.
-    let own = fits key in
-    record {
-      hits = omega (arith, own.hits, ap (λ (r : ToldRow). r.sums.hits) (same key));
-      visitors = omega (arith, own.visitors, ap (λ (r : ToldRow). r.visitors) (same key));
-      bytes = omega (arith, own.bytes, ap (λ (r : ToldRow). r.sums.bytes) (same key));
-      micros = omega (arith, own.micros, ap (λ (r : ToldRow). r.sums.micros) (same key));
-    }
-
--- and what is left fits, with the row added, or without the item
-pub fit-added : (x y : ToldRow) (rest : List ToldRow) → ItemsFit (x ∷ y ∷ rest) → is_of y.key x ≡ true → ItemsFit (plus x y ∷ rest)
-fit-added x y rest fits same = fits-as (x ∷ y ∷ rest) (plus x y ∷ rest) (λ key. item-plus key x y rest same) fits
-
-pub fit-behind : (x : ToldRow) (rest : List ToldRow) → ItemsFit (x ∷ rest) → ItemsFit rest
-fit-behind x rest fits = λ key. by key (is_of key x) refl (fits key)
-  where
-    by : (key : Key) (b : Bool) → is_of key x ≡ b → SumsFit (of_item key (x ∷ rest)) → SumsFit (of_item key rest)
-    by key true e own =
-        let c = item-cons key x rest true e in
-        record {
-          hits = omega (arith, own.hits, ap (λ (r : ToldRow). r.sums.hits) c);
-          visitors = omega (arith, own.visitors, ap (λ (r : ToldRow). r.visitors) c);
-          bytes = omega (arith, own.bytes, ap (λ (r : ToldRow). r.sums.bytes) c);
-          micros = omega (arith, own.micros, ap (λ (r : ToldRow). r.sums.micros) c);
-        }
-    by key false e own =
-        let c = item-cons key x rest false e in
-        record {
-          hits = omega (arith, own.hits, ap (λ (r : ToldRow). r.sums.hits) c);
-          visitors = omega (arith, own.visitors, ap (λ (r : ToldRow). r.visitors) c);
-          bytes = omega (arith, own.bytes, ap (λ (r : ToldRow). r.sums.bytes) c);
-          micros = omega (arith, own.micros, ap (λ (r : ToldRow). r.sums.micros) c);
-        }

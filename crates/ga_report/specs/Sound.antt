@@ -1,12 +1,11 @@
 -- What told numbers keep to, so that each part of a report is at most the whole.
 use Rattle.std.specs.Prelude.{◌≡◌, ℕ, ◌≤◌, ◌==◌, ◌&&◌, true, List, filter, map, sum_by, All}
-use Rattle.std.specs.List.{list_any}
-use Rattle.std.specs.List.Sorted.{IsStrictlySortedBy}
+use Rattle.std.specs.List.{IsDistinct, list_any}
 use Rattle.ga_base.specs.declared.counts.TheConstants.{LIMIT}
 use Rattle.ga_base.specs.declared.counts.Sums.{Sums}
 use Rattle.ga_base.specs.declared.panel.Panel.TheVariants.{Visitors}
 use Rattle.ga_base.specs.Layers.{Layer, in_layer}
-use Rattle.ga_base.specs.Orders.{key_cmp}
+use Rattle.ga_base.specs.Orders.{is_same_key}
 use Rattle.ga_base.specs.Panels.{is_same_panel}
 use Rattle.ga_report.specs.Told.{ToldRow}
 
@@ -36,8 +35,8 @@ abbrev pub HasDay : List ToldRow → ToldRow → Type 0
 HasDay days row = list_any (λ day. row.key.date == day.key.date) days ≡ true
 
 pub record AreSound (rows : List ToldRow) : Type 0 where
-  -- keys rise, and each has a hit
-  pub rising : IsStrictlySortedBy key_cmp (map (λ row. row.key) rows)
+  -- keys are all different, and each has a hit
+  pub different : IsDistinct is_same_key (map (λ row. row.key) rows)
   pub hit : All (λ row. 1 ≤ row.sums.hits) rows
   -- each row's day has a row, a layer sums to at most that, and no key has more visitors on the day
   pub dated : All (HasDay (day_rows rows)) rows

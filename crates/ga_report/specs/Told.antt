@@ -1,5 +1,6 @@
 -- What a report is made of: the totals over all lines, and what was counted under each key.
-use Rattle.std.specs.Prelude.{ℕ, List}
+use Rattle.std.specs.Prelude.{◌≡◌, ℕ, List}
+use Rattle.std.specs.List.Sorted.{IsPermutation}
 use Rattle.ga_base.specs.declared.key.Key.{Key}
 use Rattle.ga_base.specs.declared.counts.Sums.{Sums}
 use Rattle.ga_base.specs.declared.counts.Totals.{Totals}
@@ -13,3 +14,8 @@ pub record ToldRow : Type 0 where
 pub record ToldValue : Type 0 where
   pub totals : Totals
   pub rows : List ToldRow
+
+-- the same is told, of the keys in any order
+pub record TellAlike (a b : ToldValue) : Type 0 where
+  pub totals : a.totals ≡ b.totals
+  pub rows : IsPermutation a.rows b.rows

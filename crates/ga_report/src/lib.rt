@@ -5,8 +5,9 @@
 #![tactic(auto)]
 
 mod arranging;
+mod gathering;
+mod item_name;
 pub mod laws;
-mod merging;
 mod of_summary;
 mod percents;
 mod report;

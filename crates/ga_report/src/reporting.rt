@@ -1,13 +1,12 @@
-ghost use Rattle.std.specs.Prelude.{◌≡◌, IfOk, List, All, map, take};
-ghost use Rattle.std.specs.List.Sorted.{IsStrictlySortedBy};
-ghost use Rattle.ga_report.specs.Items.{item_order};
+ghost use Rattle.std.specs.Prelude.{◌≡◌, IfOk, List, All, map};
+ghost use Rattle.std.specs.List.Sorted.{IsSorted};
 ghost use Rattle.ga_report.specs.Printable.{IsPrintable};
 ghost use Rattle.ga_report.specs.Reports.{AreChildren, IsPanelList, IsReport, IsRow, Pairwise, data_of, general_of, panels_of, shown_as};
-ghost use Rattle.ga_report.specs.Steps.Summed.{AreSummed, DayFits, IsPart, undate, with_day};
+ghost use Rattle.ga_report.specs.Steps.Summed.{AreSummed, DayFits, IsPart, by_group, undate, with_day};
 ghost use Rattle.ga_report.specs.Told.{ToldRow};
 
 use crate::arranging::{entries_of, has_groups, top_items};
-use crate::merging::items_of;
+use crate::gathering::items_of;
 use crate::{
     General, Item, Items, PanelList, PanelLists, Report, Row, RowList, Tells, Told, hundredths,
 };
@@ -100,7 +99,7 @@ fn panel_lists(
     max_items: u64,
 ) -> Result<PanelLists, NoMemory>
     requires parts { All (IsPart general.now) items.now }
-    requires rise { IsStrictlySortedBy item_order items.now }
+    requires sorted { IsSorted by_group items.now }
     ensures { IfOk result (λ lists. (told : List ToldRow) → AreSummed told items.now
         → Pairwise (IsPanelList general.now max_items told) (panels_of panels.now) lists) }
 {
@@ -122,21 +121,13 @@ fn panel_list(
     max_items: u64,
 ) -> Result<PanelList, NoMemory>
     requires parts { All (IsPart general.now) items.now }
-    requires rise { IsStrictlySortedBy item_order items.now }
+    requires sorted { IsSorted by_group items.now }
     ensures { IfOk result (λ list. (told : List ToldRow) → AreSummed told items.now
         → IsPanelList general.now max_items told panel list) }
 {
-    let tops = top_items(alloc, items, panel)?;
-    let rows = row_list(alloc, general, items, first(&tops, max_items), max_items)?;
+    let tops = top_items(alloc, items, panel, max_items)?;
+    let rows = row_list(alloc, general, items, &tops, max_items)?;
     Ok(PanelList { panel, rows })
-}
-
-/// The first items, at most so many.
-fn first<'s, 'a>(items: &'s [Told<'a>], most: u64) -> &'s [Told<'a>]
-    ensures { result.now ≡ take most items.now }
-{
-    let shown = most.min(items.len() as u64) as usize;
-    &items[..shown]
 }
 
 /// A row for each of the items.
@@ -148,7 +139,7 @@ fn row_list(
     max_items: u64,
 ) -> Result<RowList, NoMemory>
     requires parts { All (IsPart general.now) items.now }
-    requires rise { IsStrictlySortedBy item_order items.now }
+    requires sorted { IsSorted by_group items.now }
     requires tops { All (IsPart general.now) tops.now }
     ensures { IfOk result (λ rows. (told : List ToldRow) → AreSummed told items.now
         → Pairwise (IsRow general.now max_items told) (map undate tops.now) rows) }
@@ -171,12 +162,12 @@ fn children_of(
     max_items: u64,
 ) -> Result<Items, NoMemory>
     requires parts { All (IsPart general.now) items.now }
-    requires rise { IsStrictlySortedBy item_order items.now }
+    requires sorted { IsSorted by_group items.now }
     ensures { IfOk result (λ children. (told : List ToldRow) → AreSummed told items.now
         → AreChildren general.now max_items told (undate top.now) children) }
 {
-    let entries = entries_of(alloc, items, top)?;
-    shown_items(alloc, general, first(&entries, max_items))
+    let entries = entries_of(alloc, items, top, max_items)?;
+    shown_items(alloc, general, &entries)
 }
 
 /// Items as they are shown.

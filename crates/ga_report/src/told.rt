@@ -7,7 +7,7 @@ ghost use Rattle.ga_report.specs.Told.{ToldValue};
 use ga_base::{Key, Sums, Totals};
 use std::marker::Model;
 
-/// What was counted, told a row at a time: totals over all lines, and a row for each key, where keys rise.
+/// What was counted, told a row at a time: totals over all lines, and a row for each key, in any order.
 pub trait Tells {
     ghost view: { Self → ToldValue };
 

@@ -247,7 +247,7 @@ fn text_alone<R: Threads + Sync, G: Gate, F: Files>(
         &mut entries,
         files,
     )?;
-    let told = total.told(rt, alloc, settings.jobs)?;
+    let told = total.told(alloc)?;
     let text = text_of(alloc, settings, &told)?;
     Ok(text)
 }

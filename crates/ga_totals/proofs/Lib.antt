@@ -7,4 +7,6 @@ pub mod KeyOrder
 pub mod Dates
 pub mod Summing
 pub mod Visiting
+pub mod AnyOrder
+pub mod ToldRows
 pub mod Told

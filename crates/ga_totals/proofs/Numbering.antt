@@ -1,13 +1,18 @@
 -- Keys with their numbers.
-use Rattle.std.proofs.Common.{◌≡◌, ℕ, ◌+◌, ◌<◌, List, [], ◌∷◌, ◌++◌, Some, length, get_or, map, take, sym, ap, ◌∙◌, subst}
+use Rattle.std.proofs.Common.{◌≡◌, ℕ, suc, ◌+◌, ◌<◌, List, [], ◌∷◌, ◌++◌, Some, length, get_or, map, take, refl, sym, ap, ◌∙◌, subst, arith}
 use Rattle.std.specs.Prelude.{slice_get}
 use Rattle.std.specs.List.{All}
 use Rattle.std.specs.List.Sorted.{IsPermutation, IsSorted}
 use Rattle.std.proofs.lemmas.List.{map_push, take_more}
-use Rattle.std.proofs.lemmas.List.Elements.{All-push, All-weaker}
+use Rattle.std.specs.Cmp.{IsTotalOrder}
+use Rattle.std.proofs.lemmas.Cmp.{on_total}
+use Rattle.std.proofs.lemmas.List.Elements.{All-cons, All-map, All-push}
 use Rattle.std.proofs.lemmas.List.Sorted.{All-permutation, IsPermutation-map}
-use Rattle.std.proofs.lemmas.Option.{slice_get-get_or, slice_get_within}
+use Rattle.std.proofs.lemmas.Option.{slice_get-get_or}
+use Rattle.std.proofs.lemmas.Simd.{map-map}
 use Rattle.ga_base.specs.declared.key.Key.{Key}
+use Rattle.ga_base.proofs.OrderLemmas.{key_cmp_total}
+use Rattle.ga_report.proofs.Sorting.{in-order, in-order-same, in-order-sorted}
 use Rattle.ga_totals.specs.Steps.Rows.{AreByKey, NumberedKey, number_cmp}
 
 abbrev key_of : NumberedKey → Key
@@ -37,6 +42,35 @@ module _ (keys : List Key) where
     sorted = rise;
   }
 
-  pub numbers-within : (all : List NumberedKey) (many : ℕ) → length keys ≡ many → AreByKey keys all → All (λ n. n.number < many) all
-  numbers-within all many long by_key = All-weaker (λ n. slice_get keys n.number ≡ Some n.key) (λ n. n.number < many)
-      (λ n stands. subst (λ k. n.number < k) long (slice_get_within keys n.number n.key stands)) all by_key.numbers
+-- the same key, of the next number
+abbrev pub next : NumberedKey → NumberedKey
+next n = record { number = suc n.number; key = n.key }
+
+-- keys with their numbers, in the order of the numbers
+abbrev pub numbered : List Key → List NumberedKey
+numbered [] = []
+numbered (key ∷ keys) = record { number = 0; key = key } ∷ map next (numbered keys)
+
+keys-kept : (keys : List Key) → map key_of (numbered keys) ≡ keys
+keys-kept [] = refl
+keys-kept (key ∷ keys) = ap (λ (l : List Key). key ∷ l) (map-map key_of next (numbered keys) ∙ keys-kept keys)
+
+pub numbers-stand : (keys : List Key) → All (λ n. slice_get keys n.number ≡ Some n.key) (numbered keys)
+numbers-stand [] = λ k d less. absurd (omega arith)
+numbers-stand (key ∷ keys) = All-cons (λ n. slice_get (key ∷ keys) n.number ≡ Some n.key) (record { number = 0; key = key }) (map next (numbered keys)) refl
+    (All-map (λ n. slice_get (key ∷ keys) n.number ≡ Some n.key) next (numbered keys) (numbers-stand keys))
+
+key-order : IsTotalOrder number_cmp
+key-order = on_total key_of key_cmp_total
+
+-- and in the order of the keys
+pub by-key : List Key → List NumberedKey
+by-key keys = in-order number_cmp key-order (numbered keys)
+
+pub by-key-same : (keys : List Key) → IsPermutation (numbered keys) (by-key keys)
+unfolding by-key
+by-key-same keys = in-order-same number_cmp key-order (numbered keys)
+
+pub are-by-key : (keys : List Key) → AreByKey keys (by-key keys)
+unfolding by-key
+are-by-key keys = sorted-by-key keys (numbered keys) (by-key keys) (keys-kept keys) (numbers-stand keys) (by-key-same keys) (in-order-sorted number_cmp key-order (numbered keys))

@@ -3,22 +3,23 @@ use Rattle.std.proofs.Common.{◌≡◌, ℕ, zero, suc, ◌<◌, ◌==◌, ◌|
 use Rattle.std.specs.Prelude.{slice_get, slice_index_or}
 use Rattle.std.specs.Cmp.{both_ways}
 use Rattle.std.specs.List.{AllByRecursion, Contains, list_any}
-use Rattle.std.specs.List.Sorted.{IsStrictlySortedBy}
+use Rattle.std.specs.List.Sorted.{IsPermutation, IsStrictlySortedBy}
 use Rattle.std.specs.Ordering.{is_eq}
 use Rattle.std.specs.Set.{distinct_count, unique_keys}
 use Rattle.std.proofs.lemmas.Bool.{eqb-true}
 use Rattle.std.proofs.lemmas.Cmp.{eq_by_cmp_equiv, tied_itself}
 use Rattle.std.proofs.lemmas.List.Elements.{All-contains, All-contains_itself, All-filter, All-from_recursion, filter_passes, recursion_from_All}
+use Rattle.std.proofs.lemmas.List.Sorted.{IsPermutation-map, IsPermutation-sym}
 use Rattle.std.proofs.lemmas.Map.Keys.{IsDistinct-from_sorted}
 use Rattle.std.proofs.lemmas.Map.Made.{length-from_keys}
 use Rattle.std.proofs.lemmas.Option.{same_Some, slice_get-get_or, slice_get_within}
+use Rattle.std.proofs.lemmas.Simd.{map-map}
 use Rattle.ga_base.specs.declared.key.Key.{Key}
 use Rattle.ga_base.specs.declared.name.Name.{Name}
 use Rattle.ga_base.specs.Orders.{is_same_name, is_same_visitor, name_cmp, name_of}
 use Rattle.ga_base.proofs.OrderLemmas.{name_cmp_exact, name_cmp_total}
-use Rattle.ga_report.specs.OfSummary.{told_of as told_of_row}
-use Rattle.ga_report.specs.Sound.{AreSound}
-use Rattle.ga_report.specs.Told.{ToldRow, ToldValue}
+use Rattle.ga_report.specs.OfSummary.{told_of, told_value}
+use Rattle.ga_report.specs.Told.{ToldRow}
 use Rattle.ga_report.proofs.OfSummaries.{told-sound}
 use Rattle.ga_summary.specs.Outcomes.{Outcome}
 use Rattle.ga_summary.specs.Rows.{Row, has_name, no_sums}
@@ -31,12 +32,15 @@ use Rattle.ga_tallies.specs.Tallies.{IsTallyOf, TallySeen}
 use Rattle.ga_tallies.proofs.PairRows.{contains-map, from-map}
 use Rattle.ga_tallies.proofs.Same.{visitor-itself}
 use Rattle.ga_totals.specs.Steps.Rows.{AreByKey, AreRowsOf, IsRowOf, NumberedKey, name_at}
-use Rattle.ga_totals.specs.Steps.Telling.{AreToldRows, AreVisits, told_of, visitors_of}
+use Rattle.ga_totals.specs.Steps.Telling.{AreVisits, CanTell, told_rows, visitors_of}
 use Rattle.ga_totals.specs.Totals.{TellsSumOf}
+use Rattle.ga_totals.proofs.AnyOrder.{sound-moved}
 use Rattle.ga_totals.proofs.Dates.{visit-dated}
 use Rattle.ga_totals.proofs.KeyOrder.{one-place}
 use Rattle.ga_totals.proofs.KeyRows.{IsSomeRow}
+use Rattle.ga_totals.proofs.Numbering.{are-by-key, by-key, by-key-same, numbered, numbers-stand}
 use Rattle.ga_totals.proofs.OfOutcomes.{as-many}
+use Rattle.ga_totals.proofs.ToldRows.{told_at, told-by-number}
 use Rattle.ga_totals.proofs.Summing.{are-sum, are-summary, from-named, name-there, named, same-one}
 
 -- one place further on
@@ -169,43 +173,48 @@ module _ (outcomes : List Outcome) (t : TallySeen) (is : IsTallyOf outcomes t) (
   rows-have [] all = tt
   rows-have (n ∷ ns) all = ((n, all.0, is-row n all.0), rows-have ns all.1)
 
-  keys-kept : (ns : List NumberedKey) → map (λ (row : Row). row.key) (map row-of ns) ≡ map (λ (n : NumberedKey). n.key) ns
-  keys-kept [] = refl
-  keys-kept (n ∷ ns) = ap (λ (ks : List Key). n.key ∷ ks) (keys-kept ns)
-
   are-rows : (order : List NumberedKey) → AreByKey t.keys order → AreRowsOf t.keys t.sums t.visitors t.pairs (map row-of order)
   are-rows order by_key = record {
     order = order;
     by_key = by_key;
-    keys_are = keys-kept order;
+    keys_are = map-map (λ (row : Row). row.key) row-of order;
     each = All-from_recursion (IsSomeRow t.keys t.sums t.visitors t.pairs) (map row-of order) (rows-have order (recursion_from_All Stands order by_key.numbers));
   }
 
   module _ (visits : List ℕ) (are_visits : AreVisits (length t.keys) t.pairs visits) where
-    same-row : (n : NumberedKey) → Stands n → told_of t.sums visits n ≡ told_of_row (row-of n)
+    same-row : (n : NumberedKey) → Stands n → told_at t.sums visits n ≡ told_of (row-of n)
     same-row n stands =
         let visitors = are_visits.each n.number (slice_get_within t.keys n.number n.key stands) ∙ sym (as-many-names n stands) in
         λ i. record { key = n.key; sums = slice_index_or t.sums n.number no_sums; visitors = visitors i }
 
-    same-rows : (ns : List NumberedKey) → AllByRecursion Stands ns → map (told_of t.sums visits) ns ≡ map told_of_row (map row-of ns)
+    same-rows : (ns : List NumberedKey) → AllByRecursion Stands ns → map (told_at t.sums visits) ns ≡ map told_of (map row-of ns)
     same-rows [] all = refl
     same-rows (n ∷ ns) all = λ i. same-row n all.0 i ∷ same-rows ns all.1 i
 
--- the told rows are those of a summary of the outcomes
-pub tells-sum : (outcomes : List Outcome) (t : TallySeen) (visits : List ℕ) (told : List ToldRow) → IsTallyOf outcomes t → AllCountable outcomes → TotalsFit t.totals
-    → AreVisits (length t.keys) t.pairs visits → AreToldRows t.keys t.sums visits told → TellsSumOf outcomes (record { totals = t.totals; rows = told })
-tells-sum outcomes t visits told is can fit are_visits are =
-    let order = are.order in
-    let rows = map (row-of outcomes t is can) order in
-    let have = are-rows outcomes t is can order are.by_key in
-    let same : told ≡ map told_of_row rows =
-    are.rows_are ∙ same-rows outcomes t is can visits are_visits order (recursion_from_All (λ n. slice_get t.keys n.number ≡ Some n.key) order are.by_key.numbers) in
-    record {
-      sum = record { totals = t.totals; rows = rows };
-      is_sum = are-sum outcomes t rows is can have;
-      is_summary = are-summary outcomes t rows is can have fit;
-      same = λ i. record { totals = t.totals; rows = same i };
-    }
+    -- the told rows are those of a summary of the outcomes, in the order of the keys' numbers
+    pub tells-sum : TotalsFit t.totals → TellsSumOf outcomes (record { totals = t.totals; rows = told_rows t.keys t.sums visits })
+    tells-sum fit =
+        let order = by-key t.keys in
+        let rows = map row-of order in
+        let have = are-rows order (are-by-key t.keys) in
+        let told : told_rows t.keys t.sums visits ≡ map told_of (map row-of (numbered t.keys)) =
+        told-by-number t.keys t.sums visits (as-many outcomes t is) are_visits.many ∙ same-rows (numbered t.keys) (recursion_from_All Stands (numbered t.keys) (numbers-stand t.keys)) in
+        record {
+          sum = record { totals = t.totals; rows = rows };
+          is_sum = are-sum outcomes t rows is can have;
+          is_summary = are-summary outcomes t rows is can have fit;
+          same = record {
+            totals = refl;
+            rows = subst (λ (l : List ToldRow). IsPermutation l (map told_of rows)) (sym told)
+                (IsPermutation-map told_of (map row-of (numbered t.keys)) rows (IsPermutation-map row-of (numbered t.keys) order (by-key-same t.keys)));
+          };
+        }
 
-pub tells-sound : (outcomes : List Outcome) (told : ToldValue) → TellsSumOf outcomes told → AreSound told.rows
-tells-sound outcomes told tells = subst AreSound (sym (ap (λ (v : ToldValue). v.rows) tells.same)) (told-sound tells.sum tells.is_summary)
+    pub can-tell : TotalsFit t.totals → CanTell t.keys t.sums visits
+    can-tell fit =
+        let tells = tells-sum fit in
+        record {
+          summed = as-many outcomes t is;
+          visited = are_visits.many;
+          sound = sound-moved (told_value tells.sum).rows _ (IsPermutation-sym _ _ tells.same.rows) (told-sound tells.sum tells.is_summary);
+        }

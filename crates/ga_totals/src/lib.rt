@@ -7,7 +7,6 @@
 mod by_name;
 mod names;
 mod numbered;
-mod parts;
 mod ranks;
 mod rows;
 mod telling;

@@ -2,13 +2,11 @@ ghost use Rattle.std.specs.Prelude.{◌≡◌, All, IfOk, Some, map, slice_get};
 ghost use Rattle.std.specs.List.Sorted.{IsPermutation, IsSorted};
 ghost use Rattle.ga_totals.specs.Steps.Rows.{AreByKey, number_cmp};
 
-use crate::parts::sort_parts;
 use ga_base::laws::key_order;
 use ga_base::{Key, NoMemory};
 use std::alloc::Global;
 use std::cmp::Ordering;
 use std::marker::Model;
-use std::thread::Threads;
 
 /// A key with its number.
 #[derive(Drop)]
@@ -48,22 +46,6 @@ pub(crate) fn by_key<'a>(alloc: Global, keys: &'a [Key]) -> Result<Vec<Numbered<
     ensures { IfOk result (λ all. AreByKey keys.now all.items) }
 {
     Ok(sorted(number_keys(alloc, keys)?))
-}
-
-/// As `by_key`, by so many jobs: parts are sorted side by side, and then this thread brings them together, by a stable sort,
-/// which merges such stretches.
-pub(crate) fn by_key_in_jobs<'a, R: Threads + Sync>(
-    rt: &R,
-    alloc: Global,
-    jobs: u32,
-    keys: &'a [Key],
-) -> Result<Vec<Numbered<'a>>, NoMemory>
-    ensures { IfOk result (λ all. AreByKey keys.now all.items) }
-{
-    let mut all = number_keys(alloc, keys)?;
-    sort_parts(rt, jobs, all.as_mut_slice(), |a, b| compare(a, b));
-    all.sort_by(|a, b| compare(a, b))?;
-    Ok(all)
 }
 
 /// The keys with their numbers.

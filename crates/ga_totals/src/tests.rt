@@ -3,7 +3,6 @@ ghost use Rattle.ga_tallies.specs.Tallies.{lists_in};
 ghost use Rattle.ga_totals.specs.Steps.Rows.{AreWithin};
 
 use crate::Total;
-use crate::parts::sort_parts;
 use crate::ranks::Ranks;
 use crate::visits::visits_of;
 use ga_base::{NoMemory, Text, Visitor};
@@ -44,26 +43,9 @@ fn no_lines_are_summed_up(rt: HostRuntime) -> Result<(), NoMemory> {
 fn no_lines_are_told(rt: HostRuntime) -> Result<(), NoMemory> {
     let alloc = rt.alloc();
     let total = Total::new(alloc);
-    for jobs in [1, 4] {
-        let told = total.told(&rt, alloc, jobs)?;
-        assert_eq!(rt; told.totals(), total.totals());
-        assert_eq!(rt; told.len(), 0);
-    }
-    Ok(())
-}
-
-#[test]
-fn four_jobs_sort_four_parts(rt: HostRuntime) -> Result<(), NoMemory> {
-    let alloc = rt.alloc();
-    let mut items = Vec::new(alloc);
-    for n in 0..16_384u32 {
-        items.push(16_383 - n)?;
-    }
-    sort_parts(&rt, 4, items.as_mut_slice(), |a, b| a.cmp(b));
-    assert_eq!(rt; items.get(0), Some(&12_288));
-    assert_eq!(rt; items.get(4095), Some(&16_383));
-    assert_eq!(rt; items.get(4096), Some(&8_192));
-    assert_eq!(rt; items.get(16_383), Some(&4_095));
+    let told = total.told(alloc)?;
+    assert_eq!(rt; told.totals(), total.totals());
+    assert_eq!(rt; told.len(), 0);
     Ok(())
 }
 

@@ -6,13 +6,13 @@ ghost use Rattle.ga_tallies.specs.Tallies.{IsTallyOf};
 ghost use Rattle.ga_totals.specs.Totals.{IsOfCountable, TellsSumOf};
 
 use crate::rows::rows_of;
-use crate::telling::{TotalTold, key_rows, visits_and_order};
+use crate::telling::TotalTold;
+use crate::visits::visits_of;
 use ga_base::{Key, NoMemory, Sums, Totals, Visitor};
 use ga_summary::{PartRows, Summary, SummaryParts};
 use ga_tallies::{Tally, TallyParts};
 use std::alloc::Global;
 use std::marker::Model;
-use std::thread::Threads;
 
 /// What a run has counted, in numbers: each different key and each different visitor has one. Contracts see the parts as
 /// lists, as those of a tally.
@@ -116,30 +116,15 @@ impl Total {
         })
     }
 
-    /// What the total tells to a report: what the summary would tell, without its names. It takes the time of sorting the
-    /// keys, and of one look at each visitor of each row; and the memory of a mark for each visitor. With more than one job
-    /// one thread looks at the visitors while others sort the keys, which takes one more place for each key. With one job all
-    /// is done in this thread. Nothing that is told depends on how many jobs there are.
-    pub fn told<R: Threads + Sync>(
-        &self,
-        rt: &R,
-        alloc: Global,
-        jobs: u32,
-    ) -> Result<TotalTold<'_>, NoMemory>
+    /// What the total tells to a report: what the summary would tell, without its names, and of the keys as they stand. It
+    /// takes the time of one look at each visitor of each row, and the memory of a mark for each visitor and a number for each
+    /// key.
+    pub fn told(&self, alloc: Global) -> Result<TotalTold<'_>, NoMemory>
         requires { IsOfCountable self.now }
         ensures { IfOk result (λ told. (xs : List Outcome) → IsTallyOf xs self.now → AllCountable xs
             → TellsSumOf xs told) }
     {
-        let visitors = self.visitors.len();
-        let (visits, order) = visits_and_order(
-            rt,
-            alloc,
-            jobs,
-            &self.keys,
-            visitors,
-            &self.visits,
-        )?;
-        let rows = key_rows(alloc, &order, &self.sums, &visits)?;
-        Ok(TotalTold::of(self.totals, rows))
+        let visits = visits_of(alloc, self.keys.len(), self.visitors.len(), &self.visits)?;
+        Ok(TotalTold::of(self.totals, &self.keys, &self.sums, visits))
     }
 }

@@ -1,12 +1,15 @@
 -- The items of told rows, on the way to a report.
-use Rattle.std.specs.Prelude.{◌≡◌, ◌+◌, ◌≤◌, ◌<◌, ◌^◌, max, if◌then◌else◌, List, [], ◌∷◌, count_by, All}
+use Rattle.std.specs.Prelude.{◌≡◌, ℕ, Bool, false, ◌+◌, ◌++◌, ◌≤◌, ◌<◌, ◌^◌, max, min, if◌then◌else◌, List, [], ◌∷◌, length, take, count_by, All}
+use Rattle.std.specs.Hash.{HashWrites, str, u8}
+use Rattle.std.specs.List.Sorted.{IsPermutation, IsSorted}
 use Rattle.std.specs.declared.cmp.Ordering.{Ordering}
-use Rattle.std.specs.Ordering.{nat_cmp, ordering_then}
+use Rattle.std.specs.Ordering.{is_lt, nat_cmp, ordering_then}
 use Rattle.ga_base.specs.declared.key.Key.{Key}
+use Rattle.ga_base.specs.declared.panel.Panel.{Panel}
 use Rattle.ga_base.specs.Orders.{text_cmp}
 use Rattle.ga_base.specs.Panels.{panel_number}
 use Rattle.ga_report.specs.declared.report.General.{General}
-use Rattle.ga_report.specs.Items.{undated, is_of, of_item, has_item, item_of}
+use Rattle.ga_report.specs.Items.{AreItems, undated, is_of, of_item, has_item, item_of}
 use Rattle.ga_report.specs.Sound.{SumsFit}
 use Rattle.ga_report.specs.Told.{ToldRow}
 
@@ -29,14 +32,10 @@ pub record FitTogether (a b : ToldRow) : Type 0 where
   pub micros : a.sums.micros + b.sums.micros < 2 ^ 64
   pub visitors : a.visitors + b.visitors < 2 ^ 64
 
--- neighbours that are of one item added up
-abbrev pub merged_from : ToldRow → List ToldRow → List ToldRow
-merged_from item [] = item ∷ []
-merged_from item (row ∷ rows) = if is_of row.key item then merged_from (plus item row) rows else item ∷ merged_from row rows
-
-abbrev pub merged : List ToldRow → List ToldRow
-merged [] = []
-merged (row ∷ rows) = merged_from row rows
+-- a row added to its item, or put at the end where its item isn't there
+abbrev pub with_row : ToldRow → List ToldRow → List ToldRow
+with_row row [] = row ∷ []
+with_row row (item ∷ items) = if is_of item.key row then plus item row ∷ items else item ∷ with_row row items
 
 abbrev pub undate : ToldRow → ToldRow
 undate item = record { key = undated item.key; sums = item.sums; visitors = item.visitors }
@@ -76,3 +75,30 @@ pub record DayFits (general : General) (day : ToldRow) : Type 0 where
 -- the groups of two keys by panel and parent
 abbrev pub group_order : Key → Key → Ordering
 group_order a b = ordering_then (nat_cmp (panel_number a.panel) (panel_number b.panel)) (text_cmp a.parent b.parent)
+
+abbrev pub by_group : ToldRow → ToldRow → Ordering
+by_group a b = group_order a.key b.key
+
+-- what an item's name feeds a hasher
+abbrev pub fed_name : Key → HashWrites
+fed_name key = u8 (panel_number key.panel) ++ str key.parent ++ str key.label ++ str key.method ++ str key.protocol
+
+-- some of a list that come first: none of the rest is less than one of them
+pub record ComeFirst (R : ToldRow → ToldRow → Ordering) (most : ℕ) (all first : List ToldRow) : Type 0 where
+  pub rest : List ToldRow
+  pub are_all : IsPermutation all (first ++ rest)
+  pub before : All (λ x. All (λ y. is_lt (R y x) ≡ false) rest) first
+  pub many : length first ≡ min most (length all)
+
+-- the first of a list's elements in their order
+pub record AreFirst (R : ToldRow → ToldRow → Ordering) (most : ℕ) (all first : List ToldRow) : Type 0 where
+  pub ordered : List ToldRow
+  pub same : IsPermutation all ordered
+  pub sorted : IsSorted R ordered
+  pub front : first ≡ take most ordered
+
+-- the first of the items of the rows that are to be shown
+pub record AreTop (panel : Panel) (is_shown : Key → Bool) (most : ℕ) (rows top : List ToldRow) : Type 0 where
+  pub items : List ToldRow
+  pub are_items : AreItems panel is_shown rows items
+  pub front : top ≡ take most items

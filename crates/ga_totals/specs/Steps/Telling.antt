@@ -1,11 +1,10 @@
--- What is told of a total's keys: their order, and how many visitors each has.
-use Rattle.std.specs.Prelude.{◌≡◌, ℕ, ◌<◌, ◌==◌, eqb, List, length, map, filter, slice_index, slice_index_or}
+-- What is told of a total's keys: the sums of each, and how many visitors it has.
+use Rattle.std.specs.Prelude.{◌≡◌, ℕ, ◌<◌, ◌==◌, eqb, List, [], ◌∷◌, length, map, filter, slice_index}
 use Rattle.std.specs.Set.{distinct_count}
 use Rattle.ga_base.specs.declared.counts.Sums.{Sums}
 use Rattle.ga_base.specs.declared.key.Key.{Key}
+use Rattle.ga_report.specs.Sound.{AreSound}
 use Rattle.ga_report.specs.Told.{ToldRow}
-use Rattle.ga_summary.specs.Rows.{no_sums}
-use Rattle.ga_totals.specs.Steps.Rows.{AreByKey, NumberedKey}
 
 -- the visitors in pairs of a key's number
 abbrev pub visitors_of : ℕ → List (ℕ × ℕ) → List ℕ
@@ -16,12 +15,13 @@ pub record AreVisits (keys : ℕ) (pairs : List (ℕ × ℕ)) (visits : List ℕ
   pub many : length visits ≡ keys
   pub each : (number : ℕ) → number < keys → slice_index visits number ≡ distinct_count eqb (visitors_of number pairs)
 
--- what is told of a key
-abbrev pub told_of : List Sums → List ℕ → NumberedKey → ToldRow
-told_of sums visits n = record { key = n.key; sums = slice_index_or sums n.number no_sums; visitors = slice_index visits n.number }
+-- what is told of each key, of which sums and number of visitors stand at its place
+abbrev pub told_rows : List Key → List Sums → List ℕ → List ToldRow
+told_rows (key ∷ keys) (sums ∷ more) (visitors ∷ visits) = record { key = key; sums = sums; visitors = visitors } ∷ told_rows keys more visits
+told_rows keys sums visits = []
 
--- what is told of each key, in the order of the keys
-pub record AreToldRows (keys : List Key) (sums : List Sums) (visits : List ℕ) (rows : List ToldRow) : Type 0 where
-  pub order : List NumberedKey
-  pub by_key : AreByKey keys order
-  pub rows_are : rows ≡ map (told_of sums visits) order
+-- each key has its sums and its number of visitors, and what is told of all is sound
+pub record CanTell (keys : List Key) (sums : List Sums) (visits : List ℕ) : Type 0 where
+  pub summed : length sums ≡ length keys
+  pub visited : length visits ≡ length keys
+  pub sound : AreSound (told_rows keys sums visits)

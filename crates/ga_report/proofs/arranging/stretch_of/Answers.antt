@@ -1,7 +1,6 @@
 use Rattle.std.proofs.Common.{rules, ◌∙◌, take}
 use Rattle.std.proofs.lemmas.List.Sorted.{IsPartitionPoint-from_clause}
-use Rattle.ga_report.specs.Items.{item_order}
-use Rattle.ga_report.proofs.Stretches.{up-to, before, up-to-parted, before-parted, strict-take, cut-end, cut-all}
+use Rattle.ga_report.proofs.Stretches.{up-to, before, up-to-parted, before-parted, sorted-take, cut-end, cut-all}
 use Rattle.ga_report.proofs.arranging.stretch_of.Goals as goal
 
 pub returns : goal.returns
@@ -10,5 +9,5 @@ returns c =
     let end = IsPartitionPoint-from_clause (up-to c.args.group.now) c.args.items.now c.partition_point-end.result c.partition_point-end.ensures.partitioned
     (up-to-parted c.args.group.now c.args.items.now c.requires) (λ a r q k. search rules) in
     let start = IsPartitionPoint-from_clause (before c.args.group.now) front c.partition_point-start.result c.partition_point-start.ensures.partitioned
-    (before-parted c.args.group.now front (strict-take item_order c.partition_point-end.result c.args.items.now c.requires)) (λ a r q k. search rules) in
+    (before-parted c.args.group.now front (sorted-take c.partition_point-end.result c.args.items.now c.requires)) (λ a r q k. search rules) in
     cut-all c.args.group.now front c.partition_point-start.result start ∙ cut-end c.args.group.now c.args.items.now c.partition_point-end.result end

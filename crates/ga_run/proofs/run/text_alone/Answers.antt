@@ -3,11 +3,11 @@ use Rattle.std.proofs.lemmas.Result.{err_from_is_err_and}
 use Rattle.ga_logs.specs.Logs.{CountsLogs, StopsLogs}
 use Rattle.ga_logs.specs.declared.start.Start.{Start}
 use Rattle.ga_ports.specs.Stretch.{no_files_call}
-use Rattle.ga_report.specs.Told.{ToldValue}
+use Rattle.ga_report.specs.OfSummary.{told_value}
+use Rattle.ga_report.proofs.Alike.{report-alike}
 use Rattle.ga_store.specs.Reading.{db_value}
 use Rattle.ga_summary.specs.Limits.{LinesAdd}
 use Rattle.ga_summary.specs.Sound.{TotalsFit}
-use Rattle.ga_run.specs.Reports.{IsTextTold}
 use Rattle.ga_run.proofs.Counting.{base-adds, base-fits, countable-total, overwrites}
 use Rattle.ga_run.proofs.run.text_alone.Goals as goal
 
@@ -38,8 +38,8 @@ returns-in_err-total-clause-stops g c =
     let p = err_from_is_err_and c.from_residual-in_err-total.result c.from_residual-in_err-total.ensures.1 in
     rw (p.1, p.2) (inl (record { entries = entries; begin = c.in_ok-entries.ensures; fault = fault; status_is = refl; stops = stops }))
 
-pub told-requires-after_bounds : goal.told-requires-after_bounds
-told-requires-after_bounds g c κs within = countable-total _ _ _ _ c.in_ok-total.ensures.ok.counts
+pub told-requires : goal.told-requires
+told-requires g c = countable-total _ _ _ _ c.in_ok-total.ensures.ok.counts
 
 pub returns-clause-ok : goal.returns-clause-ok
 returns-clause-ok g c =
@@ -52,6 +52,7 @@ returns-clause-ok g c =
     let counts =
     subst (λ (start : Start). CountsLogs c.args.setup.now start s.generate s.logs entries c.count_logs.new.entries before after total) c.start-start.ensures
     (subst (λ (names : List (List ℕ)). CountsLogs c.args.setup.now c.start-start.result s.generate names entries c.count_logs.new.entries before after total) c.items-names.ensures c.in_ok-total.ensures.ok) in
+    let text = c.in_ok-text.ensures in
     let tells = c.in_ok-told.ensures counts.counts.outcomes counts.counts.tally counts.counts.countable in
     record {
       has = record {
@@ -65,5 +66,9 @@ returns-clause-ok g c =
         whole = tells.sum;
         is_whole = overwrites s stored tells.sum c.requires;
       };
-      is_text = subst (λ (told : ToldValue). IsTextTold s told c.in_ok-text.text) tells.same c.in_ok-text.ensures;
+      is_text = record {
+        report = text.report;
+        is_report = report-alike _ (told_value tells.sum) s.panels s.max_items text.report tells.same text.is_report;
+        written = text.written;
+      };
     }
