@@ -33,7 +33,7 @@ use Rattle.ga_summary.proofs.NameLists.{any-find}
 use Rattle.ga_summary.proofs.OneLine.{both_true}
 use Rattle.ga_summary.proofs.Put.{equal_from_is_eq}
 use Rattle.ga_summary.proofs.Unique.{same_rows}
-use Rattle.ga_tallies.proofs.Same.{exact-laws, key-laws, same-key}
+use Rattle.ga_numbers.proofs.Same.{exact-laws, key-laws, same-key}
 
 same-name : (a b : Name) → is_same_name a b ≡ true → a ≡ b
 same-name a b e = name_cmp_exact a b (equal_from_is_eq _ e)

@@ -23,7 +23,7 @@ use Rattle.ga_pool.proofs.DrawnPieces.{contains-times}
 use Rattle.ga_summary.specs.Rows.{SummaryValue, has_pair}
 use Rattle.ga_summary.proofs.OneLine.{both_true}
 use Rattle.ga_summary.proofs.Put.{equal_from_is_eq}
-use Rattle.ga_tallies.proofs.Same.{key-itself, same-key, same-visitor, visitor-itself}
+use Rattle.ga_numbers.proofs.Same.{key-itself, same-key, same-visitor, visitor-itself}
 
 distinct-none : {X : Type 0} (e : X → X → Bool) → IsDistinct e []
 unfolding IsDistinct

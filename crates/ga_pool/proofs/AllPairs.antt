@@ -22,7 +22,7 @@ use Rattle.ga_shards.specs.Numbers.{item_of}
 use Rattle.ga_summary.specs.Outcomes.{Outcome, has_visit, sums_of}
 use Rattle.ga_summary.proofs.Appends.{has_visit-append, sums_of-append}
 use Rattle.ga_tallies.specs.Tallies.{IsTallyOf, TallySeen, pair_of}
-use Rattle.ga_tallies.proofs.Same.{key-laws, same-key, same-visitor}
+use Rattle.ga_numbers.proofs.Same.{key-laws, same-key, same-visitor}
 
 pub contains-map : {X Y : Type 0} (f : X → Y) (xs : List X) (x : X) → Contains xs x → Contains (map f xs) (f x)
 contains-map f xs x (k, within, is) = (k, omega (arith, within, length-map xs f), get_or-map f xs k x (f x) within ∙ ap f is)

@@ -23,7 +23,7 @@ use Rattle.ga_summary.specs.Rows.{totals_plus}
 use Rattle.ga_outcomes.specs.Counting.{no_totals}
 use Rattle.ga_tallies.specs.Tallies.{IsTallyOf, TallySeen, pair_of}
 use Rattle.ga_tallies.specs.declared.pairs.Pair.{Pair}
-use Rattle.ga_tallies.proofs.Same.{key-itself, same-key}
+use Rattle.ga_numbers.proofs.Same.{key-itself, same-key}
 
 part-of : (f : Hit → ℕ) (test : Hit → Bool) (hits : List Hit) → sum_by f (filter test hits) ≤ sum_by f hits
 part-of f test [] = omega arith

@@ -16,7 +16,7 @@ use Rattle.ga_pool.proofs.PutRows.{added-absent, at-other}
 use Rattle.ga_summary.specs.Outcomes.{Hit, Outcome, greatest_time, hits_at, sums_of}
 use Rattle.ga_summary.specs.Rows.{no_sums, sums_plus}
 use Rattle.ga_tallies.specs.Tallies.{IsTallyOf, TallySeen}
-use Rattle.ga_tallies.proofs.Same.{key-itself, key-laws, same-key}
+use Rattle.ga_numbers.proofs.Same.{key-itself, key-laws, same-key}
 
 -- where no line has a key, its sums are 0
 none-counted : (hits : List Hit) → length hits ≡ 0 → hits ≡ []

@@ -35,7 +35,7 @@ use Rattle.ga_summary.specs.Rows.{totals_plus}
 use Rattle.ga_summary.proofs.Appends.{totals_of-append}
 use Rattle.ga_outcomes.specs.Counting.{no_totals}
 use Rattle.ga_tallies.specs.Tallies.{TallySeen}
-use Rattle.ga_tallies.proofs.Same.{key-laws, same-key}
+use Rattle.ga_numbers.proofs.Same.{key-laws, same-key}
 
 pub none-plus : (t : Totals) → totals_plus no_totals t ≡ t
 none-plus t = λ i. record {

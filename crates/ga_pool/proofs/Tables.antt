@@ -17,7 +17,7 @@ use Rattle.ga_pool.proofs.Standing.{have-numbers}
 use Rattle.ga_shards.specs.Numbers.{IsNumbering, NumberingSeen}
 use Rattle.ga_summary.specs.Outcomes.{Outcome}
 use Rattle.ga_tallies.specs.Tallies.{TallySeen}
-use Rattle.ga_tallies.proofs.Same.{key-itself, key-test, same-key, same-visitor, visitor-itself, visitor-test}
+use Rattle.ga_numbers.proofs.Same.{key-itself, key-test, same-key, same-visitor, visitor-itself, visitor-test}
 
 pub as-long : {A B : Type 0} (R : A → B → Type 0) (xs : List A) (ys : List B) → AllZip R xs ys → length xs ≡ length ys
 as-long R [] [] all = refl

@@ -43,8 +43,8 @@ pub(crate) fn parts_of(alloc: Global, tallies: Vec<Tally>) -> Result<Parts, NoMe
             sums,
             visits,
         } = tally.into_parts();
-        keys.push(its_keys)?;
-        visitors.push(its_visitors)?;
+        keys.push(its_keys.into_dictionary(alloc)?)?;
+        visitors.push(its_visitors.into_dictionary(alloc)?)?;
         rows.push(Rows {
             totals,
             sums,

@@ -15,14 +15,15 @@ use Rattle.ga_summary.specs.Outcomes.{Outcome, sums_of, has_visit, totals_of}
 use Rattle.ga_summary.specs.Rows.{no_sums, sums_plus, totals_plus}
 use Rattle.ga_summary.specs.Sound.{TotalsFit}
 use Rattle.ga_summary.proofs.Appends.{sums_of-append, has_visit-append, totals_of-append}
-use Rattle.ga_tallies.specs.Steps.Absorbing.{AddsSuch, IsMapped, places_of, rows_added}
+use Rattle.ga_numbers.specs.Numbers.{places_of}
+use Rattle.ga_tallies.specs.Steps.Absorbing.{AddsSuch, IsMapped, rows_added}
 use Rattle.ga_tallies.specs.Tallies.{Absorbs, TallySeen, IsTallyOf}
 use Rattle.ga_tallies.proofs.AddedRows.{all-added, with_those}
-use Rattle.ga_tallies.proofs.AllNoted.{any-all-noted, has-number, keeps-place, number-cases, placed, places-long}
-use Rattle.ga_tallies.proofs.Noted.{or-true}
+use Rattle.ga_numbers.proofs.AllNoted.{any-all-noted, has-number, keeps-place, number-cases, placed, places-long}
+use Rattle.ga_numbers.proofs.Noted.{or-true}
 use Rattle.ga_tallies.proofs.OneKey.{sums-none}
 use Rattle.ga_tallies.proofs.Rows.{AreWithin, sums-within}
-use Rattle.ga_tallies.proofs.Same.{key-laws, same-key, same-visitor, visitor-laws}
+use Rattle.ga_numbers.proofs.Same.{key-laws, same-key, same-visitor, visitor-laws}
 
 -- the parts of the other came to the parts that were there
 pub record TakesParts (other old new : TallySeen) : Type 0 where

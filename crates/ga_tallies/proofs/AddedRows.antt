@@ -14,10 +14,11 @@ use Rattle.ga_summary.specs.Rows.{no_sums, sums_plus}
 use Rattle.ga_summary.specs.Sound.{TotalsFit}
 use Rattle.ga_summary.proofs.Merging.{sums_plus-none}
 use Rattle.ga_tallies.specs.Adding.{added_at}
-use Rattle.ga_tallies.specs.Steps.Absorbing.{places_of, rows_added}
-use Rattle.ga_tallies.proofs.Noted.{any-noted, noted-distinct}
+use Rattle.ga_numbers.specs.Numbers.{places_of}
+use Rattle.ga_tallies.specs.Steps.Absorbing.{rows_added}
+use Rattle.ga_numbers.proofs.Noted.{any-noted, noted-distinct}
 use Rattle.ga_tallies.proofs.Rows.{AreWithin, no-stop, none-alike, rows-noted}
-use Rattle.ga_tallies.proofs.Same.{key-itself, key-laws, same-key}
+use Rattle.ga_numbers.proofs.Same.{key-itself, key-laws, same-key}
 
 -- one number more
 pub rows-push : (numbers : List ℕ) (number : ℕ) (more rows : List Sums) (line : Sums) → slice_get more (length numbers) ≡ Some line

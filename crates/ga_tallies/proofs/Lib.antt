@@ -1,5 +1,3 @@
-pub mod Same
-pub mod Noted
 pub mod OneKey
 pub mod Rows
 pub mod Partly
@@ -13,7 +11,6 @@ pub mod NoLines
 pub mod OneLine
 pub mod FactsHit
 pub mod Taking
-pub mod AllNoted
 pub mod AddedRows
 pub mod AddedVisits
 pub mod Absorbed

@@ -15,10 +15,10 @@ use Rattle.ga_summary.specs.Rows.{totals_plus}
 use Rattle.ga_summary.specs.Sound.{TotalsFit}
 use Rattle.ga_tallies.specs.Steps.Notes.{NotesKey, NotesKeys, NotesVisitor}
 use Rattle.ga_tallies.specs.Tallies.{TallySeen, IsTallyOf}
-use Rattle.ga_tallies.proofs.Noted.{kept, noted-distinct, place-cases}
+use Rattle.ga_numbers.proofs.Noted.{kept, noted-distinct, place-cases}
 use Rattle.ga_tallies.proofs.OneKey.{hit_under, key-more, no-key-sums, no-key-visits, totals-under}
 use Rattle.ga_tallies.proofs.Partly.{HasNumber, IsPartlyOf, from-tally, key-noted, to-tally}
-use Rattle.ga_tallies.proofs.Same.{key-laws, visitor-laws}
+use Rattle.ga_numbers.proofs.Same.{key-laws, visitor-laws}
 
 -- in a list of different items an item is none of those before it
 none-before : {T : Type 0} (eq : T → T → Bool) (laws : IsEquivalence eq) (xs : List T) (y : T) (ys : List T) → IsDistinct eq (xs ++ y ∷ ys) → list_any (eq y) xs ≡ false

@@ -14,8 +14,8 @@ use Rattle.ga_summary.specs.Rows.{no_sums, sums_plus, totals_plus}
 use Rattle.ga_summary.proofs.Appends.{sums_of-append, has_visit-append, totals_of-append}
 use Rattle.ga_summary.proofs.Lines.{same_totals}
 use Rattle.ga_summary.proofs.Merging.{same_sums, sums_plus-none}
-use Rattle.ga_tallies.proofs.Noted.{or-false}
-use Rattle.ga_tallies.proofs.Same.{same-key}
+use Rattle.ga_numbers.proofs.Noted.{or-false}
+use Rattle.ga_numbers.proofs.Same.{same-key}
 
 -- a line under these keys
 abbrev pub hit_under : List Key → Option Visitor → ℕ → ℕ → Hit

@@ -27,7 +27,7 @@ use Rattle.ga_summary.proofs.Merging.{sums_plus-none}
 use Rattle.ga_tallies.specs.Steps.Notes.{NotesKeys, NotesVisitor}
 use Rattle.ga_tallies.specs.Steps.OneLine.{Adds, IsTooMuch}
 use Rattle.ga_tallies.specs.Tallies.{TallySeen, IsTallyOf}
-use Rattle.ga_tallies.proofs.Noted.{or-false}
+use Rattle.ga_numbers.proofs.Noted.{or-false}
 use Rattle.ga_tallies.proofs.OneHit.{counted-hit}
 use Rattle.ga_tallies.proofs.OneKey.{one-totals}
 

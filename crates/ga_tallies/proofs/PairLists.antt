@@ -1,20 +1,20 @@
 -- Lists that are read as sets, and rows of visitors in which one more was put.
-use Rattle.std.proofs.Common.{◌≡◌, ◌≢◌, ℕ, ◌+◌, ◌<◌, ◌==◌, ◌⊎◌, zero, suc, inl, inr, List, [], ◌∷◌, ◌++◌, get_or, set, take, length, Vec, Option, Some, IfSome, refl, sym, ap, ◌∙◌, subst, arith, eq-eqb, ⊎_elim}
+use Rattle.std.proofs.Common.{◌≡◌, ◌≢◌, ℕ, ◌+◌, ◌<◌, ◌==◌, ◌⊎◌, zero, suc, inl, inr, List, [], ◌∷◌, ◌++◌, get_or, set, take, length, Option, Some, IfSome, refl, sym, ap, ◌∙◌, subst, arith, eq-eqb, ⊎_elim}
 use Rattle.std.specs.Prelude.{slice_set}
 use Rattle.std.specs.List.{Contains, dedup}
 use Rattle.std.specs.List.Sorted.{IsPermutation}
 use Rattle.std.proofs.lemmas.Bool.{eqb-true, cases_eq}
-use Rattle.std.specs.Global.{Global}
 use Rattle.std.proofs.lemmas.List.{get_or-set_same, get_or-set_other, get_or-map, length-map, length-take, map-set, map_push, take_more, append-nil, append_assoc}
 use Rattle.std.proofs.lemmas.List.Elements.{All-set, All-weaker, Contains-append_left, Contains-push, Contains-push_cases}
 use Rattle.std.proofs.lemmas.List.Kept.{Contains-dedup, Contains-from_dedup}
 use Rattle.std.proofs.lemmas.List.Sorted.{Contains-permutation, IsPermutation-sym}
 use Rattle.std.proofs.lemmas.Option.{IfSome_then}
+use Rattle.smallvec.specs.SmallVec.{SmallVec}
 use Rattle.ga_tallies.specs.Adding.{AddsOne, AreThere, HoldTheSame, KeepsAll}
 use Rattle.ga_tallies.specs.Tallies.{lists_in, pair_of, pairs_from, pairs_in, row_pairs}
 use Rattle.ga_tallies.specs.declared.pairs.Pair.{Pair}
 use Rattle.ga_tallies.proofs.PairRows.{row_at, row-of-pair, pair-of-row}
-use Rattle.ga_tallies.proofs.Same.{exact-laws}
+use Rattle.ga_numbers.proofs.Same.{exact-laws}
 
 -- numbers of which the same are one hold the same as before
 pub equals-dropped : (xs ys : List ℕ) → IsPermutation xs ys → HoldTheSame xs (dedup (λ a b. a == b) ys)
@@ -130,27 +130,27 @@ empty-pushed rows = record {
     same : (k : ℕ) → row_at (rows ++ [] ∷ []) k ≡ row_at rows k
     same = one-more rows
 
--- ---- rows in vectors
+-- ---- rows as they are kept
 
-at-row : (rows : List (Vec ℕ Global)) (k : ℕ) (row : Vec ℕ Global) → k < length rows → row ≡ get_or rows k row → row_at (lists_in rows) k ≡ row.items
-at-row rows k row within is = get_or-map (λ (r : Vec ℕ Global). r.items) rows k row [] within ∙ ap (λ (r : Vec ℕ Global). r.items) (sym is)
+at-row : (rows : List (SmallVec ℕ)) (k : ℕ) (row : SmallVec ℕ) → k < length rows → row ≡ get_or rows k row → row_at (lists_in rows) k ≡ row.items
+at-row rows k row within is = get_or-map (λ (r : SmallVec ℕ). r.items) rows k row [] within ∙ ap (λ (r : SmallVec ℕ). r.items) (sym is)
 
-lists-set : (rows : List (Vec ℕ Global)) (k : ℕ) (new : Vec ℕ Global) → lists_in (set rows k new) ≡ set (lists_in rows) k new.items
-lists-set rows k new = map-set (λ (r : Vec ℕ Global). r.items) rows k new
+lists-set : (rows : List (SmallVec ℕ)) (k : ℕ) (new : SmallVec ℕ) → lists_in (set rows k new) ≡ set (lists_in rows) k new.items
+lists-set rows k new = map-set (λ (r : SmallVec ℕ). r.items) rows k new
 
 -- a row was written in the place of another, and keeps what that one had
-pub written-kept : (rows : List (Vec ℕ Global)) (k : ℕ) (row new : Vec ℕ Global) → k < length rows → row ≡ get_or rows k row → KeepsAll row.items new.items
+pub written-kept : (rows : List (SmallVec ℕ)) (k : ℕ) (row new : SmallVec ℕ) → k < length rows → row ≡ get_or rows k row → KeepsAll row.items new.items
     → KeepsAll (pairs_in (lists_in rows)) (pairs_in (lists_in (set rows k new)))
 written-kept rows k row new within is kept =
-    let long : k < length (lists_in rows) = omega (arith, within, length-map rows (λ (r : Vec ℕ Global). r.items)) in
+    let long : k < length (lists_in rows) = omega (arith, within, length-map rows (λ (r : SmallVec ℕ). r.items)) in
     let from : KeepsAll (row_at (lists_in rows) k) new.items = subst (λ (l : List ℕ). KeepsAll l new.items) (sym (at-row rows k row within is)) kept in
     subst (λ (l : List (List ℕ)). KeepsAll (pairs_in (lists_in rows)) (pairs_in l)) (sym (lists-set rows k new)) (row-kept (lists_in rows) k new.items long from)
 
 -- and one visitor more
-pub written-added : (rows : List (Vec ℕ Global)) (k v : ℕ) (row new : Vec ℕ Global) → k < length rows → row ≡ get_or rows k row → AddsOne v row.items new.items
+pub written-added : (rows : List (SmallVec ℕ)) (k v : ℕ) (row new : SmallVec ℕ) → k < length rows → row ≡ get_or rows k row → AddsOne v row.items new.items
     → AddsOne (k, v) (pairs_in (lists_in rows)) (pairs_in (lists_in (set rows k new)))
 written-added rows k v row new within is adds =
-    let long : k < length (lists_in rows) = omega (arith, within, length-map rows (λ (r : Vec ℕ Global). r.items)) in
+    let long : k < length (lists_in rows) = omega (arith, within, length-map rows (λ (r : SmallVec ℕ). r.items)) in
     let from : AddsOne v (row_at (lists_in rows) k) new.items = subst (λ (l : List ℕ). AddsOne v l new.items) (sym (at-row rows k row within is)) adds in
     subst (λ (l : List (List ℕ)). AddsOne (k, v) (pairs_in (lists_in rows)) (pairs_in l)) (sym (lists-set rows k new)) (row-added (lists_in rows) k new.items v long from)
 
@@ -164,10 +164,10 @@ pushed-from s (first ∷ rows) row =
     ∙ sym (append_assoc (row_pairs s first) (pairs_from (s + 1) rows) (row_pairs (s + suc (length rows)) row))
 
 -- the pairs of the first rows, and those of the next
-pub next-row : (rows : List (Vec ℕ Global)) (k : ℕ) (d : Vec ℕ Global) → k < length rows
+pub next-row : (rows : List (SmallVec ℕ)) (k : ℕ) (d : SmallVec ℕ) → k < length rows
     → pairs_in (lists_in (take (k + 1) rows)) ≡ pairs_in (lists_in (take k rows)) ++ row_pairs k (get_or rows k d).items
 next-row rows k d within =
     let row = get_or rows k d in
-    let more : lists_in (take (k + 1) rows) ≡ lists_in (take k rows) ++ row.items ∷ [] = ap lists_in (take_more rows k d within) ∙ map_push (λ (r : Vec ℕ Global). r.items) (take k rows) row in
-    let long : 0 + length (lists_in (take k rows)) ≡ k = omega (arith, length-map (take k rows) (λ (r : Vec ℕ Global). r.items), length-take k rows, within) in
+    let more : lists_in (take (k + 1) rows) ≡ lists_in (take k rows) ++ row.items ∷ [] = ap lists_in (take_more rows k d within) ∙ map_push (λ (r : SmallVec ℕ). r.items) (take k rows) row in
+    let long : 0 + length (lists_in (take k rows)) ≡ k = omega (arith, length-map (take k rows) (λ (r : SmallVec ℕ). r.items), length-take k rows, within) in
     ap pairs_in more ∙ pushed-from 0 (lists_in (take k rows)) row.items ∙ ap (λ n. pairs_in (lists_in (take k rows)) ++ row_pairs n row.items) long

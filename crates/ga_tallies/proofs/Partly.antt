@@ -14,10 +14,10 @@ use Rattle.ga_summary.specs.Sound.{TotalsFit}
 use Rattle.ga_tallies.specs.Adding.{added_at}
 use Rattle.ga_tallies.specs.Steps.Notes.{AddsVisit, NotesKey}
 use Rattle.ga_tallies.specs.Tallies.{TallySeen, IsTallyOf}
-use Rattle.ga_tallies.proofs.Noted.{any-noted, kept, noted-distinct, or-false, or-true}
+use Rattle.ga_numbers.proofs.Noted.{any-noted, kept, noted-distinct, or-false, or-true}
 use Rattle.ga_tallies.proofs.OneKey.{HasKeyMore, sums-none}
 use Rattle.ga_tallies.proofs.Rows.{AreWithin, no-stop, rows-noted, sums-within}
-use Rattle.ga_tallies.proofs.Same.{key-laws, same-key, same-visitor, key-itself, visitor-itself}
+use Rattle.ga_numbers.proofs.Same.{key-laws, same-key, same-visitor, key-itself, visitor-itself}
 
 -- the key and the visitor have these numbers
 pub record Stand (t : TallySeen) (x : Key) (w : Visitor) (k v : ℕ) : Type 0 where

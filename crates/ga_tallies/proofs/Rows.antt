@@ -19,8 +19,8 @@ use Rattle.ga_summary.specs.Rows.{no_sums, sums_plus}
 use Rattle.ga_summary.specs.Sound.{TotalsFit}
 use Rattle.ga_summary.proofs.Merging.{same_sums, none-sums_plus, sum_by-filter}
 use Rattle.ga_tallies.specs.Adding.{added_at, stopped, with_line}
-use Rattle.ga_tallies.proofs.Noted.{noted-cases, place-absent}
-use Rattle.ga_tallies.proofs.Same.{key-itself, same-key}
+use Rattle.ga_numbers.proofs.Noted.{noted-cases, place-absent}
+use Rattle.ga_numbers.proofs.Same.{key-itself, same-key}
 
 -- ---- a key's sums are at most the totals
 

@@ -2,5 +2,4 @@
 pub mod Tallies
 pub mod Adding
 pub mod Agents
-pub mod Refs
 pub mod Steps

@@ -1,7 +1,7 @@
 -- What is counted of outcomes, in numbers: keys and visitors by their places in lists of different ones, sums by a key's place.
-use Rattle.std.specs.Prelude.{◌≡◌, ◌<◌, ◌++◌, ◌∷◌, [], ◌+◌, ℕ, true, nat_lt, List, length, map, slice_get, Some, Vec}
+use Rattle.std.specs.Prelude.{◌≡◌, ◌<◌, ◌++◌, ◌∷◌, [], ◌+◌, ℕ, true, nat_lt, List, length, map, slice_get, Some}
 use Rattle.std.specs.List.{Contains, IsDistinct, list_any}
-use Rattle.std.specs.Global.{Global}
+use Rattle.smallvec.specs.SmallVec.{SmallVec}
 use Rattle.ga_base.specs.declared.counts.Sums.{Sums}
 use Rattle.ga_base.specs.declared.counts.Totals.{Totals}
 use Rattle.ga_base.specs.declared.key.Key.{Key}
@@ -59,8 +59,8 @@ pairs_from key (row ∷ rows) = row_pairs key row ++ pairs_from (key + 1) rows
 abbrev pub pairs_in : List (List ℕ) → List (ℕ × ℕ)
 pairs_in rows = pairs_from 0 rows
 
--- the lists that vectors hold
-abbrev pub lists_in : {T : Type 0} → List (Vec T Global) → List (List T)
+-- the lists that rows hold
+abbrev pub lists_in : {T : Type 0} → List (SmallVec T) → List (List T)
 lists_in rows = map (λ row. row.items) rows
 
 -- the parts of a tally, seen as the tally that they were

@@ -8,7 +8,7 @@ use crate::counting::plus;
 use crate::grown::note_both;
 use crate::noting::add_line;
 use crate::pairs::PairList;
-use crate::{Pair, Tally};
+use crate::{Pair, Row, Tally};
 use ga_base::{NoMemory, Sums};
 use std::alloc::Global;
 use std::thread::Threads;
@@ -58,7 +58,7 @@ fn add_visits(
     pairs: &mut PairList,
     keys: &[u32],
     visitors: &[u32],
-    rows: &[Vec<u32>],
+    rows: &[Row],
 ) -> Result<(), NoMemory>
     ensures { OnOk result (AddsSuch (IsMapped keys.now visitors.now (pairs_in (lists_in rows.now))) pairs.old pairs.new) }
 {

@@ -78,14 +78,6 @@ impl Agents {
         }
     }
 
-    /// The text that is kept where this agent would be.
-    pub(crate) fn kept(&self, agent: &str) -> Option<&Text> {
-        match self.places.get(place_of(agent)) {
-            Some(Some(known)) => Some(&known.text),
-            _ => None,
-        }
-    }
-
     /// What is kept of an agent.
     fn known(&self, agent: &str) -> Option<&Agent>
         ensures { (rules : List Rule) → AreAgents rules self.now →

@@ -3,6 +3,7 @@ ghost use Rattle.std.specs.Option.{option_map};
 ghost use Rattle.ga_base.specs.Records.{record_in};
 ghost use Rattle.ga_base.specs.declared.record.Line.TheVariants.{Good as SaysRecord};
 ghost use Rattle.ga_line.specs.Bounds.{RecordBounds};
+ghost use Rattle.ga_numbers.specs.Refs.{visitor_of};
 ghost use Rattle.ga_panels.specs.Known.{AreFactsOf, record_of, setup_of};
 ghost use Rattle.ga_panels.specs.Visitors as visits;
 ghost use Rattle.ga_summary.specs.Limits.{LinesAdd};
@@ -11,13 +12,12 @@ ghost use Rattle.ga_summary.specs.Outcomes.{Counted};
 ghost use Rattle.ga_summary.specs.Rows.{totals_plus};
 ghost use Rattle.ga_summary.specs.Sound.{TotalsFit};
 ghost use Rattle.ga_tallies.specs.Agents.{AreAgents};
-ghost use Rattle.ga_tallies.specs.Refs.{visitor_of};
 ghost use Rattle.ga_tallies.specs.Steps.OneLine.{Adds, IsTooMuch, OverfillsLine, OverfillsSaid, TakesLine, TakesSaid, hit_told};
 
-use crate::visitor_ref::VisitorRef;
 use crate::{Agents, Tally, TallyFault};
 use ga_base::{LIMIT, NoMemory, RecordRef, Sums, Totals};
 use ga_line::{LineView, read_view};
+use ga_numbers::VisitorRef;
 use ga_outcomes::Setup;
 use ga_panels::{PanelSetup, RecordFacts};
 use ga_requests::referral_of;
@@ -85,14 +85,13 @@ impl Tally {
         if facts.is_excluded() {
             return self.add_totals(EXCLUDED);
         }
-        self.count_facts(alloc, agents, &facts, &rec)
+        self.count_facts(alloc, &facts, &rec)
     }
 
     /// Counts a record with these facts under its keys, for its visitor.
     fn count_facts(
         &mut self,
         alloc: Global,
-        agents: &Agents,
         facts: &RecordFacts<'_>,
         rec: &RecordRef<'_>,
     ) -> Result<(), TallyFault>
@@ -102,7 +101,7 @@ impl Tally {
         ensures full { IsErrOf result TallyFault.Full → IsTooMuch (Counted (hit_told facts.now)) self.old }
     {
         self.add_totals(totals_of(rec))?;
-        let place = self.note_visitor(alloc, agents, visitor_in(facts, rec))?;
+        let place = self.note_visitor(alloc, visitor_in(facts, rec))?;
         self.note_keys(alloc, facts, place, sums_of(rec))?;
         Ok(())
     }

@@ -10,18 +10,15 @@ mod agents;
 mod counting;
 mod fault;
 mod grown;
-mod hints;
 mod noting;
-mod numbers;
 mod pairs;
 mod parts;
 mod places;
 mod tally;
-mod visitor_ref;
 
 pub use agents::Agents;
 pub use fault::TallyFault;
-pub use pairs::{Pair, pairs_of};
+pub use pairs::{Pair, Row, pairs_of};
 pub use parts::TallyParts;
 pub use tally::Tally;
 

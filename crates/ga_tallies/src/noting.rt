@@ -1,15 +1,14 @@
 ghost use Rattle.std.specs.Prelude.{◌≡◌, IfOk, OnOk};
 ghost use Rattle.std.specs.Option.{option_map};
+ghost use Rattle.ga_numbers.specs.Refs.{visitor_of};
 ghost use Rattle.ga_panels.specs.Refs.{key_of};
 ghost use Rattle.ga_panels.specs.Table.{group_keys, with_group};
 ghost use Rattle.ga_tallies.specs.Adding.{added_at, with_line};
-ghost use Rattle.ga_tallies.specs.Refs.{visitor_of};
 ghost use Rattle.ga_tallies.specs.Steps.Notes.{NotesKey, NotesKeys, NotesVisitor, keys_told};
 
-use crate::numbers::{key_number, visitor_number};
-use crate::visitor_ref::VisitorRef;
-use crate::{Agents, Pair, Tally};
+use crate::{Pair, Tally};
 use ga_base::{NoMemory, Sums};
+use ga_numbers::VisitorRef;
 use ga_panels::{KeyRef, PANELS, RecordFacts};
 use std::alloc::Global;
 
@@ -18,7 +17,6 @@ impl Tally {
     pub(crate) fn note_visitor(
         &mut self,
         alloc: Global,
-        agents: &Agents,
         visitor: Option<VisitorRef<'_>>,
     ) -> Result<Option<u32>, NoMemory>
         ensures { IfOk result
@@ -27,13 +25,7 @@ impl Tally {
         match visitor {
             None => Ok(None),
             Some(visitor) => {
-                let number = visitor_number(
-                    alloc,
-                    &mut self.visitors,
-                    &mut self.visitor_hints,
-                    agents,
-                    &visitor,
-                )?;
+                let number = self.visitors.number(alloc, &visitor)?;
                 Ok(Some(number))
             }
         }
@@ -100,7 +92,7 @@ impl Tally {
     ) -> Result<(), NoMemory>
         ensures { OnOk result (NotesKey (key_of key.now) visitor line self.old self.new) }
     {
-        let number = key_number(alloc, &mut self.keys, &mut self.key_hints, key)?;
+        let number = self.keys.number(alloc, key)?;
         add_line(&mut self.sums, number, line)?;
         match visitor {
             None => Ok(()),

@@ -5,6 +5,7 @@ ghost use Rattle.ga_tallies.specs.Tallies.{lists_in, pair_of, pairs_in, row_pair
 
 use crate::places::{make_places, put_at};
 use ga_base::NoMemory;
+use smallvec::SmallVec;
 use std::alloc::Global;
 use std::marker::Model;
 
@@ -16,6 +17,13 @@ pub struct Pair {
     /// The visitor's number.
     pub visitor: u32,
 }
+
+/// So many visitors stand in a row itself, and more of them in memory of their own.
+const IN_PLACE: usize = 4;
+
+/// The visitors of a key, by their numbers. One may stand there more than once. Most keys have few visitors, for which a row
+/// takes no memory of its own.
+pub type Row = SmallVec<u32, IN_PLACE>;
 
 /// From so many visitors on a row is looked over for those that stand there twice, each time before it grows.
 const FEW: usize = 64;
@@ -33,7 +41,7 @@ const SPREAD: u64 = 0x9e37_79b9_7f4a_7c15;
 #[derive(Drop)]
 pub(crate) struct PairList {
     /// The visitors of each key, at its number. Keys behind the last row have none.
-    rows: Vec<Vec<u32>>,
+    rows: Vec<Row>,
     /// Pairs that came lately, all of which stand in their rows: none before the first came, and then `PLACES` places. What
     /// stands there isn't added again.
     recent: Vec<Option<Pair>>,
@@ -98,7 +106,7 @@ impl PairList {
     }
 
     /// Gives the visitors of each key back, at its number.
-    pub(crate) fn into_rows(self) -> Vec<Vec<u32>>
+    pub(crate) fn into_rows(self) -> Vec<Row>
         ensures { pairs_in (lists_in result.items) ≡ self }
     {
         self.rows
@@ -106,7 +114,7 @@ impl PairList {
 }
 
 /// Puts a pair into the row of its key.
-fn put_pair(rows: &mut Vec<Vec<u32>>, pair: Pair) -> Result<(), NoMemory>
+fn put_pair(rows: &mut Vec<Row>, pair: Pair) -> Result<(), NoMemory>
     ensures kept { KeepsAll (pairs_in (lists_in rows.old.items)) (pairs_in (lists_in rows.new.items)) }
     ensures added { OnOk result (AddsOne (pair_of pair) (pairs_in (lists_in rows.old.items)) (pairs_in (lists_in rows.new.items))) }
 {
@@ -116,7 +124,7 @@ fn put_pair(rows: &mut Vec<Vec<u32>>, pair: Pair) -> Result<(), NoMemory>
 }
 
 /// Puts a pair behind the row of its key, as it is.
-fn push_pair(rows: &mut Vec<Vec<u32>>, pair: Pair) -> Result<(), NoMemory>
+fn push_pair(rows: &mut Vec<Row>, pair: Pair) -> Result<(), NoMemory>
     ensures kept { KeepsAll (pairs_in (lists_in rows.old.items)) (pairs_in (lists_in rows.new.items)) }
     ensures added { OnOk result (AddsOne (pair_of pair) (pairs_in (lists_in rows.old.items)) (pairs_in (lists_in rows.new.items))) }
 {
@@ -126,19 +134,19 @@ fn push_pair(rows: &mut Vec<Vec<u32>>, pair: Pair) -> Result<(), NoMemory>
 }
 
 /// Makes rows with nothing in them up to that of a key, where they aren't there.
-fn make_rows(rows: &mut Vec<Vec<u32>>, key: usize) -> Result<(), NoMemory>
+fn make_rows(rows: &mut Vec<Row>, key: usize) -> Result<(), NoMemory>
     ensures there { OnOk result (key < vec_len rows.new) }
     ensures same { HoldTheSame (pairs_in (lists_in rows.old.items)) (pairs_in (lists_in rows.new.items)) }
 {
     let alloc = *rows.allocator();
     while rows.len() <= key {
-        rows.push(Vec::new(alloc))?;
+        rows.push(Row::new(alloc))?;
     }
     Ok(())
 }
 
 /// Adds a visitor to a row.
-fn add_visitor(row: &mut Vec<u32>, visitor: u32) -> Result<(), NoMemory>
+fn add_visitor(row: &mut Row, visitor: u32) -> Result<(), NoMemory>
     ensures kept { KeepsAll row.old.items row.new.items }
     ensures added { OnOk result (AddsOne visitor row.old.items row.new.items) }
 {
@@ -147,7 +155,7 @@ fn add_visitor(row: &mut Vec<u32>, visitor: u32) -> Result<(), NoMemory>
 }
 
 /// Puts a visitor behind a row.
-fn push_visitor(row: &mut Vec<u32>, visitor: u32) -> Result<(), NoMemory>
+fn push_visitor(row: &mut Row, visitor: u32) -> Result<(), NoMemory>
     ensures kept { KeepsAll row.old.items row.new.items }
     ensures added { OnOk result (AddsOne visitor row.old.items row.new.items) }
 {
@@ -156,7 +164,7 @@ fn push_visitor(row: &mut Vec<u32>, visitor: u32) -> Result<(), NoMemory>
 
 /// Makes room in a row that is full: drops the visitors that stand there again, and grows the row where that leaves more than
 /// half of it taken.
-fn make_room(row: &mut Vec<u32>) -> Result<(), NoMemory>
+fn make_room(row: &mut Row) -> Result<(), NoMemory>
     ensures { HoldTheSame row.old.items row.new.items }
 {
     if row.len() < row.capacity() {
@@ -167,7 +175,7 @@ fn make_room(row: &mut Vec<u32>) -> Result<(), NoMemory>
 }
 
 /// Drops the visitors that stand there again, where there are more than few.
-fn thin_out(row: &mut Vec<u32>)
+fn thin_out(row: &mut Row)
     ensures { HoldTheSame row.old.items row.new.items }
 {
     if row.len() >= FEW {
@@ -177,7 +185,7 @@ fn thin_out(row: &mut Vec<u32>)
 }
 
 /// The pairs of rows of visitors, each of which stands at its key's number.
-pub fn pairs_of(alloc: Global, rows: &[Vec<u32>]) -> Result<Vec<Pair>, NoMemory>
+pub fn pairs_of(alloc: Global, rows: &[Row]) -> Result<Vec<Pair>, NoMemory>
     ensures { IfOk result (λ pairs. map pair_of pairs.items ≡ pairs_in (lists_in rows.now)) }
 {
     let mut pairs = Vec::new(alloc);

@@ -1,5 +1,6 @@
-use ga_base::{Key, Sums, Totals, Visitor};
-use ga_shards::Dictionary;
+use crate::Row;
+use ga_base::{Sums, Totals};
+use ga_numbers::{KeyNumbers, VisitorNumbers};
 
 /// What a tally is made of.
 #[derive(Drop)]
@@ -7,12 +8,12 @@ pub struct TallyParts {
     /// What was counted over all lines.
     pub totals: Totals,
     /// The keys, each at its number.
-    pub keys: Dictionary<Key>,
+    pub keys: KeyNumbers,
     /// The visitors, each at its number.
-    pub visitors: Dictionary<Visitor>,
+    pub visitors: VisitorNumbers,
     /// The sums of each key, at its number.
     pub sums: Vec<Sums>,
     /// The visitors of each key, by their numbers, at the key's number. Keys behind the last row have none, and a visitor may
     /// stand in a row more than once.
-    pub visits: Vec<Vec<u32>>,
+    pub visits: Vec<Row>,
 }

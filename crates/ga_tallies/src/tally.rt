@@ -5,13 +5,13 @@ ghost use Rattle.ga_summary.specs.Sound.{TotalsFit};
 ghost use Rattle.ga_tallies.specs.Agents.{AreAgents};
 ghost use Rattle.ga_tallies.specs.Tallies.{IsTallyOf, Overfills, TakesIn, seen_in};
 
-use crate::hints::Hints;
 use crate::pairs::PairList;
 use crate::{Agents, TallyFault, TallyParts};
-use ga_base::{Key, Sums, Totals, Visitor};
+use ga_base::{Sums, Totals};
 use ga_line::Lines;
+use ga_numbers::{KeyNumbers, VisitorNumbers};
 use ga_outcomes::Setup;
-use ga_shards::{Dictionary, Keyed};
+use ga_shards::Keyed;
 use std::alloc::Global;
 use std::marker::Model;
 
@@ -22,17 +22,13 @@ pub struct Tally {
     /// What was counted over all lines.
     pub(crate) totals: Totals,
     /// The keys, each at its number.
-    pub(crate) keys: Dictionary<Key>,
+    pub(crate) keys: KeyNumbers,
     /// The visitors, each at its number.
-    pub(crate) visitors: Dictionary<Visitor>,
+    pub(crate) visitors: VisitorNumbers,
     /// The sums of each key, at its number.
     pub(crate) sums: Vec<Sums>,
     /// The keys' visitors.
     pub(crate) pairs: PairList,
-    /// Where the keys that came lately stand.
-    pub(crate) key_hints: Hints,
-    /// Where the visitors that came lately stand.
-    pub(crate) visitor_hints: Hints,
 }
 
 impl Model for Tally {
@@ -48,7 +44,7 @@ impl Model for Tally {
 }
 
 impl Tally {
-    /// The tally of no lines, which takes no memory. Its dictionaries hash by `keyed`.
+    /// The tally of no lines, which takes no memory. Keys and visitors are hashed by `keyed`.
     pub fn new(alloc: Global, keyed: Keyed) -> Tally
         ensures { IsTallyOf [] result }
     {
@@ -61,12 +57,10 @@ impl Tally {
                 bytes: 0,
                 micros: 0,
             },
-            keys: Dictionary::new(alloc, keyed),
-            visitors: Dictionary::new(alloc, keyed),
+            keys: KeyNumbers::new(alloc, keyed),
+            visitors: VisitorNumbers::new(alloc, keyed),
             sums: Vec::new(alloc),
             pairs: PairList::new(alloc),
-            key_hints: Hints::new(alloc),
-            visitor_hints: Hints::new(alloc),
         }
     }
 

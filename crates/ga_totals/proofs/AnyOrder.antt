@@ -14,7 +14,7 @@ use Rattle.ga_base.specs.Panels.{is_same_panel}
 use Rattle.ga_report.specs.Sound.{AreSound, HasDay, SumsWithin, day_rows, layer_rows}
 use Rattle.ga_report.specs.Told.{ToldRow}
 use Rattle.ga_report.proofs.Lists.{all-in, at-all, filter-in, in-filter, in-permutation, sum_by-filter}
-use Rattle.ga_tallies.proofs.Same.{key-laws}
+use Rattle.ga_numbers.proofs.Same.{key-laws}
 
 any-filter : (p q : ToldRow → Bool) (xs : List ToldRow) → list_any q (filter p xs) ≡ list_any (λ x. p x && q x) xs
 any-filter p q [] = refl

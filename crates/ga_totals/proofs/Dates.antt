@@ -9,7 +9,7 @@ use Rattle.ga_base.specs.declared.key.Visitor.{Visitor}
 use Rattle.ga_base.specs.Orders.{is_same_key}
 use Rattle.ga_summary.specs.Outcomes.{Hit, Outcome, has_key, has_visit, hits_at, hits_of, is_by}
 use Rattle.ga_summary.specs.Sound.{AllCountable, IsCountable}
-use Rattle.ga_tallies.proofs.Same.{same-key, same-visitor}
+use Rattle.ga_numbers.proofs.Same.{same-key, same-visitor}
 
 abbrev MayCount : Hit → Type 0
 MayCount hit = (date : ℕ) × IsCountable date hit

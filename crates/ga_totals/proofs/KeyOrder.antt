@@ -12,7 +12,7 @@ use Rattle.std.proofs.lemmas.Option.{get_or_from_slice_get, slice_get_within}
 use Rattle.ga_base.specs.declared.key.Key.{Key}
 use Rattle.ga_base.specs.Orders.{is_same_key, key_cmp}
 use Rattle.ga_base.proofs.OrderLemmas.{key_cmp_total}
-use Rattle.ga_tallies.proofs.Same.{key-laws}
+use Rattle.ga_numbers.proofs.Same.{key-laws}
 use Rattle.ga_totals.specs.Steps.Rows.{AreByKey, NumberedKey}
 
 pub less-by : (o p : Ordering) → p ≡ ordering_reverse o → is_lt p ≡ false → is_eq o ≡ false → o ≡ Less

@@ -30,7 +30,7 @@ use Rattle.ga_summary.proofs.SoundSums.{IsSound-sum}
 use Rattle.ga_summary.proofs.Unique.{find_is}
 use Rattle.ga_tallies.specs.Tallies.{IsTallyOf, TallySeen}
 use Rattle.ga_tallies.proofs.OneKey.{sums-none}
-use Rattle.ga_tallies.proofs.Same.{key-itself, same-key, same-visitor}
+use Rattle.ga_numbers.proofs.Same.{key-itself, same-key, same-visitor}
 use Rattle.ga_totals.specs.Steps.Rows.{AreRowsOf, name_at}
 use Rattle.ga_totals.proofs.Dates.{visit-dated}
 use Rattle.ga_totals.proofs.KeyOrder.{keys-rise, one-place}

@@ -30,7 +30,7 @@ use Rattle.ga_summary.proofs.NameLists.{rising_put_name}
 use Rattle.ga_summary.proofs.Put.{equal_from_is_eq}
 use Rattle.ga_tallies.specs.Tallies.{IsTallyOf, TallySeen}
 use Rattle.ga_tallies.proofs.PairRows.{contains-map, from-map}
-use Rattle.ga_tallies.proofs.Same.{visitor-itself}
+use Rattle.ga_numbers.proofs.Same.{visitor-itself}
 use Rattle.ga_totals.specs.Steps.Rows.{AreByKey, AreRowsOf, IsRowOf, NumberedKey, name_at}
 use Rattle.ga_totals.specs.Steps.Telling.{AreVisits, CanTell, told_rows, visitors_of}
 use Rattle.ga_totals.specs.Totals.{TellsSumOf}

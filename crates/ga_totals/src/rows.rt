@@ -8,6 +8,7 @@ use crate::ranks::Ranks;
 use crate::visits::row_at;
 use ga_base::{Key, Names, NoMemory, Sums, Visitor};
 use ga_summary::PartRow;
+use ga_tallies::Row;
 use std::alloc::Global;
 
 /// A row for each key, in their order. Sums stand at the keys' numbers, and so do rows of the numbers of their visitors.
@@ -16,7 +17,7 @@ pub(crate) fn rows_of(
     keys: &[Key],
     sums: &[Sums],
     visitors: &[Visitor],
-    visits: &[Vec<u32>],
+    visits: &[Row],
 ) -> Result<Vec<PartRow>, NoMemory>
     requires many { length sums.now ≡ length keys.now }
     requires within { AreWithin (length visitors.now) (lists_in visits.now) }
@@ -38,7 +39,7 @@ fn row_of(
     entry: &Numbered<'_>,
     sums: &[Sums],
     visitors: &Ranks<'_>,
-    visits: &[Vec<u32>],
+    visits: &[Row],
 ) -> Result<PartRow, NoMemory>
     requires many { entry.now.number < length sums.now }
     requires within { AreWithin (length visitors.now) (lists_in visits.now) }

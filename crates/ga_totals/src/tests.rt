@@ -8,7 +8,7 @@ use crate::visits::visits_of;
 use ga_base::{NoMemory, Text, Visitor};
 use ga_report::Tells;
 use ga_shards::Keyed;
-use ga_tallies::Tally;
+use ga_tallies::{Row, Tally};
 use std::alloc::Global;
 
 /// A visitor from a host.
@@ -51,13 +51,13 @@ fn no_lines_are_told(rt: HostRuntime) -> Result<(), NoMemory> {
 
 /// The rows of four keys, of which the last has none: visitors 0 and 2 of the first key, nobody of the second, and visitors
 /// 2 and 1 of the third.
-fn rows(alloc: Global) -> Result<Vec<Vec<u32>>, NoMemory>
+fn rows(alloc: Global) -> Result<Vec<Row>, NoMemory>
     ensures { IfOk result (λ rows. AreWithin 3 (lists_in rows.items)) }
 {
     let mut rows = Vec::new(alloc);
-    rows.push(vec![in alloc; 0, 2, 0, 0, 2]?)?;
-    rows.push(Vec::new(alloc))?;
-    rows.push(vec![in alloc; 2, 1]?)?;
+    rows.push(Row::from_slice(alloc, &[0, 2, 0, 0, 2])?)?;
+    rows.push(Row::new(alloc))?;
+    rows.push(Row::from_slice(alloc, &[2, 1])?)?;
     Ok(rows)
 }
 

@@ -10,7 +10,7 @@ use crate::telling::TotalTold;
 use crate::visits::visits_of;
 use ga_base::{Key, NoMemory, Sums, Totals, Visitor};
 use ga_summary::{PartRows, Summary, SummaryParts};
-use ga_tallies::{Tally, TallyParts};
+use ga_tallies::{Row, Tally, TallyParts};
 use std::alloc::Global;
 use std::marker::Model;
 
@@ -28,7 +28,7 @@ pub struct Total {
     sums: Vec<Sums>,
     /// The visitors of each key, by their numbers, at the key's number. Keys behind the last row have none, and a visitor may
     /// stand in a row more than once.
-    visits: Vec<Vec<u32>>,
+    visits: Vec<Row>,
 }
 
 impl Model for Total {

@@ -5,6 +5,7 @@ ghost use Rattle.ga_totals.specs.Steps.Rows.{AreWithin, visitors_at};
 ghost use Rattle.ga_totals.specs.Steps.Telling.{AreVisits};
 
 use ga_base::NoMemory;
+use ga_tallies::Row;
 use std::alloc::Global;
 
 /// How many visitors each key has, at the key's number. Each is looked at once where it stands in a row, and counts once
@@ -13,7 +14,7 @@ pub(crate) fn visits_of(
     alloc: Global,
     keys: usize,
     visitors: usize,
-    rows: &[Vec<u32>],
+    rows: &[Row],
 ) -> Result<Vec<u64>, NoMemory>
     requires { AreWithin visitors (lists_in rows.now) }
     ensures { IfOk result (λ visits. AreVisits keys (pairs_in (lists_in rows.now)) visits.items) }
@@ -28,7 +29,7 @@ pub(crate) fn visits_of(
 }
 
 /// The visitors of a key's number, of rows that have them at the keys' numbers. Behind the last row there are none.
-pub(crate) fn row_at(rows: &[Vec<u32>], number: usize) -> &[u32]
+pub(crate) fn row_at(rows: &[Row], number: usize) -> &[u32]
     ensures { result.now ≡ visitors_at (lists_in rows.now) number }
 {
     match rows.get(number) {

@@ -1,20 +1,8 @@
 -- What a tally takes in of another: items, rows of sums and pairs, by the numbers that they get.
-use Rattle.std.specs.Prelude.{◌≡◌, ℕ, Bool, ◌⊎◌, List, [], ◌∷◌, Some, slice_get}
+use Rattle.std.specs.Prelude.{◌≡◌, ℕ, ◌⊎◌, List, [], ◌∷◌, Some, slice_get}
 use Rattle.std.specs.List.{Contains}
 use Rattle.ga_base.specs.declared.counts.Sums.{Sums}
-use Rattle.ga_shards.specs.Numbers.{noted, place_of}
-use Rattle.ga_shards.specs.Steps.{all_noted}
 use Rattle.ga_tallies.specs.Adding.{KeepsAll, added_at}
-
--- the numbers of items that are noted one after the other
-abbrev pub places_of : {T : Type 0} → (T → T → Bool) → List T → List T → List ℕ
-places_of eq known [] = []
-places_of eq known (item ∷ items) = place_of eq known item ∷ places_of eq (noted eq known item) items
-
--- items were noted one after the other, and have these numbers
-pub record AreNoted {T : Type 0} (eq : T → T → Bool) (items : List T) (numbers : List ℕ) (old new : List T) : Type 0 where
-  pub places : numbers ≡ places_of eq old items
-  pub known : new ≡ all_noted eq old items
 
 -- rows of sums after others were added, each to the row of its number
 abbrev pub rows_added : List ℕ → List Sums → List Sums → List Sums

@@ -1,5 +1,5 @@
 -- What is put down in a tally for one line: its visitor, and then each of its keys.
-use Rattle.std.specs.Prelude.{◌≡◌, ℕ, Bool, List, [], ◌∷◌, slice_get, Option, Some, None}
+use Rattle.std.specs.Prelude.{◌≡◌, ℕ, List, [], ◌∷◌, slice_get, Option, Some, None}
 use Rattle.ga_base.specs.Orders.{is_same_key, is_same_visitor}
 use Rattle.ga_base.specs.declared.counts.Sums.{Sums}
 use Rattle.ga_base.specs.declared.key.Key.{Key}
@@ -10,12 +10,6 @@ use Rattle.ga_panels.specs.declared.record_facts.RecordFacts.{RecordFacts}
 use Rattle.ga_shards.specs.Numbers.{noted, place_of}
 use Rattle.ga_tallies.specs.Adding.{AddsOne, added_at}
 use Rattle.ga_tallies.specs.Tallies.{TallySeen}
-
--- an item was noted in a list of different ones, and has this number
-pub record IsNumbered {T : Type 0} (eq : T → T → Bool) (item : T) (n : ℕ) (old new : List T) : Type 0 where
-  pub place : n ≡ place_of eq old item
-  pub items : new ≡ noted eq old item
-  pub stands : slice_get new n ≡ Some item
 
 -- a key's number was put down with a visitor's, where there is a visitor
 abbrev pub AddsVisit : ℕ → Option ℕ → List (ℕ × ℕ) → List (ℕ × ℕ) → Type 0

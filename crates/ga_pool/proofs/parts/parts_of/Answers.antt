@@ -20,9 +20,9 @@ loop-tally-preserved c =
     let rows : Rows = record { totals = parts.totals; sums = parts.sums; pairs = c.in_ok-pairs_of.field-0 } in
     record {
       keys =
-          c.in_ok-push.ensures.items ∙ (λ i. before.keys i ++ (seen i).keys ∷ []) ∙ sym (map-append (λ (t : TallySeen). t.keys) c.loop-tally.yielded (c.in-Some.tally ∷ []));
+          c.in_ok-push.ensures.items ∙ (λ i. before.keys i ++ (c.in_ok-into_dictionary.ensures ∙ ap (λ (t : TallySeen). t.keys) seen) i ∷ []) ∙ sym (map-append (λ (t : TallySeen). t.keys) c.loop-tally.yielded (c.in-Some.tally ∷ []));
       visitors =
-          c.in_ok-push-2.ensures.items ∙ (λ i. before.visitors i ++ (seen i).visitors ∷ []) ∙ sym (map-append (λ (t : TallySeen). t.visitors) c.loop-tally.yielded (c.in-Some.tally ∷ []));
+          c.in_ok-push-2.ensures.items ∙ (λ i. before.visitors i ++ (c.in_ok-into_dictionary-2.ensures ∙ ap (λ (t : TallySeen). t.visitors) seen) i ∷ []) ∙ sym (map-append (λ (t : TallySeen). t.visitors) c.loop-tally.yielded (c.in-Some.tally ∷ []));
       rows =
           subst (AllZip AreRowsOf (c.loop-tally.yielded ++ c.in-Some.tally ∷ [])) (sym c.in_ok-push-3.ensures.items)
           (zip-push AreRowsOf c.loop-tally.yielded c.loop-tally.rows.items c.in-Some.tally rows before.rows

@@ -1,5 +1,5 @@
-use Rattle.std.proofs.Common.{List, ◌++◌, ◌∙◌, ℕ, Vec, take, ap, sym, subst}
-use Rattle.std.specs.Global.{Global}
+use Rattle.std.proofs.Common.{List, ◌++◌, ◌∙◌, ℕ, take, ap, sym, subst}
+use Rattle.smallvec.specs.SmallVec.{SmallVec}
 use Rattle.ga_tallies.specs.Steps.Absorbing.{AddsSuch, IsMapped, IsMappedRow}
 use Rattle.ga_tallies.specs.Tallies.{lists_in, pairs_in, row_pairs}
 use Rattle.ga_tallies.proofs.AddedVisits.{lent-there, none-lent, row-more, row-unknown}
@@ -17,12 +17,12 @@ loop-key-preserved c =
     let row = c.index-rows-key.result in
     let before = pairs_in (lists_in (take k rows)) in
     let so_far = c.loop-key.invariant in
-    let more = next-row rows k row c.loop-key-test.true ∙ ap (λ (r : Vec ℕ Global). before ++ row_pairs k r.items) (sym c.index-rows-key.is) in
+    let more = next-row rows k row c.loop-key-test.true ∙ ap (λ (r : SmallVec ℕ). before ++ row_pairs k r.items) (sym c.index-rows-key.is) in
     subst (λ (l : List (ℕ × ℕ)). AddsSuch (IsMapped keys visitors l) old c.match-get.pairs) (sym more)
     (elim c.match-get.branch [
       | in-Some+in_ok-add_row w ↦
           let has = lent-there keys k c.get.result w.in-Some.number c.get.ensures.lookup w.in-Some.is in
-          let adds = subst (λ (r : List ℕ). AddsSuch (IsMappedRow w.in-Some.number.now visitors r) c.loop-key.pairs w.add_row.new.pairs) w.deref.ensures.value w.in_ok-add_row.ensures in
+          let adds = subst (λ (r : List ℕ). AddsSuch (IsMappedRow w.in-Some.number.now visitors r) c.loop-key.pairs w.add_row.new.pairs) w.deref.ensures w.in_ok-add_row.ensures in
           subst (λ (p : List (ℕ × ℕ)). AddsSuch (IsMapped keys visitors (before ++ row_pairs k row.items)) old p) (sym w.pairs-is)
           (row-more keys visitors before k w.in-Some.number.now row.items old c.loop-key.pairs w.add_row.new.pairs has so_far adds)
       | in_default w ↦

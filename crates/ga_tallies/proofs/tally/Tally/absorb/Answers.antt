@@ -3,7 +3,8 @@ use Rattle.std.proofs.lemmas.Result.{on_ok_weaker}
 use Rattle.ga_base.specs.Orders.{is_same_visitor}
 use Rattle.ga_summary.specs.Rows.{totals_plus}
 use Rattle.ga_summary.specs.Sound.{TotalsFit}
-use Rattle.ga_tallies.specs.Steps.Absorbing.{AddsSuch, IsMapped, places_of, rows_added}
+use Rattle.ga_numbers.specs.Numbers.{places_of}
+use Rattle.ga_tallies.specs.Steps.Absorbing.{AddsSuch, IsMapped, rows_added}
 use Rattle.ga_tallies.specs.Tallies.{Absorbs, TallySeen, lists_in, pairs_in, seen_in}
 use Rattle.ga_tallies.proofs.Absorbed.{TakesParts, absorbed}
 use Rattle.ga_tallies.proofs.tally.Tally.absorb.Goals as goal

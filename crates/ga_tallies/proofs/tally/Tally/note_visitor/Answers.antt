@@ -1,6 +1,6 @@
 use Rattle.std.proofs.Common.{Some, refl, sym, subst}
 use Rattle.std.specs.Option.{option_map}
-use Rattle.ga_tallies.specs.Refs.{visitor_of}
+use Rattle.ga_numbers.specs.Refs.{visitor_of}
 use Rattle.ga_tallies.specs.Steps.Notes.{NotesOne, NotesVisitor}
 use Rattle.ga_tallies.specs.Tallies.{TallySeen}
 use Rattle.ga_tallies.proofs.NotedSo.{visitor-noted}
@@ -12,6 +12,6 @@ returns-in_ok-number-in-Some c =
     let visitor = visitor_of c.in-Some.visitor in
     let old = c.self.inside in
     let seen : TallySeen = record { totals = old.totals; keys = old.keys; visitors = old.visitors; sums = old.sums.items; pairs = old.pairs } in
-    let new : TallySeen = record seen { visitors = c.visitor_number.new.visitors } in
-    let one = visitor-noted visitor n seen c.visitor_number.new.visitors c.in_ok-number-in-Some.ensures in
+    let new : TallySeen = record seen { visitors = c.number.new.self } in
+    let one = visitor-noted visitor n seen c.number.new.self c.in_ok-number-in-Some.ensures in
     subst (λ v. NotesVisitor (option_map visitor_of v) (Some n) c.args.self.now new) (sym c.in-Some.is) (n, refl, subst (λ (t : TallySeen). NotesOne visitor n t new) c.self.view_is one)

@@ -1,0 +1,6 @@
+-- The numbers of keys and visitors, and how their rows are kept.
+pub mod Numbers
+pub mod Refs
+pub mod Rows
+pub mod KeyFrames
+pub mod VisitorFrames

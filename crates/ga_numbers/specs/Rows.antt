@@ -1,0 +1,27 @@
+-- Items but for what they share with others, which are called rows, and what they share, which is called their frame.
+use Rattle.std.specs.Prelude.{ℕ, ◌<◌, Bool, List, length, All, slice_index_or}
+use Rattle.std.specs.List.{IsDistinct}
+use Rattle.ga_numbers.specs.contracts.row.RowPartialEq.TheImpl.{ghosts as rows}
+use Rattle.ga_numbers.specs.declared.row.Row.{Row}
+use Rattle.ga_numbers.specs.declared.row.RowRef.{RowRef}
+
+-- two rows are the same, as a dictionary tests
+abbrev pub is_same_row : Row → Row → Bool
+is_same_row a b = rows.eq a b
+
+-- the row whose values a borrowed one has
+abbrev pub row_in : RowRef → Row
+row_in r = record { frame = r.frame; date = r.date; text = r.text.now }
+
+-- each row's frame is one of these
+abbrev pub AreFramed : {F : Type 0} → List F → List Row → Type 0
+AreFramed frames rows = All (λ (row : Row). row.frame < length frames) rows
+
+-- rows of different frames
+pub record AreRowsOf {F : Type 0} (eq : F → F → Bool) (frames : List F) (rows : List Row) : Type 0 where
+  pub different : IsDistinct eq frames
+  pub framed : AreFramed frames rows
+
+-- a row whose frame has the number that stands in this list
+abbrev pub moved_by : List ℕ → Row → Row
+moved_by numbers row = record { frame = slice_index_or numbers row.frame 0; date = row.date; text = row.text }

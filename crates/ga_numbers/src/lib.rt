@@ -1,0 +1,19 @@
+//! Numbers for the keys and the visitors that a worker meets, in the order in which they came.
+//!
+//! `KeyNumbers` and `VisitorNumbers` are seen as lists of different items. They keep what many items share once: a key's panel
+//! and its texts but the label, a visitor's agent. An item is then a `Row` of 24 bytes: the number of what it shares, a day and a
+//! text. `specs/Numbers.antt` says what a number is.
+#![tactic(auto)]
+
+mod hints;
+mod key_frame;
+mod key_numbers;
+mod noting;
+mod row;
+mod visitor_frame;
+mod visitor_numbers;
+mod visitor_ref;
+
+pub use key_numbers::KeyNumbers;
+pub use visitor_numbers::VisitorNumbers;
+pub use visitor_ref::VisitorRef;

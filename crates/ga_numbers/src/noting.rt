@@ -1,0 +1,44 @@
+ghost use Rattle.std.specs.Prelude.{◌≡◌, ◌≤◌, Some, true, IfOk, OnErr, OnOk, length, slice_get};
+ghost use Rattle.std.specs.List.{IsDistinct};
+ghost use Rattle.ga_numbers.specs.Numbers.{places_of};
+ghost use Rattle.ga_shards.specs.Numbers.{noted, place_of};
+ghost use Rattle.ga_shards.specs.Steps.{all_noted};
+
+use ga_base::{NoMemory, Noted};
+use ga_shards::Dictionary;
+use std::alloc::Global;
+
+/// So many items a dictionary holds.
+const MOST: u32 = u32::MAX - 1;
+
+/// Notes items, and gives the number of each.
+pub(crate) fn note_all<T: Noted + Drop>(
+    alloc: Global,
+    known: &mut Dictionary<T>,
+    items: Vec<T>,
+) -> Result<Vec<u32>, NoMemory>
+    ensures numbers { IfOk result (λ numbers. numbers.items ≡ places_of T.eq known.old items.items) }
+    ensures noted { OnOk result (known.new ≡ all_noted T.eq known.old items.items) }
+    ensures grown { length known.old ≤ length known.new }
+    ensures distinct { IsDistinct T.eq known.old → IsDistinct T.eq known.new }
+{
+    let mut numbers = Vec::with_capacity(alloc, items.len())?;
+    for item in items {
+        numbers.push(note(known, item)?)?;
+    }
+    Ok(numbers)
+}
+
+/// Notes an item, and gives its number. A dictionary that is full answers want of memory. After an `Err` it is as it was.
+pub(crate) fn note<T: Noted + Drop>(items: &mut Dictionary<T>, item: T) -> Result<u32, NoMemory>
+    ensures value { IfOk result (λ local. local ≡ place_of T.eq items.old item) }
+    ensures noted { OnOk result (items.new ≡ noted T.eq items.old item) }
+    ensures known { IfOk result (λ local. (known : T) × (slice_get items.new local ≡ Some known) × (T.eq item known ≡ true)) }
+    ensures distinct { IsDistinct T.eq items.new }
+    ensures err { OnErr result (items.new ≡ items.old) }
+{
+    if items.len() >= MOST {
+        return Err(NoMemory);
+    }
+    items.note(item)
+}
