@@ -1,9 +1,9 @@
 -- Items of frames and rows: how rows that are noted number the items for which they stand.
-use Rattle.std.proofs.Common.{◌≡◌, ℕ, ◌+◌, ◌<◌, ◌≤◌, Bool, true, List, [], ◌∷◌, ◌++◌, length, get_or, map, Some, refl, sym, ap, ◌∙◌, subst, arith, take, take_all}
+use Rattle.std.proofs.Common.{◌≡◌, ℕ, ◌+◌, ◌<◌, Bool, true, List, [], ◌∷◌, ◌++◌, length, get_or, map, Some, refl, sym, ap, ◌∙◌, subst, arith}
 use Rattle.std.specs.Prelude.{slice_get}
 use Rattle.std.specs.Cmp.{IsEquivalence, both_ways}
 use Rattle.std.specs.List.{All, IsDistinct}
-use Rattle.std.proofs.lemmas.List.{get_or_append_left, get_or-map, length-map, take_more}
+use Rattle.std.proofs.lemmas.List.{get_or_append_left, get_or-map, length-map}
 use Rattle.std.proofs.lemmas.List.Elements.{All-head, All-tail}
 use Rattle.std.proofs.lemmas.Option.{slice_get-get_or, slice_get_within, get_or_from_slice_get}
 use Rattle.ga_numbers.specs.Numbers.{AreNoted, IsNumbered, places_of}
@@ -12,18 +12,19 @@ use Rattle.ga_numbers.specs.declared.row.Row.{Row}
 use Rattle.ga_numbers.proofs.AllNoted.{has-number, placed}
 use Rattle.ga_numbers.proofs.Framing.{all-noted-along, distinct-along, noted-along, place-along, place-told, places-along}
 use Rattle.ga_numbers.proofs.Noted.{grows, noted-cases}
-use Rattle.ga_numbers.proofs.Same.{row-itself, same-row}
+use Rattle.ga_numbers.proofs.Same.{row-itself, row-laws, same-row}
 use Rattle.ga_shards.specs.Numbers.{noted, place_of}
 use Rattle.ga_shards.specs.Steps.{all_noted}
+use Rattle.ga_shards.proofs.Noting.{from-all}
 
 -- how frames and rows make items
-pub record Makes {F T : Type 0} (eqF : F → F → Bool) (eqT : T → T → Bool) (made : F → Row → T) : Type 0 where
+pub record Makes {F T : Type 0} (eqF : F → F → Bool) (eqT : T → T → Bool) (IsPlain : F → Type 0) (made : F → Row → T) : Type 0 where
   pub laws : IsEquivalence eqF
   pub exact : (f g : F) → eqF f g ≡ true → f ≡ g
   pub itself : (x : T) → eqT x x ≡ true
   pub exact-items : (x y : T) → eqT x y ≡ true → x ≡ y
   -- the item says its frame, its day and its text, and nothing else
-  pub says : (f g : F) (r q : Row) → made f r ≡ made g q → (f ≡ g) × (r.date ≡ q.date) × (r.text ≡ q.text)
+  pub says : (f g : F) (r q : Row) → IsPlain f → IsPlain g → made f r ≡ made g q → (f ≡ g) × (r.date ≡ q.date) × (r.text ≡ q.text)
   pub only : (f : F) (r q : Row) → r.date ≡ q.date → r.text ≡ q.text → made f r ≡ made f q
 
 map-same : {A B : Type 0} (f g : A → B) (xs : List A) → All (λ x. f x ≡ g x) xs → map f xs ≡ map g xs
@@ -34,13 +35,13 @@ map-map : {A B C : Type 0} (f : B → C) (g : A → B) (xs : List A) → map f (
 map-map f g [] = refl
 map-map f g (x ∷ xs) = ap (λ l. f (g x) ∷ l) (map-map f g xs)
 
-get-mapped : {A B : Type 0} (f : A → B) (xs : List A) (n : ℕ) (x : A) → slice_get xs n ≡ Some x → slice_get (map f xs) n ≡ Some (f x)
+pub get-mapped : {A B : Type 0} (f : A → B) (xs : List A) (n : ℕ) (x : A) → slice_get xs n ≡ Some x → slice_get (map f xs) n ≡ Some (f x)
 get-mapped f xs n x at =
     let within : n < length xs = slice_get_within xs n x at in
     slice_get-get_or (map f xs) n (f x) (omega (arith, within, length-map xs f))
     ∙ ap Some (get_or-map f xs n x (f x) within ∙ ap f (get_or_from_slice_get xs n x x at))
 
-module _ {F T : Type 0} (none : F) (eqF : F → F → Bool) (eqT : T → T → Bool) (made : F → Row → T) (m : Makes eqF eqT made) where
+module _ {F T : Type 0} (none : F) (eqF : F → F → Bool) (eqT : T → T → Bool) (IsPlain : F → Type 0) (made : F → Row → T) (m : Makes eqF eqT IsPlain made) where
   abbrev pub item_at : List F → Row → T
   item_at frames row = made (get_or frames row.frame none) row
 
@@ -53,12 +54,12 @@ module _ {F T : Type 0} (none : F) (eqF : F → F → Bool) (eqT : T → T → B
   row-made : (a b : Row) → a.frame ≡ b.frame → a.date ≡ b.date → a.text ≡ b.text → a ≡ b
   row-made a b frame date text = λ i. record { frame = frame i; date = date i; text = text i }
 
-  agree : (frames : List F) → IsDistinct eqF frames → (a b : Row) → Within frames a → Within frames b → is_same_row a b ≡ eqT (item_at frames a) (item_at frames b)
-  agree frames different a b in-a in-b =
+  agree : (frames : List F) → IsDistinct eqF frames → All IsPlain frames → (a b : Row) → Within frames a → Within frames b → is_same_row a b ≡ eqT (item_at frames a) (item_at frames b)
+  agree frames different plain a b in-a in-b =
       both_ways (is_same_row a b) (eqT (item_at frames a) (item_at frames b))
       (λ e. subst (λ (x : Row). eqT (item_at frames a) (item_at frames x) ≡ true) (same-row a b e) (m.itself (item_at frames a)))
       (λ e.
-      let says = m.says (get_or frames a.frame none) (get_or frames b.frame none) a b (m.exact-items _ _ e) in
+      let says = m.says (get_or frames a.frame none) (get_or frames b.frame none) a b (plain a.frame none in-a) (plain b.frame none in-b) (m.exact-items _ _ e) in
       let frame = place-told eqF m.laws frames different a.frame b.frame none in-a in-b says.0 in
       subst (λ (x : Row). is_same_row a x ≡ true) (row-made a b frame says.1 says.2) (row-itself a))
 
@@ -68,7 +69,7 @@ module _ {F T : Type 0} (none : F) (eqF : F → F → Bool) (eqT : T → T → B
       map-same (item_at (frames ++ more)) (item_at frames) rows
       (λ k d within. ap (λ f. made f (get_or rows k d)) (get_or_append_left frames more none (get_or rows k d).frame (framed k d within)))
 
-  grown : (frames : List F) (f : F) (rows : List Row) → AreFramed frames rows → items_in (noted eqF frames f) rows ≡ items_in frames rows
+  pub grown : (frames : List F) (f : F) (rows : List Row) → AreFramed frames rows → items_in (noted eqF frames f) rows ≡ items_in frames rows
   grown frames f rows framed = noted-cases eqF (λ l. items_in l rows ≡ items_in frames rows) frames f (λ _. refl) (λ _. kept frames (f ∷ []) rows framed)
 
   framed-more : (frames : List F) (f : F) (rows : List Row) → AreFramed frames rows → AreFramed (noted eqF frames f) rows
@@ -83,12 +84,12 @@ module _ {F T : Type 0} (none : F) (eqF : F → F → Bool) (eqT : T → T → B
   all-framed (f ∷ more) frames rows framed = all-framed more (noted eqF frames f) rows (framed-more frames f rows framed)
 
   -- a frame and a row of it were noted: so was the item
-  pub numbered : (f : F) (row : Row) (n : ℕ) (frames frames-new : List F) (rows rows-new : List Row) → IsNumbered eqF f row.frame frames frames-new → IsDistinct eqF frames-new
+  pub numbered : (f : F) (row : Row) (n : ℕ) (frames frames-new : List F) (rows rows-new : List Row) → IsNumbered eqF f row.frame frames frames-new → IsDistinct eqF frames-new → All IsPlain frames-new
       → AreFramed frames rows → IsNumbered is_same_row row n rows rows-new → IsNumbered eqT (made f row) n (items_in frames rows) (items_in frames-new rows-new)
-  numbered f row n frames frames-new rows rows-new frame different framed one = record {
-    place = one.place ∙ place-along (item_at frames-new) is_same_row eqT (Within frames-new) (agree frames-new different) rows row fine here ∙ (λ i. place_of eqT (same i) (is i));
+  numbered f row n frames frames-new rows rows-new frame different plain framed one = record {
+    place = one.place ∙ place-along (item_at frames-new) is_same_row eqT (Within frames-new) (agree frames-new different plain) rows row fine here ∙ (λ i. place_of eqT (same i) (is i));
     items =
-        ap (items_in frames-new) one.items ∙ noted-along (item_at frames-new) is_same_row eqT (Within frames-new) (agree frames-new different) rows row fine here
+        ap (items_in frames-new) one.items ∙ noted-along (item_at frames-new) is_same_row eqT (Within frames-new) (agree frames-new different plain) rows row fine here
         ∙ (λ i. noted eqT (same i) (is i));
     stands = get-mapped (item_at frames-new) rows-new n row one.stands ∙ ap Some is;
   }
@@ -106,17 +107,20 @@ module _ {F T : Type 0} (none : F) (eqF : F → F → Bool) (eqT : T → T → B
       is = ap (λ g. made g row) (get_or_from_slice_get frames-new row.frame f none frame.stands)
 
   -- other frames and rows of them were noted: so were the items
-  pub absorbed : (frames more frames-new : List F) (rows more-rows rows-new : List Row) (numbers places : List ℕ) → AreFramed frames rows → AreFramed more more-rows → IsDistinct eqF frames-new
+  pub absorbed : (frames more frames-new : List F) (rows more-rows rows-new : List Row) (numbers places : List ℕ) → AreFramed frames rows → AreFramed more more-rows → IsDistinct eqF frames-new → All IsPlain frames-new
       → numbers ≡ places_of eqF frames more → frames-new ≡ all_noted eqF frames more → AreNoted is_same_row (map (moved_by numbers) more-rows) places rows rows-new
-      → AreNoted eqT (items_in more more-rows) places (items_in frames rows) (items_in frames-new rows-new)
-  absorbed frames more frames-new rows more-rows rows-new numbers places framed framed-too different are known noted-rows = record {
-    places =
-        noted-rows.places ∙ places-along (item_at frames-new) is_same_row eqT (Within frames-new) (agree frames-new different) moved rows fine fine-too
-        ∙ (λ i. places_of eqT (same i) (alike i));
-    known =
-        ap (items_in frames-new) noted-rows.known ∙ all-noted-along (item_at frames-new) is_same_row eqT (Within frames-new) (agree frames-new different) moved rows fine fine-too
-        ∙ (λ i. all_noted eqT (same i) (alike i));
-  }
+      → AreNoted eqT (items_in more more-rows) places (items_in frames rows) (items_in frames-new rows-new) × AreFramed frames-new rows-new
+  absorbed frames more frames-new rows more-rows rows-new numbers places framed framed-too different plain are known noted-rows = (
+    record {
+      places =
+          noted-rows.places ∙ places-along (item_at frames-new) is_same_row eqT (Within frames-new) (agree frames-new different plain) moved rows fine fine-too
+          ∙ (λ i. places_of eqT (same i) (alike i));
+      known =
+          ap (items_in frames-new) noted-rows.known ∙ all-noted-along (item_at frames-new) is_same_row eqT (Within frames-new) (agree frames-new different plain) moved rows fine fine-too
+          ∙ (λ i. all_noted eqT (same i) (alike i));
+    },
+    subst (AreFramed frames-new) (sym noted-rows.known) (from-all is_same_row row-laws (Within frames-new) moved rows fine fine-too),
+  )
     where
       moved : List Row
       moved = map (moved_by numbers) more-rows
@@ -156,20 +160,5 @@ module _ {F T : Type 0} (none : F) (eqF : F → F → Bool) (eqT : T → T → B
           ∙ map-same (λ row. item_at frames-new (moved_by numbers row)) (item_at more) more-rows (λ k d within. moved-is (get_or more-rows k d) (framed-too k d within))
 
   -- different rows stand for different items
-  pub different-items : (frames : List F) (rows : List Row) → IsDistinct eqF frames → AreFramed frames rows → IsDistinct is_same_row rows → IsDistinct eqT (items_in frames rows)
-  different-items frames rows different framed apart = distinct-along (item_at frames) is_same_row eqT (Within frames) (agree frames different) rows framed apart
-
-  -- one item more behind the first so many
-  pub one-more : (frames : List F) (rows seen : List Row) (self so_far : List T) (at : ℕ) (row : Row) (x : T) → items_in frames rows ≡ self → seen ≡ rows → at < length seen
-      → row ≡ get_or seen at row → x ≡ item_at frames row → so_far ≡ take at self → so_far ++ x ∷ [] ≡ take (at + 1) self
-  one-more frames rows seen self so_far at row x is same within row-is x-is front =
-      let in-rows : at < length rows = omega (arith, within, ap length same) in
-      let in-self : at < length self = omega (arith, in-rows, length-map rows (item_at frames), ap length is) in
-      let here : x ≡ get_or self at x =
-      x-is ∙ ap (item_at frames) (row-is ∙ ap (λ l. get_or l at row) same) ∙ sym (get_or-map (item_at frames) rows at row x in-rows) ∙ ap (λ l. get_or l at x) is in
-      (λ i. front i ++ here i ∷ []) ∙ sym (take_more self at x in-self)
-
-  -- and all of them
-  pub all-there : (frames : List F) (rows seen : List Row) (self so_far : List T) (at : ℕ) → items_in frames rows ≡ self → seen ≡ rows → length seen ≤ at → so_far ≡ take at self → so_far ≡ self
-  all-there frames rows seen self so_far at is same past front =
-      front ∙ take_all at self (omega (arith, past, ap length same, length-map rows (item_at frames), ap length is))
+  pub different-items : (frames : List F) (rows : List Row) → IsDistinct eqF frames → All IsPlain frames → AreFramed frames rows → IsDistinct is_same_row rows → IsDistinct eqT (items_in frames rows)
+  different-items frames rows different plain framed apart = distinct-along (item_at frames) is_same_row eqT (Within frames) (agree frames different plain) rows framed apart

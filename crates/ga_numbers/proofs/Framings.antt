@@ -1,29 +1,40 @@
 -- Keys and visitors are made of frames and rows.
-use Rattle.std.proofs.Common.{ap}
+use Rattle.std.proofs.Common.{sym, ap, ◌∙◌}
 use Rattle.ga_base.specs.Orders.{is_same_key, is_same_visitor}
 use Rattle.ga_base.specs.declared.key.Key.{Key}
 use Rattle.ga_base.specs.declared.key.Visitor.{Visitor}
-use Rattle.ga_numbers.specs.KeyFrames.{is_same_frame, key_at}
-use Rattle.ga_numbers.specs.VisitorFrames.{is_same_agent, visitor_at}
+use Rattle.ga_numbers.specs.KeyFrames.{IsKeyFrame, is_same_frame, key_at}
+use Rattle.ga_numbers.specs.VisitorFrames.{IsVisitorFrame, is_same_agent, visitor_at}
 use Rattle.ga_numbers.proofs.Framed.{Makes}
 use Rattle.ga_numbers.proofs.Same.{agent-laws, frame-laws, key-itself, same-agent, same-frame, same-key, same-visitor, visitor-itself}
 
-pub makes-keys : Makes is_same_frame is_same_key key_at
+pub makes-keys : Makes is_same_frame is_same_key IsKeyFrame key_at
 makes-keys = record {
   laws = frame-laws;
   exact = same-frame;
   itself = key-itself;
   exact-items = same-key;
-  says = λ f g r q e. ((λ i. record { panel = (e i).panel; parent = (e i).parent; method = (e i).method; protocol = (e i).protocol }), ap (λ (k : Key). k.date) e, ap (λ (k : Key). k.label) e);
+  says = λ f g r q plain other e. (
+    (λ i. record {
+      panel = (e i).panel;
+      date = (plain.0 ∙ sym other.0) i;
+      parent = (e i).parent;
+      label = (plain.1 ∙ sym other.1) i;
+      method = (e i).method;
+      protocol = (e i).protocol;
+    }),
+    ap (λ (k : Key). k.date) e,
+    ap (λ (k : Key). k.label) e,
+  );
   only = λ f r q date text i. record { panel = f.panel; date = date i; parent = f.parent; label = text i; method = f.method; protocol = f.protocol };
 }
 
-pub makes-visitors : Makes is_same_agent is_same_visitor visitor_at
+pub makes-visitors : Makes is_same_agent is_same_visitor IsVisitorFrame visitor_at
 makes-visitors = record {
   laws = agent-laws;
   exact = same-agent;
   itself = visitor-itself;
   exact-items = same-visitor;
-  says = λ f g r q e. ((λ i. record { agent = (e i).agent }), ap (λ (v : Visitor). v.date) e, ap (λ (v : Visitor). v.host) e);
+  says = λ f g r q plain other e. ((λ i. record { host = (plain.1 ∙ sym other.1) i; date = (plain.0 ∙ sym other.0) i; agent = (e i).agent }), ap (λ (v : Visitor). v.date) e, ap (λ (v : Visitor). v.host) e);
   only = λ f r q date text i. record { host = text i; date = date i; agent = f.agent };
 }

@@ -5,3 +5,7 @@ pub mod NotedSo
 pub mod Framing
 pub mod Framed
 pub mod Framings
+pub mod Keeping
+pub mod Setting
+pub mod Giving
+pub mod HaveMet

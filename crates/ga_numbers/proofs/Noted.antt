@@ -2,9 +2,10 @@
 use Rattle.std.proofs.Common.{◌≡◌, ℕ, ◌+◌, ◌<◌, ◌≤◌, Bool, true, false, cond, not, ◌||◌, ◌⊎◌, inl, inr, List, [], ◌∷◌, ◌++◌, length, Some, refl, sym, ap, ◌∙◌, subst, arith, length-append, ⊎_elim}
 use Rattle.std.specs.Prelude.{slice_get}
 use Rattle.std.specs.Cmp.{IsEquivalence}
-use Rattle.std.specs.List.{IsDistinct, list_any}
+use Rattle.std.specs.List.{All, IsDistinct, list_any}
 use Rattle.std.proofs.lemmas.Bool.{cases_Bool, cases_lt, cond-true, cond-false, true≢false}
 use Rattle.std.proofs.lemmas.List.{get_or_append_left}
+use Rattle.std.proofs.lemmas.List.Elements.{All-push}
 use Rattle.std.proofs.lemmas.List.Folds.{list_any-append}
 use Rattle.std.proofs.lemmas.Option.{slice_get-get_or, slice_get_within, get_or_from_slice_get}
 use Rattle.ga_shards.specs.Numbers.{noted, place_of}
@@ -35,6 +36,10 @@ module _ {T : Type 0} (eq : T → T → Bool) where
       (λ absent. subst P (sym (cond-false _ _ _ absent)) (more absent))
       (cases_Bool (list_any (eq item) items))
 
+  -- what holds of all items, and of the one that was noted, holds of all that are there
+  pub noted-all : (P : T → Type 0) (items : List T) (item : T) → All P items → P item → All P (noted eq items item)
+  noted-all P items item all one = noted-cases (All P) items item (λ _. all) (λ _. All-push P items item all one)
+
   -- where none passes, the first that passes is the end
   pub place-absent : (items : List T) (item : T) → list_any (eq item) items ≡ false → place_of eq items item ≡ length items
   place-absent [] item e = refl
@@ -47,9 +52,6 @@ module _ {T : Type 0} (eq : T → T → Bool) where
   -- no list is shorter after it
   pub grows : (items : List T) (item : T) → length items ≤ length (noted eq items item)
   grows items item = noted-cases (λ l. length items ≤ length l) items item (λ _. omega arith) (λ _. omega (arith, length-append items (item ∷ [])))
-
-  pub longer : (known now new : List T) (item : T) → length known ≤ length now → new ≡ noted eq now item → length known ≤ length new
-  longer known now new item so_far one = omega (arith, so_far, ap length one, grows now item)
 
   pub kept : (items : List T) (item : T) (i : ℕ) (x : T) → slice_get items i ≡ Some x → slice_get (noted eq items item) i ≡ Some x
   kept items item i x e = noted-cases (λ l. slice_get l i ≡ Some x) items item (λ _. e) (λ _. get-append items (item ∷ []) i x e)

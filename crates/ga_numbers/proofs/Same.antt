@@ -1,5 +1,5 @@
 -- The tests by which items are the same: what is the same is equal.
-use Rattle.std.proofs.Common.{◌≡◌, Bool, true, false, ◌&&◌, refl, ap, ◌∙◌, subst, eq-eqb, rules, Less, Equal, Greater}
+use Rattle.std.proofs.Common.{◌≡◌, Bool, true, false, ◌&&◌, refl, sym, ap, ◌∙◌, subst, eq-eqb, rules, Less, Equal, Greater}
 use Rattle.std.specs.Cmp.{IsEquivalence, both_ways}
 use Rattle.std.specs.Ordering.{is_eq}
 use Rattle.std.specs.declared.cmp.Ordering.{Ordering}
@@ -16,9 +16,7 @@ use Rattle.ga_base.proofs.OrderLemmas.{key_cmp_is, key_cmp_total, key_cmp_exact,
 use Rattle.ga_numbers.specs.KeyFrames.{is_same_frame}
 use Rattle.ga_numbers.specs.Rows.{is_same_row}
 use Rattle.ga_numbers.specs.VisitorFrames.{is_same_agent}
-use Rattle.ga_numbers.specs.declared.key_frame.KeyFrame.{KeyFrame}
 use Rattle.ga_numbers.specs.declared.row.Row.{Row}
-use Rattle.ga_numbers.specs.declared.visitor_frame.VisitorFrame.{VisitorFrame}
 
 both_true : (a b : Bool) → (a && b) ≡ true → (a ≡ true) × (b ≡ true)
 both_true true b e = (refl, e)
@@ -72,24 +70,6 @@ row-itself a = search rules
 pub row-laws : IsEquivalence is_same_row
 row-laws = exact-laws is_same_row row-itself same-row
 
-pub same-frame : (a b : KeyFrame) → is_same_frame a b ≡ true → a ≡ b
-same-frame a b e = search rules
-
-pub frame-itself : (a : KeyFrame) → is_same_frame a a ≡ true
-frame-itself a = search rules
-
-pub frame-laws : IsEquivalence is_same_frame
-frame-laws = exact-laws is_same_frame frame-itself same-frame
-
-pub same-agent : (a b : VisitorFrame) → is_same_agent a b ≡ true → a ≡ b
-same-agent a b e = search rules
-
-pub agent-itself : (a : VisitorFrame) → is_same_agent a a ≡ true
-agent-itself a = search rules
-
-pub agent-laws : IsEquivalence is_same_agent
-agent-laws = exact-laws is_same_agent agent-itself same-agent
-
 -- dictionaries of keys test so
 pub key-test : (λ (a b : Key). keys.eq a b) ≡ is_same_key
 key-test = λ i a b. (key-ties a b ∙ ap is_eq (key_cmp_is a b)) i
@@ -104,3 +84,23 @@ visitor-test = λ i a b. same a b i
         ∙ both_ways (is_eq (visitor_cmp a b)) (is_same_visitor a b)
         (λ e. subst (λ x. is_same_visitor a x ≡ true) (visitor_cmp_exact a b (equal_from_is_eq _ e)) (visitor-itself a))
         (λ e. subst (λ x. is_eq (visitor_cmp a x) ≡ true) (same-visitor a b e) (ap is_eq (tied_itself visitor_cmp_total a)))
+
+-- frames of keys are keys
+pub same-frame : (a b : Key) → is_same_frame a b ≡ true → a ≡ b
+same-frame a b e = same-key a b (sym (λ i. key-test i a b) ∙ e)
+
+pub frame-itself : (a : Key) → is_same_frame a a ≡ true
+frame-itself a = (λ i. key-test i a a) ∙ key-itself a
+
+pub frame-laws : IsEquivalence is_same_frame
+frame-laws = exact-laws is_same_frame frame-itself same-frame
+
+-- and those of visitors are visitors
+pub same-agent : (a b : Visitor) → is_same_agent a b ≡ true → a ≡ b
+same-agent a b e = same-visitor a b (sym (λ i. visitor-test i a b) ∙ e)
+
+pub agent-itself : (a : Visitor) → is_same_agent a a ≡ true
+agent-itself a = (λ i. visitor-test i a a) ∙ visitor-itself a
+
+pub agent-laws : IsEquivalence is_same_agent
+agent-laws = exact-laws is_same_agent agent-itself same-agent

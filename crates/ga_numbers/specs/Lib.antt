@@ -2,5 +2,6 @@
 pub mod Numbers
 pub mod Refs
 pub mod Rows
+pub mod Kept
 pub mod KeyFrames
 pub mod VisitorFrames

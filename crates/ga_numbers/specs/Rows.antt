@@ -1,5 +1,6 @@
 -- Items but for what they share with others, which are called rows, and what they share, which is called their frame.
-use Rattle.std.specs.Prelude.{ℕ, ◌<◌, Bool, List, length, All, slice_index_or}
+use Rattle.std.specs.Prelude.{ℕ, ◌<◌, ◌%◌, Bool, List, length, All, slice_index_or}
+use Rattle.std.specs.Hash.FoldHasher as hashes
 use Rattle.std.specs.List.{IsDistinct}
 use Rattle.ga_numbers.specs.contracts.row.RowPartialEq.TheImpl.{ghosts as rows}
 use Rattle.ga_numbers.specs.declared.row.Row.{Row}
@@ -13,13 +14,18 @@ is_same_row a b = rows.eq a b
 abbrev pub row_in : RowRef → Row
 row_in r = record { frame = r.frame; date = r.date; text = r.text.now }
 
+-- in which shard the rows of a text are
+abbrev pub shard_at : List ℕ → ℕ
+shard_at text = hashes.finish (hashes.write hashes.initial text) % 8
+
 -- each row's frame is one of these
 abbrev pub AreFramed : {F : Type 0} → List F → List Row → Type 0
 AreFramed frames rows = All (λ (row : Row). row.frame < length frames) rows
 
--- rows of different frames
-pub record AreRowsOf {F : Type 0} (eq : F → F → Bool) (frames : List F) (rows : List Row) : Type 0 where
+-- rows of different frames, which say nothing that rows say
+pub record AreRowsOf {F : Type 0} (eq : F → F → Bool) (IsPlain : F → Type 0) (frames : List F) (rows : List Row) : Type 0 where
   pub different : IsDistinct eq frames
+  pub plain : All IsPlain frames
   pub framed : AreFramed frames rows
 
 -- a row whose frame has the number that stands in this list

@@ -2,8 +2,12 @@ use ga_base::NoMemory;
 use std::alloc::Global;
 use std::mem;
 
-/// So many slots there are once the first hint was set, and then twice as many each time that half of them is taken.
+/// So many slots there are once the first hint was set, and then twice as many each time that half of them is taken, up to
+/// `MOST`.
 const FIRST: usize = 1 << 12;
+
+/// So many slots there are at most: beyond that they cost more cache than they save where all items are different.
+const MOST: usize = 1 << 17;
 
 /// A slot that nothing took.
 const VACANT: Slot = Slot { tag: 0, number: 0 };
@@ -18,7 +22,7 @@ struct Slot {
 }
 
 /// Where items may stand, each by a hash. A hint is only where to look first: whoever takes one compares what stands there.
-/// Of two items with one slot the later has it; slots grow with the items, so most have their own.
+/// Of two items with one slot the later has it. Slots grow with the items up to `MOST`, so until then most items have their own.
 #[derive(Drop)]
 pub(crate) struct Hints {
     /// None before the first hint was set, and then a power of two.
@@ -48,9 +52,9 @@ impl Hints {
         }
     }
 
-    /// Makes room for one hint more.
+    /// Makes room for one hint more, where there are fewer than `MOST` slots.
     pub(crate) fn make_room(&mut self) -> Result<(), NoMemory> {
-        if self.taken >= self.slots.len() / 2 {
+        if self.slots.len() < MOST && self.taken >= self.slots.len() / 2 {
             self.grow()?;
         }
         Ok(())

@@ -1,69 +1,27 @@
-ghost use Rattle.std.specs.Prelude.{◌≡◌, IfOk, IsTrue, OnErr, OnOk};
+ghost use Rattle.std.specs.Prelude.{◌≡◌, All, IfOk, IsTrue, OnErr};
 ghost use Rattle.std.specs.List.{IsDistinct};
-ghost use Rattle.ga_numbers.specs.KeyFrames.{frame_of, is_same_frame};
+ghost use Rattle.ga_numbers.specs.KeyFrames.{IsKeyFrame, frame_of, is_same_frame};
 ghost use Rattle.ga_numbers.specs.Numbers.{IsNumbered};
 
 use crate::hints::Hints;
 use crate::noting::note;
-use ga_base::{NoMemory, Noted, Panel, Text};
+use ga_base::{Key, NoMemory};
 use ga_panels::KeyRef;
 use ga_shards::Dictionary;
 use std::alloc::Global;
 use std::hash::{FoldHasher, Hasher};
 
-/// What keys share that differ in their days and labels alone.
-#[derive(Debug, PartialEq, Eq, Hash, Clone, Drop)]
-pub(crate) struct KeyFrame {
-    /// The panel.
-    pub(crate) panel: Panel,
-    /// The group in a panel with groups, else empty.
-    pub(crate) parent: Text,
-    /// The method in a panel of requests, else empty.
-    pub(crate) method: Text,
-    /// The protocol in a panel of requests, else empty.
-    pub(crate) protocol: Text,
-}
-
-impl Noted for KeyFrame {
-    fn copy(&self) -> Result<KeyFrame, NoMemory> {
-        Ok(self.clone()?)
-    }
-}
-
-impl KeyFrame {
-    /// The frame of a key.
-    fn of(alloc: Global, key: &KeyRef<'_>) -> Result<KeyFrame, NoMemory>
-        ensures { IfOk result (λ frame. frame ≡ frame_of key.now) }
-    {
-        Ok(KeyFrame {
-            panel: key.panel,
-            parent: Text::of(alloc, key.parent)?,
-            method: Text::of(alloc, key.method)?,
-            protocol: Text::of(alloc, key.protocol)?,
-        })
-    }
-
-    /// Whether it is the frame of a key.
-    fn is_of(&self, key: &KeyRef<'_>) -> bool
-        ensures { IsTrue result → self.now ≡ frame_of key.now }
-    {
-        self.panel == key.panel
-            && self.parent.as_str() == key.parent
-            && self.method.as_str() == key.method
-            && self.protocol.as_str() == key.protocol
-    }
-}
-
 /// Notes the frame of a key, and gives its number. Where the frame stands at its hint it has been noted, and none is made. After
 /// an `Err` the frames are as they were.
 pub(crate) fn frame_number(
     alloc: Global,
-    frames: &mut Dictionary<KeyFrame>,
+    frames: &mut Dictionary<Key>,
     hints: &mut Hints,
     key: &KeyRef<'_>,
 ) -> Result<u32, NoMemory>
     ensures ok { IfOk result (λ number. IsNumbered is_same_frame (frame_of key.now) number frames.old frames.new) }
-    ensures distinct { OnOk result (IsDistinct is_same_frame frames.new) }
+    ensures distinct { IsDistinct is_same_frame frames.old → IsDistinct is_same_frame frames.new }
+    ensures plain { All IsKeyFrame frames.old → All IsKeyFrame frames.new }
     ensures err { OnErr result (frames.new ≡ frames.old) }
 {
     let hash = frame_hint(key);
@@ -72,17 +30,40 @@ pub(crate) fn frame_number(
         _ => {}
     }
     hints.make_room()?;
-    let number = note(frames, KeyFrame::of(alloc, key)?)?;
+    let number = note(frames, frame_from(alloc, key)?)?;
     hints.set(hash, number);
     Ok(number)
 }
 
 /// Whether the frame of a key stands at this number.
-fn stands_frame(frames: &Dictionary<KeyFrame>, number: u32, key: &KeyRef<'_>) -> bool
-    ensures stands { IsTrue result → IsNumbered is_same_frame (frame_of key.now) number frames.now frames.now }
-    ensures distinct { IsDistinct is_same_frame frames.now }
+fn stands_frame(frames: &Dictionary<Key>, number: u32, key: &KeyRef<'_>) -> bool
+    ensures { IsTrue result → IsNumbered is_same_frame (frame_of key.now) number frames.now frames.now }
 {
-    number < frames.len() && frames.item(number).is_of(key)
+    number < frames.len() && is_frame(frames.item(number), key)
+}
+
+/// The frame of a key.
+fn frame_from(alloc: Global, key: &KeyRef<'_>) -> Result<Key, NoMemory>
+    ensures { IfOk result (λ frame. frame ≡ frame_of key.now) }
+{
+    let frame = KeyRef {
+        date: 0,
+        label: "",
+        ..*key
+    };
+    frame.to_key(alloc)
+}
+
+/// Whether this is the frame of a key.
+fn is_frame(frame: &Key, key: &KeyRef<'_>) -> bool
+    ensures { IsTrue result → frame.now ≡ frame_of key.now }
+{
+    frame.panel == key.panel
+        && frame.date == 0
+        && frame.label.as_str() == ""
+        && frame.parent.as_str() == key.parent
+        && frame.method.as_str() == key.method
+        && frame.protocol.as_str() == key.protocol
 }
 
 /// A cheap hash of a key's frame, for a hint.

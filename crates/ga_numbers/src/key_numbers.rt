@@ -1,31 +1,33 @@
-ghost use Rattle.std.specs.Prelude.{◌≡◌, ◌<◌, [], IfOk, length};
+ghost use Rattle.std.specs.Prelude.{◌≡◌, ◌<◌, [], Some, IfOk, OnErr, length, slice_get};
 ghost use Rattle.std.specs.List.{IsDistinct};
 ghost use Rattle.ga_base.specs.Orders.{is_same_key};
-ghost use Rattle.ga_numbers.specs.KeyFrames.{key_at};
 ghost use Rattle.ga_numbers.specs.Numbers.{AreNoted, IsNumbered};
+ghost use Rattle.ga_numbers.specs.Refs.{key_lent};
 ghost use Rattle.ga_panels.specs.Refs.{key_of};
 
 use crate::hints::Hints;
-use crate::key_frame::{KeyFrame, frame_number};
+use crate::key_frame::frame_number;
+use crate::lent_key::LentKey;
 use crate::noting::note_all;
-use crate::row::{Row, RowRef, note_rows, row_number};
+use crate::row::RowRef;
+use crate::rows::Rows;
 use ga_base::{Key, NoMemory};
 use ga_panels::KeyRef;
 use ga_shards::{Dictionary, Keyed};
 use std::alloc::Global;
 use std::marker::Model;
+use std::mem;
+use std::thread::Threads;
 
 /// Different keys, in the order in which they were first noted. Contracts see the list of them.
 #[derive(Drop)]
 pub struct KeyNumbers {
     /// What keys share.
-    frames: Dictionary<KeyFrame>,
+    frames: Dictionary<Key>,
     /// The keys but for that.
-    rows: Dictionary<Row>,
-    /// Where the frames that came lately stand.
+    rows: Rows,
+    /// The numbers of the frames that came lately.
     frame_hints: Hints,
-    /// Where the rows that came lately stand.
-    row_hints: Hints,
     /// How the dictionaries hash.
     keyed: Keyed,
 }
@@ -33,14 +35,14 @@ pub struct KeyNumbers {
 impl Model for KeyNumbers {
     ghost use Rattle.std.specs.Prelude.{List};
     ghost use Rattle.ga_base.specs.declared.key.Key.{Key};
-    ghost use Rattle.ga_numbers.specs.KeyFrames.{is_same_frame, keys_in};
+    ghost use Rattle.ga_numbers.specs.KeyFrames.{IsKeyFrame, is_same_frame, keys_in};
     ghost use Rattle.ga_numbers.specs.Rows.{AreRowsOf};
 
     ghost Value = { List Key };
 
     ghost view = { λ k. keys_in k.frames k.rows };
 
-    ghost invariant = { λ k. AreRowsOf is_same_frame k.frames k.rows };
+    ghost invariant = { λ k. AreRowsOf is_same_frame IsKeyFrame k.frames k.rows };
 }
 
 impl KeyNumbers {
@@ -50,9 +52,8 @@ impl KeyNumbers {
     {
         KeyNumbers {
             frames: Dictionary::new(alloc, keyed),
-            rows: Dictionary::new(alloc, keyed),
+            rows: Rows::new(alloc, keyed),
             frame_hints: Hints::new(alloc),
-            row_hints: Hints::new(alloc),
             keyed,
         }
     }
@@ -65,35 +66,70 @@ impl KeyNumbers {
         self.rows.len()
     }
 
-    /// Notes a key, and gives its number.
+    /// Notes a key, and gives its number. After an `Err` the keys are as they were.
     pub fn number(&mut self, alloc: Global, key: &KeyRef<'_>) -> Result<u32, NoMemory>
-        ensures { IfOk result (λ number. IsNumbered is_same_key (key_of key.now) number self.old self.new) }
+        ensures ok { IfOk result (λ number. IsNumbered is_same_key (key_of key.now) number self.old self.new) }
+        ensures err { OnErr result (self.new ≡ self.old) }
     {
         let row = RowRef {
             frame: frame_number(alloc, &mut self.frames, &mut self.frame_hints, key)?,
             date: key.date,
             text: key.label,
         };
-        row_number(alloc, &mut self.rows, &mut self.row_hints, row)
+        self.rows.number(alloc, row)
     }
 
-    /// Notes other keys, and gives the number of each. After an `Err` some of them are noted.
-    pub fn absorb(&mut self, alloc: Global, more: KeyNumbers) -> Result<Vec<u32>, NoMemory>
+    /// Notes other keys, and gives the number of each. Their rows are noted side by side. After an `Err`
+    /// none are known any more.
+    pub fn absorb<R: Threads + Sync>(
+        &mut self,
+        rt: &R,
+        alloc: Global,
+        more: KeyNumbers,
+    ) -> Result<Vec<u32>, NoMemory>
         ensures { IfOk result (λ numbers. AreNoted is_same_key more numbers.items self.old self.new) }
     {
-        let KeyNumbers { frames, rows, .. } = more;
-        let frames = note_all(alloc, &mut self.frames, frames.into_items(alloc)?)?;
-        note_rows(alloc, &mut self.rows, rows.into_items(alloc)?, &frames)
+        let keyed = self.keyed;
+        let known = mem::replace(self, KeyNumbers::new(alloc, keyed));
+        let KeyNumbers {
+            frames: mut shared,
+            rows,
+            frame_hints,
+            ..
+        } = known;
+        let frames = note_all(alloc, &mut shared, more.frames.into_items(alloc)?)?;
+        let (rows, numbers) = rows.absorb(rt, alloc, more.rows, &frames)?;
+        *self = KeyNumbers {
+            frames: shared,
+            rows,
+            frame_hints,
+            keyed,
+        };
+        Ok(numbers)
+    }
+
+    /// Lends the key of this number.
+    pub fn get(&self, number: u32) -> LentKey<'_>
+        requires { number < length self.now }
+        ensures { slice_get self.now number ≡ Some (key_lent result) }
+    {
+        let row = self.rows.row(number);
+        LentKey {
+            shared: self.frames.item(row.frame),
+            date: row.date,
+            label: &row.text,
+        }
     }
 
     /// The keys in texts of their own, in their order.
-    pub fn into_items(self, alloc: Global) -> Result<Vec<Key>, NoMemory>
-        ensures value { IfOk result (λ keys. keys.items ≡ self) }
+    pub fn items(&self, alloc: Global) -> Result<Vec<Key>, NoMemory>
+        ensures value { IfOk result (λ keys. keys.items ≡ self.now) }
         ensures distinct { IfOk result (λ keys. IsDistinct is_same_key keys.items) }
     {
-        let mut keys = Vec::with_capacity(alloc, self.rows.len() as usize)?;
-        for row in self.rows.items() {
-            keys.push(key_from(self.frames.item(row.frame), row)?)?;
+        let many = self.len();
+        let mut keys = Vec::with_capacity(alloc, many as usize)?;
+        for number in 0..many {
+            keys.push(self.get(number).to_key()?)?;
         }
         Ok(keys)
     }
@@ -103,21 +139,7 @@ impl KeyNumbers {
         ensures { IfOk result (λ keys. keys ≡ self) }
     {
         let mut keys = Dictionary::new(alloc, self.keyed);
-        note_all(alloc, &mut keys, self.into_items(alloc)?)?;
+        note_all(alloc, &mut keys, self.items(alloc)?)?;
         Ok(keys)
     }
-}
-
-/// A key of its frame and its row.
-fn key_from(frame: &KeyFrame, row: &Row) -> Result<Key, NoMemory>
-    ensures { IfOk result (λ key. key ≡ key_at frame.now row.now) }
-{
-    Ok(Key {
-        panel: frame.panel,
-        date: row.date,
-        parent: frame.parent.clone()?,
-        label: row.text.clone()?,
-        method: frame.method.clone()?,
-        protocol: frame.protocol.clone()?,
-    })
 }

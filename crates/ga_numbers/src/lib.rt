@@ -2,18 +2,24 @@
 //!
 //! `KeyNumbers` and `VisitorNumbers` are seen as lists of different items. They keep what many items share once: a key's panel
 //! and its texts but the label, a visitor's agent. An item is then a `Row` of 24 bytes: the number of what it shares, a day and a
-//! text. `specs/Numbers.antt` says what a number is.
+//! text. Rows are kept in shards by their texts (`specs/Kept.antt`), so that those of others are noted side by side.
+//! `specs/Numbers.antt` says what a number is.
 #![tactic(auto)]
 
 mod hints;
 mod key_frame;
 mod key_numbers;
+mod lent_key;
+mod meeting;
 mod noting;
+mod place;
 mod row;
+mod rows;
 mod visitor_frame;
 mod visitor_numbers;
 mod visitor_ref;
 
 pub use key_numbers::KeyNumbers;
+pub use lent_key::LentKey;
 pub use visitor_numbers::VisitorNumbers;
 pub use visitor_ref::VisitorRef;

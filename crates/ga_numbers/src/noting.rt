@@ -1,4 +1,4 @@
-ghost use Rattle.std.specs.Prelude.{◌≡◌, ◌≤◌, Some, true, IfOk, OnErr, OnOk, length, slice_get};
+ghost use Rattle.std.specs.Prelude.{◌≡◌, Some, true, IfOk, OnErr, OnOk, slice_get};
 ghost use Rattle.std.specs.List.{IsDistinct};
 ghost use Rattle.ga_numbers.specs.Numbers.{places_of};
 ghost use Rattle.ga_shards.specs.Numbers.{noted, place_of};
@@ -19,7 +19,6 @@ pub(crate) fn note_all<T: Noted + Drop>(
 ) -> Result<Vec<u32>, NoMemory>
     ensures numbers { IfOk result (λ numbers. numbers.items ≡ places_of T.eq known.old items.items) }
     ensures noted { OnOk result (known.new ≡ all_noted T.eq known.old items.items) }
-    ensures grown { length known.old ≤ length known.new }
     ensures distinct { IsDistinct T.eq known.old → IsDistinct T.eq known.new }
 {
     let mut numbers = Vec::with_capacity(alloc, items.len())?;

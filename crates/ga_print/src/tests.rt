@@ -72,7 +72,7 @@ fn count(sum: &mut Summary, alloc: Global, label: &str) -> Result<(), Fail> {
 #[test]
 fn prints_an_empty_log(rt: HostRuntime) -> Result<(), Fail> {
     let alloc = rt.alloc();
-    let report = rows(alloc, &Summary::empty(alloc), &PanelSet::all(), 366)?;
+    let report = rows(&rt, alloc, &Summary::empty(alloc), &PanelSet::all(), 366, 1)?;
     let text = json(alloc, &report)?;
     assert_eq!(rt;
         text.bytes(),
@@ -90,7 +90,7 @@ fn prints_awkward_names(rt: HostRuntime) -> Result<(), Fail> {
     count(&mut sum, alloc, "b")?;
     let mut panels = PanelSet::none();
     panels.set(Panel::Hosts, true);
-    let report = rows(alloc, &sum, &panels, 366)?;
+    let report = rows(&rt, alloc, &sum, &panels, 366, 1)?;
     let text = csv(alloc, &report)?;
     assert_eq!(rt;
         text.bytes(),

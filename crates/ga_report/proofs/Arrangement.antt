@@ -1,10 +1,12 @@
 -- The items of a list that are to be shown, sorted, are the arrangement, and no other list is.
-use Rattle.std.proofs.Common.{◌≡◌, ℕ, ◌+◌, ◌<◌, ◌&&◌, Bool, true, false, cond, List, [], ◌∷◌, Less, Equal, Greater, length, get_or, filter, map, refl, sym, ap, ◌∙◌, subst, arith, zero-add}
+use Rattle.std.proofs.Common.{◌≡◌, ℕ, ◌+◌, ◌<◌, ◌&&◌, Bool, true, false, cond, List, [], ◌∷◌, Less, Equal, Greater, length, get_or, filter, map, refl, sym, ap, ◌∙◌, arith, zero-add}
 use Rattle.std.specs.Prelude.{count_by}
 use Rattle.std.specs.declared.cmp.Ordering.{Ordering}
 use Rattle.std.specs.Ordering.{is_lt, ordering_then}
 use Rattle.std.specs.Cmp.{IsTotalOrder}
 use Rattle.std.specs.List.Sorted.{IsPermutation, IsSorted}
+use Rattle.std.specs.List.{AllByRecursion}
+use Rattle.std.proofs.lemmas.Bool.{and_parts}
 use Rattle.std.proofs.lemmas.Cmp.{then_total, on_total, back_total, nat_cmp_total, nat_list_cmp_total}
 use Rattle.std.proofs.lemmas.List.{get_or-map, length-map}
 use Rattle.std.proofs.lemmas.List.Elements.{All-from_recursion, recursion_from_All}
@@ -18,8 +20,9 @@ use Rattle.std.specs.Str.{bytes_eq}
 use Rattle.ga_base.specs.Layers.{has_groups, is_empty}
 use Rattle.ga_base.specs.Panels.{is_same_panel}
 use Rattle.ga_report.specs.Told.{ToldRow}
-use Rattle.ga_report.specs.Items.{undated, is_child, is_of, has_item, item_of, item_order, last_first, by_hits, order, AreItems}
-use Rattle.ga_report.specs.Steps.Summed.{undate, AreSummed}
+use Rattle.ga_report.specs.Items.{undated, is_child, is_row, is_of, has_item, item_of, item_order, last_first, by_hits, order, AreItems}
+use Rattle.ga_report.specs.Steps.Summed.{undate, panel_rows, AreSummed}
+use Rattle.ga_report.proofs.InPanel.{has-in-panel, item-in-panel, own-panel}
 use Rattle.ga_report.proofs.ItemSums.{same-item, item_order_total}
 use Rattle.ga_report.proofs.Lists.{all-filter, all-map}
 
@@ -33,12 +36,6 @@ pub order_total : (panel : Panel) → IsTotalOrder (order panel)
 order_total Visitors = last_first_total
 order_total VisitTimes = item_order_total
 order_total _ = by_hits_total
-
--- in the other panels hits count
-pub other-panel : (panel : Panel) → (panel ≡ Visitors → ⊥) → (panel ≡ VisitTimes → ⊥) → (xs : List ToldRow) → IsSorted by_hits xs → IsSorted (order panel) xs
-other-panel Visitors other _ xs up = absurd (other refl)
-other-panel VisitTimes _ other xs up = absurd (other refl)
-other-panel _ _ _ xs up = up
 
 second-equal : (o p : Ordering) → ordering_then o p ≡ Equal → p ≡ Equal
 second-equal Less p e = cc
@@ -93,10 +90,6 @@ count-shown shown of key (x ∷ xs) = go (filter (λ y. shown y.key) xs) (is_of 
     alike : is_of key x ≡ true → shown x.key ≡ shown key
     alike e = sym (of x.key) ∙ ap shown (same-item key x e) ∙ of key
 
-    add-none : (b : Bool) (n : ℕ) → cond b n 0 ≡ cond b (0 + n) 0
-    add-none true n = sym (zero-add n)
-    add-none false n = refl
-
     go : (kept : List ToldRow) (b s : Bool) → is_of key x ≡ b → shown x.key ≡ s → count_by (is_of key) kept ≡ cond (shown key) (count_by (is_of key) xs) 0
         → count_by (is_of key) (cond s (x ∷ kept) kept) ≡ cond (shown key) (count_by (is_of key) (x ∷ xs)) 0
     go kept true true e f rest =
@@ -109,40 +102,49 @@ count-shown shown of key (x ∷ xs) = go (filter (λ y. shown y.key) xs) (is_of 
     go kept false true e f rest = count-fail (is_of key) x kept e ∙ rest ∙ ap (λ (n : ℕ). cond (shown key) n 0) (sym (count-fail (is_of key) x xs e))
     go kept false false e f rest = rest ∙ ap (λ (n : ℕ). cond (shown key) n 0) (sym (count-fail (is_of key) x xs e))
 
-once-and : (a b : Bool) → ◌≡◌ {A = ℕ} (cond a (cond b 1 0) 0) (cond (a && b) 1 0)
-once-and true b = refl
-once-and false b = refl
+-- a test that keys of the panel alone pass
+abbrev pub InPanel : Panel → (Key → Bool) → Type 0
+InPanel panel shown = (key : Key) → shown key ≡ true → is_same_panel key.panel panel ≡ true
 
--- the items that are to be shown, sorted
-pub are-items : (panel : Panel) (shown : Key → Bool) → ForItems shown → (rows items sorted : List ToldRow) → AreSummed rows items
+-- the items of a panel's rows that are to be shown, sorted
+pub are-items : (panel : Panel) (shown : Key → Bool) → ForItems shown → InPanel panel shown → (rows items sorted : List ToldRow) → AreSummed (panel_rows panel rows) items
     → IsPermutation (filter (λ item. shown item.key) items) sorted → IsSorted (order panel) sorted → AreItems panel shown rows (map undate sorted)
-are-items panel shown of rows items sorted are moved up = record {
+are-items panel shown of inside rows items sorted are moved up = record {
   once = λ key.
       count-undate key sorted ∙ sum_by-IsPermutation (λ x. cond (is_of key x) 1 0) (filter (λ item. shown item.key) items) sorted moved
-      ∙ count-shown shown of key items ∙ ap (λ (n : ℕ). cond (shown key) n 0) (are.once key) ∙ once-and (shown key) (has_item key rows);
+      ∙ count-shown shown of key items ∙ ap (λ (n : ℕ). cond (shown key) n 0) (are.once key) ∙ once-and key (shown key) refl;
   sums =
       let kept = All-from_recursion (λ item. undate item ≡ item_of item.key rows) (filter (λ item. shown item.key) items)
-      (all-filter (λ item. undate item ≡ item_of item.key rows) (λ item. undate item ≡ item_of item.key rows) (λ item. shown item.key) (λ item e own. own) items (recursion_from_All _ items are.sums)) in
+      (all-filter (λ item. undate item ≡ item_of item.key (panel_rows panel rows)) (λ item. undate item ≡ item_of item.key rows) (λ item. shown item.key)
+      (λ item pass own. own ∙ item-in-panel panel item.key (inside item.key pass) rows) items (recursion_from_All _ items are.sums)) in
       All-from_recursion (λ item. item ≡ item_of item.key rows) (map undate sorted)
       (all-map undate (λ item. item ≡ item_of item.key rows) sorted (recursion_from_All _ sorted (All-permutation (λ item. undate item ≡ item_of item.key rows) (filter (λ item. shown item.key) items) sorted moved kept)));
   ordered = sorted-undate panel sorted up;
 }
+  where
+    once-and : (key : Key) (b : Bool) → shown key ≡ b → ◌≡◌ {A = ℕ} (cond b (cond (has_item key (panel_rows panel rows)) 1 0) 0) (cond (b && has_item key rows) 1 0)
+    once-and key true e = ap {B = ℕ} (λ (v : Bool). cond v 1 0) (has-in-panel panel key (inside key e) rows)
+    once-and key false e = refl
 
--- a group's entries
-pub are-entries : (group k l : Key) → k ≡ group → l ≡ group → (rows items kept sorted : List ToldRow) → AreSummed rows items
-    → kept ≡ filter (λ item. is_child k item.key) items → IsPermutation kept sorted → IsSorted (order l.panel) sorted → AreItems group.panel (is_child group) rows (map undate sorted)
-are-entries group k l e f rows items kept sorted are is moved up =
-    are-items group.panel (is_child group) (λ key. refl) rows items sorted are
-    (subst (λ (xs : List ToldRow). IsPermutation xs sorted) (is ∙ ap (λ (g : Key). filter (λ (item : ToldRow). is_child g item.key) items) e) moved)
-    (subst (λ (g : Key). IsSorted (order g.panel) sorted) f up)
+-- the rows of a panel, and a group's entries, are of the panel
+pub rows-inside : (panel : Panel) → InPanel panel (is_row panel)
+rows-inside panel key e = (and_parts (is_same_panel key.panel panel) _ e).0
+
+pub entries-inside : (group : Key) → InPanel group.panel (is_child group)
+entries-inside group key e = (and_parts (is_same_panel key.panel group.panel) (has_groups group.panel) (and_parts _ (bytes_eq key.parent group.parent && not (is_empty key.label)) e).0).0
 
 -- a panel without groups has no entries of a group
-pub no-entries : (group : Key) → has_groups group.panel ≡ false → (items : List ToldRow) → filter (λ item. is_child group item.key) items ≡ []
-no-entries group none [] = refl
-no-entries group none (x ∷ xs) =
-    let other : is_child group x.key ≡ false = neither (is_same_panel x.key.panel group.panel) (has_groups group.panel) (bytes_eq x.key.parent group.parent && not (is_empty x.key.label)) none in
-    rw other (no-entries group none xs)
+pub no-entry : (group key : Key) → has_groups group.panel ≡ false → is_child group key ≡ false
+no-entry group key none = neither (is_same_panel key.panel group.panel) (has_groups group.panel) (bytes_eq key.parent group.parent && not (is_empty key.label)) none
   where
     neither : (a b c : Bool) → b ≡ false → ((a && b) && c) ≡ false
     neither true b c e = ap (λ (v : Bool). v && c) e
     neither false b c e = refl
+
+-- so that each of its items is a row
+pub all-rows : (panel : Panel) → has_groups panel ≡ false → (items : List ToldRow) → AllByRecursion (λ item. item.key.panel ≡ panel) items → items ≡ filter (λ item. is_row panel item.key) items
+all-rows panel none [] all = refl
+all-rows panel none (x ∷ xs) all =
+    let own : is_same_panel x.key.panel panel ≡ true = ap (λ (p : Panel). is_same_panel p panel) all.0 ∙ own-panel panel in
+    let row : is_row panel x.key ≡ true = rw (own, none) refl in
+    rw row (ap (λ (r : List ToldRow). x ∷ r) (all-rows panel none xs all.1))

@@ -10,10 +10,9 @@ use Rattle.std.proofs.lemmas.List.Sorted.{All-permutation, IsPermutation-append_
 use Rattle.ga_base.specs.declared.key.Key.{Key}
 use Rattle.ga_base.specs.declared.panel.Panel.{Panel}
 use Rattle.ga_report.specs.Items.{order}
-use Rattle.ga_report.specs.declared.report.General.{General}
-use Rattle.ga_report.specs.Steps.Summed.{AreFirst, AreSummed, AreTop, ComeFirst, IsPart, undate}
+use Rattle.ga_report.specs.Steps.Summed.{AreFirst, AreSummed, AreTop, ComeFirst, panel_rows, undate}
 use Rattle.ga_report.specs.Told.{ToldRow}
-use Rattle.ga_report.proofs.Arrangement.{ForItems, are-items}
+use Rattle.ga_report.proofs.Arrangement.{ForItems, InPanel, are-items}
 use Rattle.ga_report.proofs.Lists.{all-weaker}
 use Rattle.ga_report.proofs.Pairs.{map-take}
 use Rattle.ga_report.proofs.Sorting.{in-order, in-order-same, in-order-sorted, sorted-cons, sorted-head, sorted-tail}
@@ -73,18 +72,19 @@ module _ {R : ToldRow → ToldRow → Ordering} (o : IsTotalOrder R) where
       }
 
 -- of the items of a panel or of a group, the first
-pub are-top : (panel : Panel) (shown : Key → Bool) → ForItems shown → (most : ℕ) (told items among first : List ToldRow) → among ≡ filter (λ item. shown item.key) items
-    → AreFirst (order panel) most among first → AreSummed told items → AreTop panel shown most told (map undate first)
-are-top panel shown of most told items among first is are summed = record {
+pub are-top : (panel : Panel) (shown : Key → Bool) → ForItems shown → InPanel panel shown → (most : ℕ) (told items among first : List ToldRow) → among ≡ filter (λ item. shown item.key) items
+    → AreFirst (order panel) most among first → AreSummed (panel_rows panel told) items → AreTop panel shown most told (map undate first)
+are-top panel shown of inside most told items among first is are summed = record {
   items = map undate are.ordered;
-  are_items = are-items panel shown of told items are.ordered summed (subst (λ (xs : List ToldRow). IsPermutation xs are.ordered) is are.same) are.sorted;
+  are_items = are-items panel shown of inside told items are.ordered summed (subst (λ (xs : List ToldRow). IsPermutation xs are.ordered) is are.same) are.sorted;
   front = ap (map undate) are.front ∙ map-take undate most are.ordered;
 }
 
--- and they are parts of the whole
-pub parts-first : (panel : Panel) (p : ToldRow → Bool) (most : ℕ) (items among first : List ToldRow) → among ≡ filter p items → AreFirst (order panel) most among first
-    → (general : General) → All (IsPart general) items → All (IsPart general) first
-parts-first panel p most items among first is are general parts =
-    subst (λ (xs : List ToldRow). All (IsPart general) xs) (sym are.front)
-    (All-take (IsPart general) most are.ordered (All-permutation (IsPart general) among are.ordered are.same
-    (subst (λ (xs : List ToldRow). All (IsPart general) xs) (sym is) (All-filter p (IsPart general) items parts))))
+-- what holds of all holds of the first
+pub all-first : (P : ToldRow → Type 0) (panel : Panel) (most : ℕ) (among first : List ToldRow) → AreFirst (order panel) most among first → All P among → All P first
+all-first P panel most among first are all =
+    subst (λ (xs : List ToldRow). All P xs) (sym are.front) (All-take P most are.ordered (All-permutation P among are.ordered are.same all))
+
+pub all-first-of : (P : ToldRow → Type 0) (panel : Panel) (p : ToldRow → Bool) (most : ℕ) (items among first : List ToldRow) → among ≡ filter p items → AreFirst (order panel) most among first → All P items → All P first
+all-first-of P panel p most items among first is are all =
+    all-first P panel most among first are (subst (λ (xs : List ToldRow). All P xs) (sym is) (All-filter p P items all))

@@ -5,6 +5,7 @@ pub mod Shares
 pub mod Alike
 pub mod RowsAdded
 pub mod Firsts
+pub mod InPanel
 pub mod Arrangement
 pub mod OfSummaries
 pub mod Generals
@@ -12,3 +13,4 @@ pub mod Pairs
 pub mod OneArrangement
 pub mod Printables
 pub mod Stretches
+pub mod PanelItems

@@ -1,12 +1,13 @@
 -- Lists: what holds of all elements, sums over those that pass a test, lists that rise, and pairs.
-use Rattle.std.proofs.Common.{◌≡◌, ◌⊎◌, ℕ, zero, suc, ◌+◌, ◌<◌, ◌≤◌, Bool, true, false, cond, List, [], ◌∷◌, ◌++◌, inl, inr, refl, sym, ap, ◌∙◌, subst, arith, zero-add, Less, Equal, Greater, length, get_or, map, filter, sum_by, take, Some}
-use Rattle.std.specs.Prelude.{slice_get}
+use Rattle.std.proofs.Common.{◌≡◌, ◌⊎◌, ℕ, zero, suc, ◌+◌, ◌<◌, ◌≤◌, Bool, true, false, cond, List, [], ◌∷◌, ◌++◌, inl, inr, refl, sym, ap, ◌∙◌, subst, arith, zero-add, Less, Equal, Greater, length, get_or, map, filter, sum_by, take, Some, append-nil, All}
+use Rattle.std.specs.Prelude.{IfSome, Option, slice_get}
 use Rattle.std.specs.declared.cmp.Ordering.{Ordering}
 use Rattle.std.specs.Ordering.{ordering_reverse}
 use Rattle.std.specs.Cmp.{IsTotalOrder}
 use Rattle.std.specs.List.{AllByRecursion, Contains}
 use Rattle.std.specs.List.Sorted.{IsStrictlySortedBy, IsPermutation}
 use Rattle.std.proofs.lemmas.Cmp.{tied_itself}
+use Rattle.std.proofs.lemmas.List.Elements.{All-get_or, filter-append}
 use Rattle.std.proofs.lemmas.List.Sorted.{Contains-permutation}
 use Rattle.std.proofs.lemmas.List.Sums.{sum_by-cons, sum_by_push}
 
@@ -163,3 +164,30 @@ pub sum-room : {X : Type 0} (f : X → ℕ) (test : X → Bool) (xs : List X) (n
 sum-room f test xs n x at pass =
     let own : cond (test x) (f x) 0 ≡ f x = ap (λ (b : Bool). cond b (f x) 0) pass in
     omega (arith, own, sum_by-filter f test xs, sum_by-filter f test (take n xs), more-part (λ y. cond (test y) (f y) 0) xs n x at)
+
+pub filter-push : {X : Type 0} (p : X → Bool) (xs : List X) (x : X) → p x ≡ true → filter p (xs ++ x ∷ []) ≡ filter p xs ++ x ∷ []
+filter-push {X} p xs x e =
+    let one : filter p (x ∷ []) ≡ x ∷ [] = rw e refl in
+    filter-append p xs (x ∷ []) ∙ ap (λ (ys : List X). filter p xs ++ ys) one
+
+pub filter-pass : {X : Type 0} (p : X → Bool) (xs : List X) (x : X) → p x ≡ false → filter p (xs ++ x ∷ []) ≡ filter p xs
+filter-pass {X} p xs x e =
+    let none : filter p (x ∷ []) ≡ [] = rw e refl in
+    filter-append p xs (x ∷ []) ∙ ap (λ (ys : List X). filter p xs ++ ys) none ∙ append-nil (filter p xs)
+
+pub take-get : {X : Type 0} (n : ℕ) (xs : List X) (d : X) → n < length xs → take (n + 1) xs ≡ take n xs ++ get_or xs n d ∷ []
+take-get n [] d below = absurd (omega arith)
+take-get zero (x ∷ xs) d below = refl
+take-get {X} (suc n) (x ∷ xs) d below = let next : suc n + 1 ≡ suc (n + 1) = omega arith in rw next (ap (λ (r : List X). x ∷ r) (take-get n xs d (omega (arith, below))))
+
+pub get-some : {X : Type 0} (n : ℕ) (xs : List X) → n < length xs → (x : X) × (slice_get xs n ≡ Some x)
+get-some n [] below = absurd (omega arith)
+get-some zero (x ∷ xs) below = (x, refl)
+get-some (suc n) (x ∷ xs) below = get-some n xs (omega (arith, below))
+
+pub at-some : {X : Type 0} (P : X → Type 0) (o : Option X) (x : X) → o ≡ Some x → IfSome o P → P x
+at-some {X} P o x at h = subst (λ (v : Option X). IfSome v P) at h
+
+-- what holds of all elements holds of one that is read
+pub all-read : {X : Type 0} (P : X → Type 0) (xs : List X) (i : ℕ) (x : X) → i < length xs → x ≡ get_or xs i x → All P xs → P x
+all-read P xs i x below at all = subst P (sym at) (All-get_or P xs i x below all)

@@ -1,16 +1,19 @@
 -- Lists that are related pair by pair.
-use Rattle.std.proofs.Common.{◌≡◌, ℕ, zero, suc, ◌+◌, ◌<◌, ◌≤◌, Bool, true, false, List, [], ◌∷◌, ◌++◌, length, map, filter, take, get_or, refl, sym, ap, ◌∙◌, subst, arith, append-nil, take_all}
+use Rattle.std.proofs.Common.{◌≡◌, ℕ, zero, suc, ◌+◌, ◌<◌, ◌≤◌, ◌&&◌, Bool, true, false, cond, List, [], ◌∷◌, ◌++◌, length, map, filter, take, get_or, refl, sym, ap, ◌∙◌, subst, arith, take_all, Result, Ok, IfOk, All}
 use Rattle.std.proofs.lemmas.List.{map-append}
-use Rattle.std.proofs.lemmas.List.Elements.{filter-append}
+use Rattle.std.proofs.lemmas.List.Elements.{All-from_recursion, recursion_from_All}
+use Rattle.ga_base.specs.Layers.{has_groups}
 use Rattle.ga_base.specs.Panels.{has_panel}
 use Rattle.ga_report.specs.declared.report.General.{General}
 use Rattle.ga_report.specs.declared.report.Item.{Item}
 use Rattle.ga_base.specs.declared.panel.Panel.{Panel}
 use Rattle.ga_report.specs.declared.report.Row.{Row}
-use Rattle.ga_report.specs.Items.{is_child, is_row}
+use Rattle.ga_report.specs.Items.{has_item, is_child, is_row}
 use Rattle.ga_report.specs.Reports.{AreChildren, IsPanelList, IsRow, Pairwise, all_panels, panels_of, shown_as}
 use Rattle.ga_report.specs.Steps.Summed.{AreTop, undate}
 use Rattle.ga_report.specs.Told.{ToldRow}
+use Rattle.ga_report.proofs.Arrangement.{no-entry}
+use Rattle.ga_report.proofs.Lists.{all-weaker, filter-pass, filter-push, take-get}
 
 pub pairs-push : {X Y : Type 0} (R : X → Y → Type 0) (xs : List X) (ys : List Y) (x : X) (y : Y) → Pairwise R xs ys → R x y → Pairwise R (xs ++ x ∷ []) (ys ++ y ∷ [])
 pairs-push R [] [] x y pairs one = (one, tt)
@@ -28,16 +31,6 @@ map-take {X} {Y} f (suc n) (x ∷ xs) = ap (λ (ys : List Y). f x ∷ ys) (map-t
 pub shown-undated : (general : General) (xs : List ToldRow) → map (shown_as general) xs ≡ map (shown_as general) (map undate xs)
 shown-undated general [] = refl
 shown-undated general (x ∷ xs) = ap (λ (ys : List Item). shown_as general x ∷ ys) (shown-undated general xs)
-
-pub filter-push : {X : Type 0} (p : X → Bool) (xs : List X) (x : X) → p x ≡ true → filter p (xs ++ x ∷ []) ≡ filter p xs ++ x ∷ []
-filter-push {X} p xs x e =
-    let one : filter p (x ∷ []) ≡ x ∷ [] = rw e refl in
-    filter-append p xs (x ∷ []) ∙ ap (λ (ys : List X). filter p xs ++ ys) one
-
-pub filter-pass : {X : Type 0} (p : X → Bool) (xs : List X) (x : X) → p x ≡ false → filter p (xs ++ x ∷ []) ≡ filter p xs
-filter-pass {X} p xs x e =
-    let none : filter p (x ∷ []) ≡ [] = rw e refl in
-    filter-append p xs (x ∷ []) ∙ ap (λ (ys : List X). filter p xs ++ ys) none ∙ append-nil (filter p xs)
 
 pub children-are : (general : General) (most : ℕ) (told : List ToldRow) (top : ToldRow) (kept lent : List ToldRow) (children : List Item)
     → lent ≡ kept → children ≡ map (shown_as general) lent → AreTop top.key.panel (is_child top.key) most told (map undate kept)
@@ -58,11 +51,6 @@ panel-is general most told panel kept lent rows e pairs are = record {
   shown = subst (λ (xs : List ToldRow). Pairwise (IsRow general most told) xs rows) (ap (map undate) e ∙ are.front) pairs;
 }
 
-take-get : {X : Type 0} (n : ℕ) (xs : List X) (d : X) → n < length xs → take (n + 1) xs ≡ take n xs ++ get_or xs n d ∷ []
-take-get n [] d below = absurd (omega arith)
-take-get zero (x ∷ xs) d below = refl
-take-get {X} (suc n) (x ∷ xs) d below = let next : suc n + 1 ≡ suc (n + 1) = omega arith in rw next (ap (λ (r : List X). x ∷ r) (take-get n xs d (omega (arith, below))))
-
 -- a row more
 pub rows-push : (R : ToldRow → Row → Type 0) (tops : List ToldRow) (n : ℕ) (top : ToldRow) (rows more : List Row) (row : Row) → n < length tops → top ≡ get_or tops n top
     → more ≡ rows ++ row ∷ [] → Pairwise R (map undate (take n tops)) rows → R (undate top) row → Pairwise R (map undate (take (n + 1) tops)) more
@@ -72,22 +60,59 @@ rows-push R tops n top rows more row below at e pairs one =
     subst (λ (ys : List Row). Pairwise R (map undate (take (n + 1) tops)) ys) (sym e)
     (subst (λ (xs : List ToldRow). Pairwise R xs (rows ++ row ∷ [])) (sym mapped) (pairs-push R (map undate (take n tops)) rows (undate top) row pairs one))
 
+-- a panel without groups has rows without children
+pub no-children : (general : General) (most : ℕ) (told : List ToldRow) (top : ToldRow) → has_groups top.key.panel ≡ false → AreChildren general most told (undate top) []
+no-children general most told top none = record {
+  entries = [];
+  are_entries = record {
+    once = λ key. ap {B = ℕ} (λ (b : Bool). cond (b && has_item key told) 1 0) (sym (no-entry top.key key none));
+    sums = All-from_recursion _ [] tt;
+    ordered = λ k d low high. absurd (omega (arith, high));
+  };
+  shown = nothing most;
+}
+  where
+    nothing : (n : ℕ) → [] ≡ map (shown_as general) (take n [])
+    nothing zero = refl
+    nothing (suc n) = refl
+
+-- and so has each of its items
+pub plain-tops : (panel : Panel) → has_groups panel ≡ false → (tops : List ToldRow) → All (λ item. item.key.panel ≡ panel) tops → All (λ top. has_groups top.key.panel ≡ false) tops
+plain-tops panel none tops all =
+    All-from_recursion (λ top. has_groups top.key.panel ≡ false) tops
+    (all-weaker (λ item. item.key.panel ≡ panel) (λ top. has_groups top.key.panel ≡ false) (λ item own. ap has_groups own ∙ none) tops (recursion_from_All _ tops all))
+
 -- a panel more that is shown, or not
-pub lists-push : {Y : Type 0} (R : Panel → Y → Type 0) (p : Panel → Bool) (panels : List Panel) (n : ℕ) (d : Panel) (lists more : List Y) (list : Y) → n < length panels
-    → p (get_or panels n d) ≡ true → more ≡ lists ++ list ∷ [] → Pairwise R (filter p (take n panels)) lists → R (get_or panels n d) list
-    → Pairwise R (filter p (take (n + 1) panels)) more
-lists-push {Y} R p panels n d lists more list below pass e pairs one =
-    let taken = ap (filter p) (take-get n panels d below) ∙ filter-push p (take n panels) (get_or panels n d) pass in
-    subst (λ (ys : List Y). Pairwise R (filter p (take (n + 1) panels)) ys) (sym e)
-    (subst (λ (xs : List Panel). Pairwise R xs (lists ++ list ∷ [])) (sym taken) (pairs-push R (filter p (take n panels)) lists (get_or panels n d) list pairs one))
+pub shown-more : (p : Panel → Bool) (panels : List Panel) (n : ℕ) (d : Panel) (shown more : List Panel) → n < length panels → p (get_or panels n d) ≡ true
+    → more ≡ shown ++ get_or panels n d ∷ [] → shown ≡ filter p (take n panels) → more ≡ filter p (take (n + 1) panels)
+shown-more p panels n d shown more below pass e is =
+    e ∙ ap (λ (ps : List Panel). ps ++ get_or panels n d ∷ []) is ∙ sym (ap (filter p) (take-get n panels d below) ∙ filter-push p (take n panels) (get_or panels n d) pass)
 
-pub lists-pass : {Y : Type 0} (R : Panel → Y → Type 0) (p : Panel → Bool) (panels : List Panel) (n : ℕ) (d : Panel) (lists more : List Y) → n < length panels
-    → p (get_or panels n d) ≡ false → more ≡ lists → Pairwise R (filter p (take n panels)) lists → Pairwise R (filter p (take (n + 1) panels)) more
-lists-pass {Y} R p panels n d lists more below fail e pairs =
-    let taken = ap (filter p) (take-get n panels d below) ∙ filter-pass p (take n panels) (get_or panels n d) fail in
-    subst (λ (ys : List Y). Pairwise R (filter p (take (n + 1) panels)) ys) (sym e) (subst (λ (xs : List Panel). Pairwise R xs lists) (sym taken) pairs)
+pub shown-pass : (p : Panel → Bool) (panels : List Panel) (n : ℕ) (d : Panel) (shown more : List Panel) → n < length panels → p (get_or panels n d) ≡ false
+    → more ≡ shown → shown ≡ filter p (take n panels) → more ≡ filter p (take (n + 1) panels)
+shown-pass p panels n d shown more below fail e is =
+    e ∙ is ∙ sym (ap (filter p) (take-get n panels d below) ∙ filter-pass p (take n panels) (get_or panels n d) fail)
 
-pub lists-done : {Y : Type 0} (R : Panel → Y → Type 0) (set : List Bool) (n : ℕ) (lists : List Y) → 17 ≤ n
-    → Pairwise R (filter (has_panel set) (take n all_panels)) lists → Pairwise R (panels_of set) lists
+pub shown-all : (set : List Bool) (n : ℕ) (shown : List Panel) → 17 ≤ n → shown ≡ filter (has_panel set) (take n all_panels) → shown ≡ panels_of set
 unfolding panels_of
-lists-done R set n lists all pairs = subst (λ (xs : List Panel). Pairwise R (filter (has_panel set) xs) lists) (take_all n all_panels all) pairs
+shown-all set n shown all is = is ∙ ap (filter (has_panel set)) (take_all n all_panels all)
+
+-- a list more
+pub lists-push : {Y : Type 0} (R : Panel → Y → Type 0) (panels : List Panel) (n : ℕ) (d : Panel) (lists more : List Y) (list : Y) → n < length panels
+    → more ≡ lists ++ list ∷ [] → Pairwise R (take n panels) lists → R (get_or panels n d) list → Pairwise R (take (n + 1) panels) more
+lists-push {Y} R panels n d lists more list below e pairs one =
+    subst (λ (ys : List Y). Pairwise R (take (n + 1) panels) ys) (sym e)
+    (subst (λ (xs : List Panel). Pairwise R xs (lists ++ list ∷ [])) (sym (take-get n panels d below)) (pairs-push R (take n panels) lists (get_or panels n d) list pairs one))
+
+pub lists-done : {Y : Type 0} (R : Panel → Y → Type 0) (panels : List Panel) (n : ℕ) (lists : List Y) → length panels ≤ n → Pairwise R (take n panels) lists → Pairwise R panels lists
+lists-done {Y} R panels n lists all pairs = subst (λ (xs : List Panel). Pairwise R xs lists) (take_all n panels all) pairs
+
+-- lists that are known place by place
+pub pairs-each : {X Y E : Type 0} (R : X → Y → Type 0) (d : X) (xs : List X) (ys : List Y) (rs : List (Result Y E)) → rs ≡ map Ok ys → length rs ≡ length xs
+    → ((i : ℕ) (r : Result Y E) → i < length xs → IfOk (get_or rs i r) (R (get_or xs i d))) → Pairwise R xs ys
+pairs-each R d [] [] rs is long each = tt
+pairs-each R d [] (y ∷ ys) rs is long each = absurd (omega (arith, long, ap length is))
+pairs-each R d (x ∷ xs) [] rs is long each = absurd (omega (arith, long, ap length is))
+pairs-each {X} {Y} {E} R d (x ∷ xs) (y ∷ ys) rs is long each =
+    let same = subst (λ (qs : List (Result Y E)). (i : ℕ) (r : Result Y E) → i < length (x ∷ xs) → IfOk (get_or qs i r) (R (get_or (x ∷ xs) i d))) is each in
+    (same 0 (Ok y) (omega arith), pairs-each R d xs ys (map Ok ys) refl (omega (arith, long, ap length is)) (λ i r lt. same (suc i) r (omega (arith, lt))))

@@ -1,5 +1,5 @@
 -- Rows added to their items, a row at a time.
-use Rattle.std.proofs.Common.{◌≡◌, ℕ, suc, ◌+◌, ◌<◌, ◌≤◌, ◌||◌, max, Bool, true, false, cond, List, [], ◌∷◌, ◌++◌, Some, length, map, get_or, set, take, refl, sym, ap, ◌∙◌, subst, arith, zero-add, All}
+use Rattle.std.proofs.Common.{◌≡◌, ℕ, suc, ◌+◌, ◌<◌, ◌≤◌, ◌||◌, max, Bool, true, false, cond, List, [], ◌∷◌, ◌++◌, Some, length, map, get_or, set, take, take_all, refl, sym, ap, ◌∙◌, subst, arith, zero-add, All}
 use Rattle.std.specs.Prelude.{count_by, not, slice_get}
 use Rattle.std.specs.List.{AllByRecursion, list_any, position_or_len}
 use Rattle.std.specs.List.Sorted.{IsPermutation}
@@ -8,15 +8,18 @@ use Rattle.std.proofs.lemmas.Cmp.{eq_by_cmp_equiv}
 use Rattle.std.proofs.lemmas.List.Elements.{All-from_recursion, recursion_from_All}
 use Rattle.std.proofs.lemmas.List.Sorted.{IsPermutation-to_front, IsPermutation-sym, All-permutation, list_any-IsPermutation, sum_by-IsPermutation}
 use Rattle.ga_base.specs.declared.key.Key.{Key}
+use Rattle.ga_base.specs.declared.panel.Panel.{Panel}
 use Rattle.ga_base.specs.Orders.{is_same_key}
+use Rattle.ga_base.specs.Panels.{is_same_panel}
 use Rattle.ga_base.proofs.OrderLemmas.{key_cmp_total}
 use Rattle.ga_shards.specs.Numbers.{noted, place_of}
 use Rattle.ga_report.specs.Items.{has_item, is_of, item_of, together, undated}
 use Rattle.ga_report.specs.Sound.{AreSound}
-use Rattle.ga_report.specs.Steps.Summed.{AreSummed, FitTogether, plus, undate, with_row}
+use Rattle.ga_report.specs.Steps.Summed.{AreSummed, FitTogether, panel_rows, plus, undate, with_row}
+use Rattle.ga_report.proofs.InPanel.{item-in-panel}
 use Rattle.ga_report.specs.Told.{ToldRow}
 use Rattle.ga_report.proofs.ItemSums.{count-cons, item-cons, item-moved, item-none, onto, onto-nothing, own-item, same-item}
-use Rattle.ga_report.proofs.Lists.{all-weaker, sum-room, take-more}
+use Rattle.ga_report.proofs.Lists.{all-weaker, filter-pass, filter-push, sum-room, take-more}
 use Rattle.ga_report.proofs.Shares.{item-fits}
 
 -- items in another order are the items
@@ -25,6 +28,14 @@ summed-as rows items sorted are moved = record {
   once = λ key. sum_by-IsPermutation (λ x. cond (is_of key x) 1 0) items sorted moved ∙ are.once key;
   sums = All-permutation (λ item. undate item ≡ item_of item.key rows) items sorted moved are.sums;
 }
+
+-- they are those of each row's panel, where all are of one
+pub summed-each : (panel : Panel) (told items tops : List ToldRow) → All (λ top. top.key.panel ≡ panel) tops → AreSummed (panel_rows panel told) items
+    → All (λ top. AreSummed (panel_rows top.key.panel told) items) tops
+summed-each panel told items tops own are =
+    All-from_recursion (λ top. AreSummed (panel_rows top.key.panel told) items) tops
+    (all-weaker (λ top. top.key.panel ≡ panel) (λ top. AreSummed (panel_rows top.key.panel told) items)
+    (λ top e. subst (λ (p : Panel). AreSummed (panel_rows p told) items) (sym e) are) tops (recursion_from_All _ tops own))
 
 -- and so they are of the rows in another order
 summed-of : (rows moved items : List ToldRow) → IsPermutation rows moved → AreSummed rows items → AreSummed moved items
@@ -170,32 +181,42 @@ module _ (seen : List ToldRow) (row : ToldRow) where
         (sums-with items (at-most (has_item row.key seen) _ (are.once row.key)) (not-seen items are) (recursion_from_All _ items are.sums));
   }
 
--- the items of no rows
-pub summed-none : (rows : List ToldRow) → AreSummed (take 0 rows) []
-summed-none [] = record { once = λ key. refl; sums = All-from_recursion _ [] tt }
-summed-none (x ∷ xs) = record { once = λ key. refl; sums = All-from_recursion _ [] tt }
+module _ (panel : Panel) (rows items : List ToldRow) where
+  pub summed-all : (n : ℕ) → length rows ≤ n → AreSummed (panel_rows panel (take n rows)) items → AreSummed (panel_rows panel rows) items
+  summed-all n all are = subst (λ (xs : List ToldRow). AreSummed (panel_rows panel xs) items) (take_all n rows all) are
 
-pub summed-more : (rows items : List ToldRow) (n : ℕ) (row : ToldRow) → slice_get rows n ≡ Some row → AreSummed (take n rows) items → AreSummed (take (n + 1) rows) (with_row row items)
-summed-more rows items n row at are =
-    subst (λ (xs : List ToldRow). AreSummed xs (with_row row items)) (sym (take-more n rows row at))
-    (summed-of (row ∷ take n rows) (take n rows ++ row ∷ []) (with_row row items) (IsPermutation-sym _ _ (IsPermutation-to_front (take n rows) row)) (summed-with (take n rows) row items are))
+  module _ (n : ℕ) (row : ToldRow) (at : slice_get rows n ≡ Some row) where
+    -- a row more that is the panel's
+    pub summed-more : is_same_panel row.key.panel panel ≡ true → AreSummed (panel_rows panel (take n rows)) items → AreSummed (panel_rows panel (take (n + 1) rows)) (with_row row items)
+    summed-more own are =
+        let seen = panel_rows panel (take n rows) in
+        let more = ap (panel_rows panel) (take-more n rows row at) ∙ filter-push (λ r. is_same_panel r.key.panel panel) (take n rows) row own in
+        subst (λ (xs : List ToldRow). AreSummed xs (with_row row items)) (sym more)
+        (summed-of (row ∷ seen) (seen ++ row ∷ []) (with_row row items) (IsPermutation-sym _ _ (IsPermutation-to_front seen row)) (summed-with seen row items are))
 
--- a row and its item fit together
-pub fits-more : (rows items : List ToldRow) (n : ℕ) (row : ToldRow) → slice_get rows n ≡ Some row → AreSound rows → AreSummed (take n rows) items
-    → All (λ item. is_of item.key row ≡ true → FitTogether item row) items
-fits-more rows items n row at sound are =
-    All-from_recursion (λ item. is_of item.key row ≡ true → FitTogether item row) items
-    (all-weaker (λ item. undate item ≡ item_of item.key (take n rows)) (λ item. is_of item.key row ≡ true → FitTogether item row) fit items (recursion_from_All _ items are.sums))
-  where
-    fit : (item : ToldRow) → undate item ≡ item_of item.key (take n rows) → is_of item.key row ≡ true → FitTogether item row
-    fit item own e =
-        let fits = item-fits rows sound item.key in
-        record {
-          hits = omega (arith, ap (λ (r : ToldRow). r.sums.hits) own, sum-room (λ r. r.sums.hits) (is_of item.key) rows n row at e, fits.hits);
-          bytes = omega (arith, ap (λ (r : ToldRow). r.sums.bytes) own, sum-room (λ r. r.sums.bytes) (is_of item.key) rows n row at e, fits.bytes);
-          micros = omega (arith, ap (λ (r : ToldRow). r.sums.micros) own, sum-room (λ r. r.sums.micros) (is_of item.key) rows n row at e, fits.micros);
-          visitors = omega (arith, ap (λ (r : ToldRow). r.visitors) own, sum-room (λ r. r.visitors) (is_of item.key) rows n row at e, fits.visitors);
-        }
+    -- and one that isn't
+    pub summed-pass : is_same_panel row.key.panel panel ≡ false → AreSummed (panel_rows panel (take n rows)) items → AreSummed (panel_rows panel (take (n + 1) rows)) items
+    summed-pass other are =
+        let more = ap (panel_rows panel) (take-more n rows row at) ∙ filter-pass (λ r. is_same_panel r.key.panel panel) (take n rows) row other in
+        subst (λ (xs : List ToldRow). AreSummed xs items) (sym more) are
+
+    -- a row and its item fit together
+    pub fits-more : is_same_panel row.key.panel panel ≡ true → AreSound rows → AreSummed (panel_rows panel (take n rows)) items → All (λ item. is_of item.key row ≡ true → FitTogether item row) items
+    fits-more own sound are =
+        All-from_recursion (λ item. is_of item.key row ≡ true → FitTogether item row) items
+        (all-weaker (λ item. undate item ≡ item_of item.key (panel_rows panel (take n rows))) (λ item. is_of item.key row ≡ true → FitTogether item row) fit items (recursion_from_All _ items are.sums))
+      where
+        fit : (item : ToldRow) → undate item ≡ item_of item.key (panel_rows panel (take n rows)) → is_of item.key row ≡ true → FitTogether item row
+        fit item has e =
+            let fits = item-fits rows sound item.key in
+            let mine : is_same_panel item.key.panel panel ≡ true = ap (λ (k : Key). is_same_panel k.panel panel) (sym (same-item item.key row e)) ∙ own in
+            let sums = has ∙ item-in-panel panel item.key mine (take n rows) in
+            record {
+              hits = omega (arith, ap (λ (r : ToldRow). r.sums.hits) sums, sum-room (λ r. r.sums.hits) (is_of item.key) rows n row at e, fits.hits);
+              bytes = omega (arith, ap (λ (r : ToldRow). r.sums.bytes) sums, sum-room (λ r. r.sums.bytes) (is_of item.key) rows n row at e, fits.bytes);
+              micros = omega (arith, ap (λ (r : ToldRow). r.sums.micros) sums, sum-room (λ r. r.sums.micros) (is_of item.key) rows n row at e, fits.micros);
+              visitors = omega (arith, ap (λ (r : ToldRow). r.visitors) sums, sum-room (λ r. r.visitors) (is_of item.key) rows n row at e, fits.visitors);
+            }
 
 -- ---- by the place that a dictionary of names gives
 

@@ -2,11 +2,10 @@
 use Rattle.std.proofs.Common.{◌≡◌, ℕ, ◌+◌, ◌≤◌, ◌==◌, ◌&&◌, ◌||◌, Bool, true, false, cond, List, [], ◌∷◌, map, sum_by, refl, sym, ap, ◌∙◌, arith, eq-eqb, All}
 use Rattle.std.specs.Ordering.{is_eq}
 use Rattle.std.specs.List.{AllByRecursion, IsDistinct, list_any}
-use Rattle.std.specs.List.Sorted.{IsPermutation}
 use Rattle.std.proofs.lemmas.Bool.{false≢true}
 use Rattle.std.proofs.lemmas.Bool.Decides.{Decides-eqb}
 use Rattle.std.proofs.lemmas.Cmp.{tied_itself}
-use Rattle.std.proofs.lemmas.List.Elements.{All-from_recursion, recursion_from_All}
+use Rattle.std.proofs.lemmas.List.Elements.{recursion_from_All}
 use Rattle.std.proofs.lemmas.List.Sums.{sum_by-cons}
 use Rattle.ga_base.specs.declared.key.Key.{Key}
 use Rattle.ga_base.specs.declared.panel.Panel.{Panel}
@@ -18,8 +17,8 @@ use Rattle.ga_report.specs.Told.{ToldRow, ToldValue}
 use Rattle.ga_report.specs.Items.{is_of, of_item, item_of}
 use Rattle.ga_report.specs.Reports.{general_of}
 use Rattle.ga_report.specs.Sound.{AreSound, SumsFit, SumsWithin, day_rows, layer_rows}
-use Rattle.ga_report.specs.Steps.Summed.{undate, AreSummed, IsPart, ItemsFit}
-use Rattle.ga_report.proofs.ItemSums.{same-item, item-moved}
+use Rattle.ga_report.specs.Steps.Summed.{undate, IsPart}
+use Rattle.ga_report.proofs.ItemSums.{same-item}
 use Rattle.ga_report.proofs.Lists.{all-weaker, map-all, sum_by-filter}
 
 module _ (f : ToldRow → ℕ) where
@@ -188,27 +187,10 @@ module _ (rows : List ToldRow) (sound : AreSound rows) (key : Key) where
     micros = omega (arith, micros-within, sound.fit.micros);
   }
 
--- the rows' order is nothing to whether sums fit
-pub items-fit : (rows sorted : List ToldRow) → AreSound rows → IsPermutation rows sorted → ItemsFit sorted
-items-fit rows sorted sound moved = λ key.
-    let same = item-moved key rows sorted moved in
-    let fits = item-fits rows sound key in
-    record {
-      hits = omega (arith, fits.hits, ap (λ (r : ToldRow). r.sums.hits) same);
-      visitors = omega (arith, fits.visitors, ap (λ (r : ToldRow). r.visitors) same);
-      bytes = omega (arith, fits.bytes, ap (λ (r : ToldRow). r.sums.bytes) same);
-      micros = omega (arith, fits.micros, ap (λ (r : ToldRow). r.sums.micros) same);
-    }
-
--- items are parts of the whole
-pub are-parts : (told : ToldValue) (items : List ToldRow) → AreSound told.rows → AreSummed told.rows items → All (IsPart (general_of told)) items
-are-parts told items sound are =
-    All-from_recursion (IsPart (general_of told)) items
-    (all-weaker (λ item. undate item ≡ item_of item.key told.rows) (IsPart (general_of told)) part items (recursion_from_All _ items are.sums))
-  where
-    part : (item : ToldRow) → undate item ≡ item_of item.key told.rows → IsPart (general_of told) item
-    part item e = record {
-      hits = omega (arith, ap (λ (r : ToldRow). r.sums.hits) e, hits-within told.rows sound item.key);
-      visitors = omega (arith, ap (λ (r : ToldRow). r.visitors) e, visitors-within told.rows sound item.key);
-      bytes = omega (arith, ap (λ (r : ToldRow). r.sums.bytes) e, bytes-within told.rows sound item.key);
-    }
+-- an item is a part of the whole
+pub is-part : (told : ToldValue) → AreSound told.rows → (item : ToldRow) → undate item ≡ item_of item.key told.rows → IsPart (general_of told) item
+is-part told sound item e = record {
+  hits = omega (arith, ap (λ (r : ToldRow). r.sums.hits) e, hits-within told.rows sound item.key);
+  visitors = omega (arith, ap (λ (r : ToldRow). r.visitors) e, visitors-within told.rows sound item.key);
+  bytes = omega (arith, ap (λ (r : ToldRow). r.sums.bytes) e, bytes-within told.rows sound item.key);
+}

@@ -1,35 +1,33 @@
 ghost use Rattle.std.specs.Prelude.{◌≡◌, All, IfOk, List, filter, map};
 ghost use Rattle.std.specs.List.Sorted.{IsSorted};
-ghost use Rattle.std.specs.Ordering.{nat_cmp};
-ghost use Rattle.ga_base.specs.Layers.{has_groups, is_empty};
-ghost use Rattle.ga_base.specs.Panels.{panel_number};
+ghost use Rattle.ga_base.specs.Layers.{has_groups};
 ghost use Rattle.ga_report.specs.declared.report.General.{General};
 ghost use Rattle.ga_report.specs.Items.{by_hits, is_row, is_child, item_order, last_first, order};
-ghost use Rattle.ga_report.specs.Steps.Summed.{AreFirst, AreSummed, AreTop, ComeFirst, IsPart, by_group, undate};
+ghost use Rattle.ga_report.specs.Steps.Summed.{AreFirst, AreSummed, AreTop, ComeFirst, IsPart, by_parent, panel_rows, undate};
 ghost use Rattle.ga_report.specs.Told.{ToldRow};
 
 use crate::Told;
-use crate::gathering::group_order;
-use crate::item_name::item_order;
+use crate::item_name::{ItemName, item_order};
 use ga_base::laws::panel_order;
-use ga_base::{Key, NoMemory, Panel};
+use ga_base::{NoMemory, Panel};
 use std::alloc::Global;
 use std::cmp::Ordering;
 
-/// The first of the items that are the rows of a panel, at most so many, in the report's order.
-pub(crate) fn top_items<'a>(
+/// The first of the items that are groups of a panel with groups, at most so many, in the report's order.
+pub(crate) fn top_groups<'a>(
     alloc: Global,
     items: &[Told<'a>],
     panel: Panel,
     most: u64,
 ) -> Result<Vec<Told<'a>>, NoMemory>
-    requires { IsSorted by_group items.now }
-    ensures items { IfOk result (λ rows. (told : List ToldRow) → AreSummed told items.now
+    ensures items { IfOk result (λ rows. (told : List ToldRow) → AreSummed (panel_rows panel told) items.now
         → AreTop panel (is_row panel) most told (map undate rows.items)) }
+    ensures panel { IfOk result (λ rows. All (λ item. item.key.panel ≡ panel) items.now
+        → All (λ item. item.key.panel ≡ panel) rows.items) }
     ensures parts { IfOk result (λ rows. (general : General) → All (IsPart general) items.now
         → All (IsPart general) rows.items) }
 {
-    let rows = rows_among(alloc, panel_stretch(items, panel), panel)?;
+    let rows = rows_among(alloc, items, panel)?;
     top(alloc, rows, panel, most)
 }
 
@@ -40,19 +38,20 @@ pub(crate) fn entries_of<'a>(
     group: &Told<'_>,
     most: u64,
 ) -> Result<Vec<Told<'a>>, NoMemory>
-    requires { IsSorted by_group items.now }
-    ensures items { IfOk result (λ rows. (told : List ToldRow) → AreSummed told items.now
+    requires { IsSorted by_parent items.now }
+    ensures items { IfOk result (λ rows. (told : List ToldRow)
+        → AreSummed (panel_rows group.now.key.panel told) items.now
         → AreTop group.now.key.panel (is_child group.now.key) most told (map undate rows.items)) }
     ensures parts { IfOk result (λ rows. (general : General) → All (IsPart general) items.now
         → All (IsPart general) rows.items) }
 {
-    let near = stretch_of(items, group.key());
-    let rows = entries_among(alloc, near, group.key())?;
-    top(alloc, rows, group.key().panel, most)
+    let name = group.name();
+    let rows = entries_among(alloc, stretch_of(items, &name), &name)?;
+    top(alloc, rows, name.panel(), most)
 }
 
 /// The first of the items, at most so many, in the report's order. Those that aren't among them are not sorted.
-fn top<'a>(
+pub(crate) fn top<'a>(
     alloc: Global,
     items: Vec<Told<'a>>,
     panel: Panel,
@@ -99,7 +98,7 @@ fn order(panel: Panel, a: &Told<'_>, b: &Told<'_>) -> Ordering
 {
     match panel {
         Panel::Visitors => last_first(a, b),
-        Panel::VisitTimes => item_order(a.key(), b.key()),
+        Panel::VisitTimes => item_order(&a.name(), &b.name()),
         _ => by_hits(a, b),
     }
 }
@@ -110,8 +109,8 @@ fn last_first(a: &Told<'_>, b: &Told<'_>) -> Ordering
 {
     let ties = || -> Ordering
         ensures { result ≡ item_order a.entry.now b.entry.now }
-    { item_order(a.key(), b.key()) };
-    b.key().label.cmp(&a.key().label).then_with(ties)
+    { item_order(&a.name(), &b.name()) };
+    b.name().label().cmp(a.name().label()).then_with(ties)
 }
 
 /// Where two items stand to each other by their hits.
@@ -120,7 +119,7 @@ fn by_hits(a: &Told<'_>, b: &Told<'_>) -> Ordering
 {
     let ties = || -> Ordering
         ensures { result ≡ item_order a.entry.now b.entry.now }
-    { item_order(a.key(), b.key()) };
+    { item_order(&a.name(), &b.name()) };
     b.sums().hits.cmp(&a.sums().hits).then_with(ties)
 }
 
@@ -134,7 +133,7 @@ fn rows_among<'a>(
 {
     let mut rows = Vec::new(alloc);
     for item in items {
-        if is_row(panel, item.key()) {
+        if is_row(panel, &item.name()) {
             rows.push(item.copy())?;
         }
     }
@@ -145,69 +144,48 @@ fn rows_among<'a>(
 fn entries_among<'a>(
     alloc: Global,
     items: &[Told<'a>],
-    group: &Key,
+    group: &ItemName<'_>,
 ) -> Result<Vec<Told<'a>>, NoMemory>
     ensures { IfOk result (λ rows. rows.items ≡ filter (λ item. is_child group.now item.key) items.now) }
 {
     let mut rows = Vec::new(alloc);
-    if !has_groups(group.panel) {
-        return Ok(rows);
-    }
     for item in items {
-        if is_child(group, item.key()) {
+        if is_child(group, &item.name()) {
             rows.push(item.copy())?;
         }
     }
     Ok(rows)
 }
 
-/// The stretch of items where all of a panel stand.
-fn panel_stretch<'s, 'a>(items: &'s [Told<'a>], panel: Panel) -> &'s [Told<'a>]
-    requires { IsSorted by_group items.now }
-    ensures { filter (λ item. is_row panel item.key) result.now ≡ filter (λ item. is_row panel item.key) items.now }
-{
-    let end = items.partition_point(|item| panel_cmp(item.key(), panel).is_le());
-    let up_to = &items[..end];
-    let start = up_to.partition_point(|item| panel_cmp(item.key(), panel).is_lt());
-    &up_to[start..]
-}
-
-/// How the panel of a key stands to a panel.
-fn panel_cmp(key: &Key, panel: Panel) -> Ordering
-    ensures { result ≡ nat_cmp (panel_number key.now.panel) (panel_number panel) }
-{
-    panel_order();
-    key.panel.cmp(&panel)
-}
-
 /// The stretch of items where all of a group stand.
-fn stretch_of<'s, 'a>(items: &'s [Told<'a>], group: &Key) -> &'s [Told<'a>]
-    requires { IsSorted by_group items.now }
+fn stretch_of<'s, 'a>(items: &'s [Told<'a>], group: &ItemName<'_>) -> &'s [Told<'a>]
+    requires { IsSorted by_parent items.now }
     ensures { filter (λ item. is_child group.now item.key) result.now ≡ filter (λ item. is_child group.now item.key) items.now }
 {
-    let end = items.partition_point(|item| group_order(item.key(), group).is_le());
+    let parent = group.parent();
+    let end = items.partition_point(|item| item.name().parent().cmp(parent).is_le());
     let up_to = &items[..end];
-    let start = up_to.partition_point(|item| group_order(item.key(), group).is_lt());
+    let start = up_to.partition_point(|item| item.name().parent().cmp(parent).is_lt());
     &up_to[start..]
 }
 
-/// Whether the item of a key is a row of the panel: in a panel with groups, these are the groups.
-fn is_row(panel: Panel, key: &Key) -> bool
-    ensures { result ≡ is_row panel key.now }
+/// Whether an item is a row of the panel: in a panel with groups, these are the groups.
+fn is_row(panel: Panel, name: &ItemName<'_>) -> bool
+    ensures { result ≡ is_row panel name.now }
 {
     panel_order();
-    key.panel == panel && (!has_groups(panel) || key.label.bytes().is_empty())
+    name.panel() == panel && (!has_groups(panel) || name.label().bytes().is_empty())
 }
 
-/// Whether the item of a key is an entry of the group.
-fn is_child(group: &Key, key: &Key) -> bool
-    ensures { result ≡ is_child group.now key.now }
+/// Whether an item is an entry of the group.
+fn is_child(group: &ItemName<'_>, name: &ItemName<'_>) -> bool
+    ensures { result ≡ is_child group.now name.now }
 {
     panel_order();
-    key.panel == group.panel
-        && has_groups(group.panel)
-        && key.parent == group.parent
-        && !key.label.bytes().is_empty()
+    name.panel() == group.panel()
+        && has_groups(group.panel())
+        && name.parent() == group.parent()
+        && !name.label().bytes().is_empty()
 }
 
 /// Whether the entries of a panel stand in groups.

@@ -2,40 +2,49 @@ ghost use Rattle.std.specs.Prelude.{◌≡◌, All, IfOk, OnOk, IsTrue, map};
 ghost use Rattle.std.specs.List.Sorted.{IsPermutation, IsSorted};
 ghost use Rattle.ga_report.specs.Items.{is_of, undated};
 ghost use Rattle.ga_report.specs.Reports.{general_of};
-ghost use Rattle.ga_report.specs.Steps.Summed.{AreSummed, FitTogether, IsPart, by_group, group_order, with_row};
+ghost use Rattle.ga_report.specs.Steps.Summed.{AreSummed, FitTogether, IsPart, by_parent, panel_rows, with_row};
 
 use crate::item_name::ItemName;
 use crate::{Tells, Told};
 use ga_base::laws::panel_order;
-use ga_base::{Key, NoMemory, Totals};
+use ga_base::{NoMemory, Panel, Totals};
 use ga_shards::{Dictionary, Keyed};
 use std::alloc::Global;
-use std::cmp::Ordering;
 
 /// More items than numbers of 32 bits take more memory than there is.
 const MOST_ITEMS: usize = u32::MAX as usize - 2;
 
-/// The items of what is told, in the order of their groups: rows that differ in their day alone are added up. It takes the
-/// time of one look for each row.
-pub(crate) fn items_of<'a, T: Tells>(alloc: Global, told: &'a T) -> Result<Vec<Told<'a>>, NoMemory>
-    ensures items { IfOk result (λ items. AreSummed (T.view told.now).rows items.items) }
-    ensures sorted { IfOk result (λ items. IsSorted by_group items.items) }
+/// The items of a panel, in any order: its rows that differ in their day alone are added up. It takes the time of one look for
+/// each of its rows, and of one at each other row's panel.
+pub(crate) fn items_of<'a, T: Tells>(
+    alloc: Global,
+    told: &'a T,
+    panel: Panel,
+) -> Result<Vec<Told<'a>>, NoMemory>
+    ensures items { IfOk result (λ items. AreSummed (panel_rows panel (T.view told.now).rows) items.items) }
+    ensures panel { IfOk result (λ items. All (λ item. item.key.panel ≡ panel) items.items) }
     ensures parts { IfOk result (λ items. All (IsPart (general_of (T.view told.now))) items.items) }
 {
     // What is known of the totals is that the rows' sums fit.
     let _totals = told.totals();
-    let items = gathered(alloc, told)?;
-    grouped(items)
+    gathered(alloc, told, panel)
 }
 
-/// The items of what is told, in the order in which they are told first.
-fn gathered<'a, T: Tells>(alloc: Global, told: &'a T) -> Result<Vec<Told<'a>>, NoMemory>
-    ensures { IfOk result (λ items. AreSummed (T.view told.now).rows items.items) }
+/// The items of a panel, in the order in which they are told first.
+fn gathered<'a, T: Tells>(
+    alloc: Global,
+    told: &'a T,
+    panel: Panel,
+) -> Result<Vec<Told<'a>>, NoMemory>
+    ensures { IfOk result (λ items. AreSummed (panel_rows panel (T.view told.now).rows) items.items) }
 {
+    panel_order();
     let mut names = Dictionary::new(alloc, keyed_by(&told.totals()));
     let mut items = Vec::new(alloc);
     for at in 0..told.len() {
-        add_row(&mut names, &mut items, &told.row(at))?;
+        if told.panel(at) == panel {
+            add_row(&mut names, &mut items, &told.row(at))?;
+        }
     }
     Ok(items)
 }
@@ -62,7 +71,7 @@ fn add_row<'a>(
     if items.len() > MOST_ITEMS {
         return Err(NoMemory);
     }
-    let place = names.note(ItemName::of(row.key()))? as usize;
+    let place = names.note(row.name())? as usize;
     match items.get_mut(place) {
         Some(item) => item.add(row),
         None => items.push(row.copy())?,
@@ -70,20 +79,12 @@ fn add_row<'a>(
     Ok(())
 }
 
-/// The items, sorted so that those of a panel stand together, and in it those of a group.
-fn grouped(items: Vec<Told<'_>>) -> Result<Vec<Told<'_>>, NoMemory>
-    ensures same { IfOk result (λ sorted. IsPermutation items.entry.items sorted.items) }
-    ensures sorted { IfOk result (λ sorted. IsSorted by_group sorted.items) }
+/// The items, sorted so that those of a group stand together.
+pub(crate) fn grouped(items: Vec<Told<'_>>) -> Vec<Told<'_>>
+    ensures same { IsPermutation items.entry.items result.items }
+    ensures sorted { IsSorted by_parent result.items }
 {
     let mut items = items;
-    items.sort_by(|a, b| group_order(a.key(), b.key()))?;
-    Ok(items)
-}
-
-/// Where two keys stand to each other by panel and parent.
-pub(crate) fn group_order(a: &Key, b: &Key) -> Ordering
-    ensures { result ≡ group_order a.now b.now }
-{
-    panel_order();
-    a.panel.cmp(&b.panel).then_with(|| a.parent.cmp(&b.parent))
+    items.sort_unstable_by(|a, b| a.name().parent().cmp(b.name().parent()));
+    items
 }

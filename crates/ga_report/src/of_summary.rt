@@ -1,7 +1,7 @@
 ghost use Rattle.std.specs.Prelude.{length, map};
 
 use crate::{Tells, Told};
-use ga_base::Totals;
+use ga_base::{Panel, Totals};
 use ga_summary::Summary;
 
 impl Tells for Summary {
@@ -15,6 +15,10 @@ impl Tells for Summary {
 
     fn len(&self) -> u64 {
         self.len()
+    }
+
+    fn panel(&self, at: u64) -> Panel {
+        self.row(at).key.panel
     }
 
     fn row(&self, at: u64) -> Told<'_> {

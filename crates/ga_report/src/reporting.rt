@@ -1,18 +1,23 @@
-ghost use Rattle.std.specs.Prelude.{◌≡◌, IfOk, List, All, map};
+ghost use Rattle.std.specs.Prelude.{◌≡◌, ◌<◌, ℕ, IfOk, List, All, Ok, false, length, map, slice_index_or};
 ghost use Rattle.std.specs.List.Sorted.{IsSorted};
+ghost use Rattle.ga_base.specs.declared.panel.Panel.TheVariants.{Visitors as FirstPanel};
+ghost use Rattle.ga_base.specs.Layers.{has_groups};
 ghost use Rattle.ga_report.specs.Printable.{IsPrintable};
 ghost use Rattle.ga_report.specs.Reports.{AreChildren, IsPanelList, IsReport, IsRow, Pairwise, data_of, general_of, panels_of, shown_as};
-ghost use Rattle.ga_report.specs.Steps.Summed.{AreSummed, DayFits, IsPart, by_group, undate, with_day};
+ghost use Rattle.ga_report.specs.Steps.Summed.{AreSummed, DayFits, IsPart, by_parent, panel_rows, undate, with_day};
 ghost use Rattle.ga_report.specs.Told.{ToldRow};
 
-use crate::arranging::{entries_of, has_groups, top_items};
-use crate::gathering::items_of;
+use crate::arranging::{entries_of, has_groups, top, top_groups};
+use crate::gathering::{grouped, items_of};
+use crate::item_name::ItemName;
 use crate::{
     General, Item, Items, PanelList, PanelLists, Report, Row, RowList, Tells, Told, hundredths,
 };
 use ga_base::laws::panel_order;
-use ga_base::{Key, NoMemory, Panel, PanelSet, Text};
+use ga_base::{NoMemory, Panel, PanelSet, Text};
 use std::alloc::Global;
+use std::marker::Sync;
+use std::thread::{self, Threads};
 
 /// The panels, in the report's order.
 const PANELS: [Panel; 17] = [
@@ -36,12 +41,14 @@ const PANELS: [Panel; 17] = [
 ];
 
 /// The report of what was counted, with the panels of a set. Of each list of rows, and of each row's children, the
-/// first `max_items` are shown.
-pub fn rows<T: Tells>(
+/// first `max_items` are shown. With more jobs than one, each panel is made in a thread of its own.
+pub fn rows<R: Threads + Sync, T: Tells + Sync>(
+    rt: &R,
     alloc: Global,
     told: &T,
     panels: &PanelSet,
     max_items: u64,
+    jobs: u32,
 ) -> Result<Report, NoMemory>
     ensures report { IfOk result (IsReport (T.view told.now) panels.now max_items) }
     ensures printable { IfOk result IsPrintable }
@@ -49,8 +56,12 @@ pub fn rows<T: Tells>(
     // What is known of the totals is that each key has a hit.
     let _totals = told.totals();
     let general = general_of(told);
-    let items = items_of(alloc, told)?;
-    let panels = panel_lists(alloc, &general, &items, panels, max_items)?;
+    let shown = shown_panels(alloc, panels)?;
+    let panels = if jobs <= 1 {
+        lists_in_turn(alloc, told, &general, &shown, max_items)?
+    } else {
+        lists_side_by_side(rt, alloc, told, &general, &shown, max_items)?
+    };
     Ok(Report { general, panels })
 }
 
@@ -69,9 +80,8 @@ fn general_of<T: Tells>(told: &T) -> General
         bandwidth: 0,
     };
     for at in 0..told.len() {
-        let row = told.row(at);
-        if row.key().panel == Panel::Visitors {
-            general = with_day(general, &row);
+        if told.panel(at) == Panel::Visitors {
+            general = with_day(general, &told.row(at));
         }
     }
     general
@@ -90,47 +100,142 @@ fn with_day(general: General, day: &Told<'_>) -> General
     }
 }
 
-/// The lists of the panels of a set.
-fn panel_lists(
-    alloc: Global,
-    general: &General,
-    items: &[Told<'_>],
-    panels: &PanelSet,
-    max_items: u64,
-) -> Result<PanelLists, NoMemory>
-    requires parts { All (IsPart general.now) items.now }
-    requires sorted { IsSorted by_group items.now }
-    ensures { IfOk result (λ lists. (told : List ToldRow) → AreSummed told items.now
-        → Pairwise (IsPanelList general.now max_items told) (panels_of panels.now) lists) }
+/// The panels of a set.
+fn shown_panels(alloc: Global, panels: &PanelSet) -> Result<Vec<Panel>, NoMemory>
+    ensures { IfOk result (λ shown. shown.items ≡ panels_of panels.now) }
 {
-    let mut lists = PanelLists::new(alloc);
+    let mut shown = Vec::new(alloc);
     for panel in PANELS.iter() {
         if panels.has(*panel) {
-            lists.push(panel_list(alloc, general, items, *panel, max_items)?)?;
+            shown.push(*panel)?;
         }
+    }
+    Ok(shown)
+}
+
+/// The lists of panels, one after the other.
+fn lists_in_turn<T: Tells>(
+    alloc: Global,
+    told: &T,
+    general: &General,
+    panels: &[Panel],
+    max_items: u64,
+) -> Result<PanelLists, NoMemory>
+    requires { general.now ≡ general_of (T.view told.now) }
+    ensures { IfOk result (Pairwise (IsPanelList general.now max_items (T.view told.now).rows) panels.now) }
+{
+    let mut lists = PanelLists::new(alloc);
+    for panel in panels {
+        lists.push(panel_list(alloc, told, general, *panel, max_items)?)?;
     }
     Ok(lists)
 }
 
-/// The list of a panel.
-fn panel_list(
+/// The lists of panels, made side by side.
+fn lists_side_by_side<R: Threads + Sync, T: Tells + Sync>(
+    rt: &R,
     alloc: Global,
+    told: &T,
     general: &General,
-    items: &[Told<'_>],
+    panels: &[Panel],
+    max_items: u64,
+) -> Result<PanelLists, NoMemory>
+    requires { general.now ≡ general_of (T.view told.now) }
+    ensures { IfOk result (Pairwise (IsPanelList general.now max_items (T.view told.now).rows) panels.now) }
+{
+    let list = move |at: usize| -> Result<PanelList, NoMemory>
+        requires { (at < length panels.now) × (general.now ≡ general_of (T.view told.now)) }
+        ensures { IfOk result (IsPanelList general.entry.now max_items (T.view told.entry.now).rows
+            (slice_index_or panels.entry.now at FirstPanel)) }
+    { panel_list(alloc, told, general, panels[at], max_items) };
+    all_of(alloc, thread::map_indices(rt, alloc, panels.len(), &list)?)
+}
+
+/// The lists, where none of the results is want of memory.
+fn all_of(alloc: Global, results: Vec<Result<PanelList, NoMemory>>) -> Result<PanelLists, NoMemory>
+    ensures { IfOk result (λ lists. results.items ≡ map Ok lists) }
+{
+    let mut lists = PanelLists::new(alloc);
+    for result in results {
+        lists.push(result?)?;
+    }
+    Ok(lists)
+}
+
+/// The list of a panel. Only in a panel with groups have rows children.
+fn panel_list<T: Tells>(
+    alloc: Global,
+    told: &T,
+    general: &General,
     panel: Panel,
     max_items: u64,
 ) -> Result<PanelList, NoMemory>
-    requires parts { All (IsPart general.now) items.now }
-    requires sorted { IsSorted by_group items.now }
-    ensures { IfOk result (λ list. (told : List ToldRow) → AreSummed told items.now
+    requires { general.now ≡ general_of (T.view told.now) }
+    ensures { IfOk result (IsPanelList general.now max_items (T.view told.now).rows panel) }
+{
+    let items = items_of(alloc, told, panel)?;
+    if has_groups(panel) {
+        list_with_groups(alloc, general, items, panel, max_items)
+    } else {
+        plain_list(alloc, general, items, panel, max_items)
+    }
+}
+
+/// The list of a panel without groups.
+fn plain_list(
+    alloc: Global,
+    general: &General,
+    items: Vec<Told<'_>>,
+    panel: Panel,
+    max_items: u64,
+) -> Result<PanelList, NoMemory>
+    requires plain { has_groups panel ≡ false }
+    requires panel { All (λ item. item.key.panel ≡ panel) items.items }
+    requires parts { All (IsPart general.now) items.items }
+    ensures { IfOk result (λ list. (told : List ToldRow) → AreSummed (panel_rows panel told) items.entry.items
         → IsPanelList general.now max_items told panel list) }
 {
-    let tops = top_items(alloc, items, panel, max_items)?;
-    let rows = row_list(alloc, general, items, &tops, max_items)?;
+    let tops = top(alloc, items, panel, max_items)?;
+    let rows = plain_rows(alloc, general, &tops)?;
     Ok(PanelList { panel, rows })
 }
 
-/// A row for each of the items.
+/// The list of a panel with groups.
+fn list_with_groups(
+    alloc: Global,
+    general: &General,
+    items: Vec<Told<'_>>,
+    panel: Panel,
+    max_items: u64,
+) -> Result<PanelList, NoMemory>
+    requires panel { All (λ item. item.key.panel ≡ panel) items.items }
+    requires parts { All (IsPart general.now) items.items }
+    ensures { IfOk result (λ list. (told : List ToldRow) → AreSummed (panel_rows panel told) items.entry.items
+        → IsPanelList general.now max_items told panel list) }
+{
+    let items = grouped(items);
+    let tops = top_groups(alloc, &items, panel, max_items)?;
+    let rows = row_list(alloc, general, &items, &tops, max_items)?;
+    Ok(PanelList { panel, rows })
+}
+
+/// A row for each of the items, of a panel without groups: none has children.
+fn plain_rows(alloc: Global, general: &General, tops: &[Told<'_>]) -> Result<RowList, NoMemory>
+    requires plain { All (λ top. has_groups top.key.panel ≡ false) tops.now }
+    requires parts { All (IsPart general.now) tops.now }
+    ensures { IfOk result (λ rows. (most : ℕ) (told : List ToldRow)
+        → Pairwise (IsRow general.now most told) (map undate tops.now) rows) }
+{
+    let mut rows = RowList::new(alloc);
+    for top in tops {
+        let item = shown_as(general, top)?;
+        let children = Items::new(alloc);
+        rows.push(Row { item, children })?;
+    }
+    Ok(rows)
+}
+
+/// A row for each of the items, with the entries of its group.
 fn row_list(
     alloc: Global,
     general: &General,
@@ -139,9 +244,10 @@ fn row_list(
     max_items: u64,
 ) -> Result<RowList, NoMemory>
     requires parts { All (IsPart general.now) items.now }
-    requires sorted { IsSorted by_group items.now }
+    requires sorted { IsSorted by_parent items.now }
     requires tops { All (IsPart general.now) tops.now }
-    ensures { IfOk result (λ rows. (told : List ToldRow) → AreSummed told items.now
+    ensures { IfOk result (λ rows. (told : List ToldRow)
+        → All (λ top. AreSummed (panel_rows top.key.panel told) items.now) tops.now
         → Pairwise (IsRow general.now max_items told) (map undate tops.now) rows) }
 {
     let mut rows = RowList::new(alloc);
@@ -153,7 +259,7 @@ fn row_list(
     Ok(rows)
 }
 
-/// The children of an item.
+/// The children of a group.
 fn children_of(
     alloc: Global,
     general: &General,
@@ -162,8 +268,8 @@ fn children_of(
     max_items: u64,
 ) -> Result<Items, NoMemory>
     requires parts { All (IsPart general.now) items.now }
-    requires sorted { IsSorted by_group items.now }
-    ensures { IfOk result (λ children. (told : List ToldRow) → AreSummed told items.now
+    requires sorted { IsSorted by_parent items.now }
+    ensures { IfOk result (λ children. (told : List ToldRow) → AreSummed (panel_rows top.now.key.panel told) items.now
         → AreChildren general.now max_items told (undate top.now) children) }
 {
     let entries = entries_of(alloc, items, top, max_items)?;
@@ -187,12 +293,12 @@ fn shown_as(general: &General, item: &Told<'_>) -> Result<Item, NoMemory>
     requires { IsPart general.now item.now }
     ensures { IfOk result (λ shown. shown ≡ shown_as general.now item.now) }
 {
-    let key = item.key();
+    let name = item.name();
     let sums = item.sums();
     Ok(Item {
-        label: data_of(key)?,
-        method: key.method.clone()?,
-        protocol: key.protocol.clone()?,
+        label: data_of(&name)?,
+        method: name.method().clone()?,
+        protocol: name.protocol().clone()?,
         hits: sums.hits,
         visitors: item.visitors(),
         bytes: sums.bytes,
@@ -205,12 +311,12 @@ fn shown_as(general: &General, item: &Told<'_>) -> Result<Item, NoMemory>
 }
 
 /// The data of an item: a group is named by its parent.
-fn data_of(key: &Key) -> Result<Text, NoMemory>
-    ensures { IfOk result (λ label. label ≡ data_of key.now) }
+fn data_of(name: &ItemName<'_>) -> Result<Text, NoMemory>
+    ensures { IfOk result (λ label. label ≡ data_of name.now) }
 {
-    if has_groups(key.panel) && key.label.bytes().is_empty() {
-        Ok(key.parent.clone()?)
+    if has_groups(name.panel()) && name.label().bytes().is_empty() {
+        Ok(name.parent().clone()?)
     } else {
-        Ok(key.label.clone()?)
+        Ok(name.label().clone()?)
     }
 }

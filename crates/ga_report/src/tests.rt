@@ -110,13 +110,18 @@ fn cuts_four_hundred_hosts(rt: HostRuntime) -> Result<(), Fail> {
     let mut sum = Summary::empty(alloc);
     count(&mut sum, alloc, 1000, 1400)?;
     count(&mut sum, alloc, 1390, 1400)?;
-    let report = rows(alloc, &sum, &PanelSet::all(), 366)?;
+    let report = rows(&rt, alloc, &sum, &PanelSet::all(), 366, 1)?;
     assert_eq!(rt; report.panels.items().len(), 17);
     assert_eq!(rt;
         shown(alloc, &report)?.as_str(),
         "410|1 0:20240115:410:10000|366 0:1390:2:49 9:1399:2:49 10:1000:1:24 365:1355:1:24"
     );
-    let none = rows(alloc, &sum, &PanelSet::none(), 366)?;
+    let beside = rows(&rt, alloc, &sum, &PanelSet::all(), 366, 4)?;
+    assert_eq!(rt;
+        shown(alloc, &beside)?.as_str(),
+        shown(alloc, &report)?.as_str()
+    );
+    let none = rows(&rt, alloc, &sum, &PanelSet::none(), 366, 1)?;
     assert_eq!(rt; shown(alloc, &none)?.as_str(), "410");
     Ok(())
 }

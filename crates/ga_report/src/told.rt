@@ -1,10 +1,11 @@
-ghost use Rattle.std.specs.Prelude.{◌≡◌, ◌<◌, length, slice_get, Some};
-ghost use Rattle.ga_report.specs.Items.{is_of};
+ghost use Rattle.std.specs.Prelude.{◌≡◌, ◌<◌, length, slice_get, IfSome, Some};
+ghost use Rattle.ga_report.specs.Items.{undated};
 ghost use Rattle.ga_report.specs.Sound.{AreSound};
 ghost use Rattle.ga_report.specs.Steps.Summed.{plus, FitTogether};
 ghost use Rattle.ga_report.specs.Told.{ToldValue};
 
-use ga_base::{Key, Sums, Totals};
+use crate::item_name::ItemName;
+use ga_base::{Key, Panel, Sums, Text, Totals};
 use std::marker::Model;
 
 /// What was counted, told a row at a time: totals over all lines, and a row for each key, in any order.
@@ -20,16 +21,27 @@ pub trait Tells {
     fn len(&self) -> u64
         ensures { result ≡ length (view self.now).rows };
 
+    /// The panel of the row at a place. A report looks at it once for each panel, and takes the rows of that panel alone.
+    fn panel(&self, at: u64) -> Panel
+        requires { at < length (view self.now).rows }
+        ensures { IfSome (slice_get (view self.now).rows at) (λ row. result ≡ row.key.panel) };
+
     /// The row at a place, from 0.
     fn row(&self, at: u64) -> Told<'_>
         requires { at < length (view self.now).rows }
         ensures { slice_get (view self.now).rows at ≡ Some result };
 }
 
-/// What was counted under a key, or under all keys of an item: its sums and the number of its visitors.
+/// What was counted under a key, or under all keys of an item: its sums and the number of its visitors. The key is lent in
+/// parts.
 #[derive(Debug, Drop)]
 pub struct Told<'a> {
-    key: &'a Key,
+    /// A key that has all but the day and the label.
+    shared: &'a Key,
+    /// The day.
+    date: u32,
+    /// The label.
+    label: &'a Text,
     sums: Sums,
     visitors: u64,
 }
@@ -39,7 +51,11 @@ impl<'a> Model for Told<'a> {
 
     ghost Value = { ToldRow };
 
-    ghost view = { λ t. record { key = t.key.now; sums = t.sums; visitors = t.visitors } };
+    ghost view = { λ t. record {
+      key = record t.shared.now { date = t.date; label = t.label.now };
+      sums = t.sums;
+      visitors = t.visitors;
+    } };
 }
 
 impl<'a> Told<'a> {
@@ -47,18 +63,31 @@ impl<'a> Told<'a> {
     pub fn of(key: &'a Key, sums: Sums, visitors: u64) -> Told<'a>
         ensures { result ≡ record { key = key.now; sums = sums; visitors = visitors } }
     {
+        Told::with(key, key.date, &key.label, sums, visitors)
+    }
+
+    /// The row of a key with this day and this label, whose other parts are those of the key that is lent.
+    pub fn with(shared: &'a Key, date: u32, label: &'a Text, sums: Sums, visitors: u64) -> Told<'a>
+        ensures { result ≡ record {
+          key = record shared.now { date = date; label = label.now };
+          sums = sums;
+          visitors = visitors;
+        } }
+    {
         Told {
-            key,
+            shared,
+            date,
+            label,
             sums,
             visitors,
         }
     }
 
-    /// The key, or that of one of an item's days.
-    pub(crate) fn key(&self) -> &'a Key
-        ensures { result.now ≡ self.now.key }
+    /// What the item is called: the key without its day.
+    pub(crate) fn name(&self) -> ItemName<'a>
+        ensures { result ≡ undated self.now.key }
     {
-        self.key
+        ItemName::of(self.shared, self.label)
     }
 
     /// The sums.
@@ -80,7 +109,9 @@ impl<'a> Told<'a> {
         ensures { result ≡ self.now }
     {
         Told {
-            key: self.key,
+            shared: self.shared,
+            date: self.date,
+            label: self.label,
             sums: self.sums,
             visitors: self.visitors,
         }

@@ -190,7 +190,7 @@ fn run_inputs<R: Threads + Sync, G: Gate, F: Files, D: Disk, O: Outs>(
         return run_alone(rt, gate, alloc, &setup, settings, files, outs);
     }
     match count(rt, gate, alloc, &setup, settings, files, disk) {
-        Ok(counted) => finish(alloc, settings, &counted, disk, outs),
+        Ok(counted) => finish(rt, alloc, settings, &counted, disk, outs),
         Err(status) => status,
     }
 }
@@ -248,7 +248,7 @@ fn text_alone<R: Threads + Sync, G: Gate, F: Files>(
         files,
     )?;
     let told = total.told(alloc)?;
-    let text = text_of(alloc, settings, &told)?;
+    let text = text_of(rt, alloc, settings, &told)?;
     Ok(text)
 }
 
@@ -314,7 +314,8 @@ fn sound(summary: &Summary)
 }
 
 /// Keeps the run, where it persists, and delivers the report. All memory is taken before the disk is written.
-fn finish<D: Disk, O: Outs>(
+fn finish<R: Threads + Sync, D: Disk, O: Outs>(
+    rt: &R,
     alloc: Global,
     settings: &Settings,
     counted: &Counted,
@@ -325,7 +326,7 @@ fn finish<D: Disk, O: Outs>(
     requires whole { IsWhole settings.now (db_value counted.now.stored) counted.now.run counted.now.whole }
     ensures { EndsLast settings.now counted.now (D.view disk.old) (D.view disk.new) (D.images disk.old) (D.images disk.new) (O.view outs.old) (O.view outs.new) result }
 {
-    let Ok(text) = text_of(alloc, settings, &counted.whole) else {
+    let Ok(text) = text_of(rt, alloc, settings, &counted.whole) else {
         return Status::NoMemory;
     };
     if settings.persist {
@@ -367,10 +368,16 @@ fn target_of(file: Option<&Text>) -> To
 }
 
 /// What is printed of the report on what is told.
-fn text_of<T: Tells>(alloc: Global, settings: &Settings, told: &T) -> Result<Bytes, NoMemory>
+fn text_of<R: Threads + Sync, T: Tells + Sync>(
+    rt: &R,
+    alloc: Global,
+    settings: &Settings,
+    told: &T,
+) -> Result<Bytes, NoMemory>
     ensures { IfOk result (λ text. IsTextTold settings.now (T.view told.now) text) }
 {
-    let report = rows(alloc, told, &settings.panels, settings.max_items)?;
+    let jobs = workers_of(settings).jobs;
+    let report = rows(rt, alloc, told, &settings.panels, settings.max_items, jobs)?;
     match settings.generate {
         None => report_text(alloc, settings.output.kind, &report),
         Some(lines) => generated_text(alloc, lines, &report),

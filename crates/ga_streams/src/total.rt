@@ -29,5 +29,5 @@ pub(crate) fn total_of<R: Threads + Sync>(
     for other in others {
         tally.absorb(rt, alloc, other)?;
     }
-    Total::of(alloc, tally)
+    Ok(Total::of(tally))
 }

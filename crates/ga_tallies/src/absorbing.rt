@@ -16,7 +16,7 @@ use std::thread::Threads;
 impl Tally {
     /// Takes in what another tally has counted, whose numbers are its own. Keys and visitors are noted side by side. After an
     /// `Err` the tally may only be dropped.
-    pub fn absorb<R: Threads>(
+    pub fn absorb<R: Threads + Sync>(
         &mut self,
         rt: &R,
         alloc: Global,

@@ -19,8 +19,8 @@ struct Grown<T> {
 }
 
 /// Notes other keys and other visitors, side by side, and gives their numbers. Keys and visitors share nothing, and each are
-/// with the thread that notes among them.
-pub(crate) fn note_both<R: Threads>(
+/// with the thread that notes among them, which has their shards noted side by side too.
+pub(crate) fn note_both<R: Threads + Sync>(
     rt: &R,
     alloc: Global,
     keys: &mut KeyNumbers,
@@ -35,10 +35,10 @@ pub(crate) fn note_both<R: Threads>(
     let known_visitors = mem::replace(visitors, VisitorNumbers::new(alloc, Keyed::new(0, 0)));
     let note_keys = move || -> Grown<KeyNumbers>
         ensures { IfOk result.numbers (λ numbers. AreNoted is_same_key more_keys numbers.items known_keys result.known) }
-    { keys_with(alloc, known_keys, more_keys) };
+    { keys_with(rt, alloc, known_keys, more_keys) };
     let note_visitors = move || -> Grown<VisitorNumbers>
         ensures { IfOk result.numbers (λ numbers. AreNoted is_same_visitor more_visitors numbers.items known_visitors result.known) }
-    { visitors_with(alloc, known_visitors, more_visitors) };
+    { visitors_with(rt, alloc, known_visitors, more_visitors) };
     let (grown_keys, grown_visitors) = thread::join(rt, note_keys, note_visitors);
     *keys = grown_keys.known;
     *visitors = grown_visitors.known;
@@ -46,21 +46,27 @@ pub(crate) fn note_both<R: Threads>(
 }
 
 /// Keys after others were noted among them.
-fn keys_with(alloc: Global, mut known: KeyNumbers, more: KeyNumbers) -> Grown<KeyNumbers>
+fn keys_with<R: Threads + Sync>(
+    rt: &R,
+    alloc: Global,
+    mut known: KeyNumbers,
+    more: KeyNumbers,
+) -> Grown<KeyNumbers>
     ensures { IfOk result.numbers (λ numbers. AreNoted is_same_key more numbers.items known result.known) }
 {
-    let numbers = known.absorb(alloc, more);
+    let numbers = known.absorb(rt, alloc, more);
     Grown { known, numbers }
 }
 
 /// Visitors after others were noted among them.
-fn visitors_with(
+fn visitors_with<R: Threads + Sync>(
+    rt: &R,
     alloc: Global,
     mut known: VisitorNumbers,
     more: VisitorNumbers,
 ) -> Grown<VisitorNumbers>
     ensures { IfOk result.numbers (λ numbers. AreNoted is_same_visitor more numbers.items known result.known) }
 {
-    let numbers = known.absorb(alloc, more);
+    let numbers = known.absorb(rt, alloc, more);
     Grown { known, numbers }
 }

@@ -7,6 +7,7 @@
 mod by_name;
 mod names;
 mod numbered;
+mod panels;
 mod ranks;
 mod rows;
 mod telling;

@@ -1,7 +1,8 @@
-ghost use Rattle.std.specs.Prelude.{◌≡◌};
+ghost use Rattle.std.specs.Prelude.{◌≡◌, map};
 ghost use Rattle.ga_totals.specs.Steps.Telling.{CanTell, told_rows};
 
-use ga_base::{Key, Sums, Totals};
+use ga_base::{Panel, Sums, Totals};
+use ga_numbers::KeyNumbers;
 use ga_report::{Tells, Told};
 use std::marker::Model;
 
@@ -12,7 +13,9 @@ pub struct TotalTold<'a> {
     /// What was counted over all lines.
     totals: Totals,
     /// The keys, each at its number.
-    keys: &'a [Key],
+    keys: &'a KeyNumbers,
+    /// The panel of each key, at its number: a report asks for it once for each panel.
+    panels: Vec<Panel>,
     /// The sums of each key, at its number.
     sums: &'a [Sums],
     /// How many visitors each key has, at its number.
@@ -20,6 +23,7 @@ pub struct TotalTold<'a> {
 }
 
 impl<'a> Model for TotalTold<'a> {
+    ghost use Rattle.std.specs.Prelude.{◌≡◌, map};
     ghost use Rattle.ga_report.specs.Told.{ToldValue};
     ghost use Rattle.ga_totals.specs.Steps.Telling.{CanTell, told_rows};
 
@@ -27,23 +31,26 @@ impl<'a> Model for TotalTold<'a> {
 
     ghost view = { λ t. record { totals = t.totals; rows = told_rows t.keys.now t.sums.now t.visits.items } };
 
-    ghost invariant = { λ t. CanTell t.keys.now t.sums.now t.visits.items };
+    ghost invariant = { λ t. CanTell t.keys.now t.sums.now t.visits.items × (t.panels.items ≡ map (λ key. key.panel) t.keys.now) };
 }
 
 impl<'a> TotalTold<'a> {
     /// These totals, and these keys with what stands at their numbers.
     pub(crate) fn of(
         totals: Totals,
-        keys: &'a [Key],
+        keys: &'a KeyNumbers,
+        panels: Vec<Panel>,
         sums: &'a [Sums],
         visits: Vec<u64>,
     ) -> TotalTold<'a>
-        requires { CanTell keys.now sums.now visits.items }
+        requires can { CanTell keys.now sums.now visits.items }
+        requires panels { panels.items ≡ map (λ key. key.panel) keys.now }
         ensures { result ≡ record { totals = totals; rows = told_rows keys.now sums.now visits.items } }
     {
         TotalTold {
             totals,
             keys,
+            panels,
             sums,
             visits,
         }
@@ -58,12 +65,24 @@ impl<'a> Tells for TotalTold<'a> {
     }
 
     fn len(&self) -> u64 {
-        self.keys.len() as u64
+        u64::from(self.keys.len())
+    }
+
+    fn panel(&self, at: u64) -> Panel {
+        prove!(at < self.panels.len() as u64);
+        self.panels[at as usize]
     }
 
     fn row(&self, at: u64) -> Told<'_> {
+        prove!(at < u64::from(self.keys.len()));
+        let key = self.keys.get(at as u32);
         let number = at as usize;
-        prove!(number < self.keys.len());
-        Told::of(&self.keys[number], self.sums[number], self.visits[number])
+        Told::with(
+            key.shared,
+            key.date,
+            key.label,
+            self.sums[number],
+            self.visits[number],
+        )
     }
 }

@@ -25,7 +25,7 @@ fn a_tally_becomes_a_total(rt: HostRuntime) -> Result<(), NoMemory> {
     let alloc = rt.alloc();
     let tally = Tally::new(alloc, Keyed::new(1, 2));
     let totals = tally.totals();
-    let total = Total::of(alloc, tally)?;
+    let total = Total::of(tally);
     assert_eq!(rt; total.totals(), totals);
     Ok(())
 }

@@ -1,16 +1,15 @@
 -- The items of told rows, on the way to a report.
-use Rattle.std.specs.Prelude.{◌≡◌, ℕ, Bool, false, ◌+◌, ◌++◌, ◌≤◌, ◌<◌, ◌^◌, max, min, if◌then◌else◌, List, [], ◌∷◌, length, take, count_by, All}
-use Rattle.std.specs.Hash.{HashWrites, str, u8}
+use Rattle.std.specs.Prelude.{◌≡◌, ℕ, Bool, false, ◌+◌, ◌++◌, ◌≤◌, ◌<◌, ◌^◌, max, min, if◌then◌else◌, List, [], ◌∷◌, length, take, filter, count_by, All}
+use Rattle.std.specs.Hash.{HashWrites, str}
 use Rattle.std.specs.List.Sorted.{IsPermutation, IsSorted}
 use Rattle.std.specs.declared.cmp.Ordering.{Ordering}
-use Rattle.std.specs.Ordering.{is_lt, nat_cmp, ordering_then}
+use Rattle.std.specs.Ordering.{is_lt}
 use Rattle.ga_base.specs.declared.key.Key.{Key}
 use Rattle.ga_base.specs.declared.panel.Panel.{Panel}
 use Rattle.ga_base.specs.Orders.{text_cmp}
-use Rattle.ga_base.specs.Panels.{panel_number}
+use Rattle.ga_base.specs.Panels.{is_same_panel}
 use Rattle.ga_report.specs.declared.report.General.{General}
-use Rattle.ga_report.specs.Items.{AreItems, undated, is_of, of_item, has_item, item_of}
-use Rattle.ga_report.specs.Sound.{SumsFit}
+use Rattle.ga_report.specs.Items.{AreItems, undated, is_of, has_item, item_of}
 use Rattle.ga_report.specs.Told.{ToldRow}
 
 abbrev pub plus : ToldRow → ToldRow → ToldRow
@@ -51,10 +50,6 @@ pub record IsPart (general : General) (item : ToldRow) : Type 0 where
   pub visitors : item.visitors ≤ general.unique_visitors
   pub bytes : item.sums.bytes ≤ general.bandwidth
 
--- each item's sums fit
-abbrev pub ItemsFit : List ToldRow → Type 0
-ItemsFit rows = (key : Key) → SumsFit (of_item key rows)
-
 -- the general numbers with one day more
 abbrev pub with_day : General → ToldRow → General
 with_day general day = record {
@@ -72,16 +67,17 @@ pub record DayFits (general : General) (day : ToldRow) : Type 0 where
   pub visitors : general.unique_visitors + day.visitors < 2 ^ 64
   pub bytes : general.bandwidth + day.sums.bytes < 2 ^ 64
 
--- the groups of two keys by panel and parent
-abbrev pub group_order : Key → Key → Ordering
-group_order a b = ordering_then (nat_cmp (panel_number a.panel) (panel_number b.panel)) (text_cmp a.parent b.parent)
+-- the rows of a panel
+abbrev pub panel_rows : Panel → List ToldRow → List ToldRow
+panel_rows panel rows = filter (λ row. is_same_panel row.key.panel panel) rows
 
-abbrev pub by_group : ToldRow → ToldRow → Ordering
-by_group a b = group_order a.key b.key
+-- items of a panel by their groups
+abbrev pub by_parent : ToldRow → ToldRow → Ordering
+by_parent a b = text_cmp a.key.parent b.key.parent
 
 -- what an item's name feeds a hasher
 abbrev pub fed_name : Key → HashWrites
-fed_name key = u8 (panel_number key.panel) ++ str key.parent ++ str key.label ++ str key.method ++ str key.protocol
+fed_name key = str key.label ++ str key.parent
 
 -- some of a list that come first: none of the rest is less than one of them
 pub record ComeFirst (R : ToldRow → ToldRow → Ordering) (most : ℕ) (all first : List ToldRow) : Type 0 where

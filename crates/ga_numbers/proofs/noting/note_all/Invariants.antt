@@ -1,4 +1,4 @@
-use Rattle.std.proofs.Common.{◌≡◌, ◌≤◌, length}
+use Rattle.std.proofs.Common.{◌≡◌}
 use Rattle.std.specs.List.{IsDistinct}
 use Rattle.ga_shards.specs.Steps.{all_noted}
 use Rattle.ga_numbers.specs.Numbers.{places_of}
@@ -10,5 +10,4 @@ invariant-loop-item g l = record {
   numbers : l.numbers.items ≡ places_of g.T.PartialEq.eq l.initial.known l.yielded;
   noted : l.known ≡ all_noted g.T.PartialEq.eq l.initial.known l.yielded;
   distinct : IsDistinct g.T.PartialEq.eq l.initial.known → IsDistinct g.T.PartialEq.eq l.known;
-  grown : length l.initial.known ≤ length l.known;
 }

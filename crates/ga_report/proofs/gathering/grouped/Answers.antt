@@ -1,10 +1,11 @@
 use Rattle.std.proofs.Common.{ap, rules}
 use Rattle.std.specs.Ordering.{is_lt}
-use Rattle.std.proofs.lemmas.List.Sorted.{ranks_by, answers_always}
-use Rattle.ga_report.specs.Steps.Summed.{by_group}
-use Rattle.ga_report.proofs.Stretches.{by_group_total}
+use Rattle.std.proofs.lemmas.Fn.{always_returns_same}
+use Rattle.std.proofs.lemmas.List.Sorted.{ranks_by}
+use Rattle.ga_report.specs.Steps.Summed.{by_parent}
+use Rattle.ga_report.proofs.Stretches.{by_parent_total}
 use Rattle.ga_report.proofs.gathering.grouped.Goals as goal
 
 pub returns-clause-sorted : goal.returns-clause-sorted
 returns-clause-sorted c =
-    c.in_ok-sort_by.ensures.sorted (λ x y. is_lt (by_group x y)) (ranks_by by_group_total (λ x. x)) (answers_always _ _ _ (λ f a r f' k. ap is_lt (search rules)))
+    c.sort_unstable_by.ensures.sorted (λ x y. is_lt (by_parent x y)) (ranks_by by_parent_total (λ x. x)) (always_returns_same _ _ _ (λ a r f k. (ap is_lt (search rules), search rules)))

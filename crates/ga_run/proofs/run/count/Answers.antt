@@ -38,6 +38,11 @@ returns-in_err-total-clause-stops g c =
 pub summary-requires : goal.summary-requires
 summary-requires g c = countable-total _ _ _ _ c.in_ok-total.ensures.ok.counts
 
+pub returns-in_err-run-clause-sure : goal.returns-in_err-run-clause-sure
+returns-in_err-run-clause-sure g c = λ _.
+    let p = err_from_is_err_and c.from_residual-in_err-run.result c.from_residual-in_err-run.ensures.1 in
+    rw (p.1, p.2) tt
+
 pub returns-in_err-run-clause-stops : goal.returns-in_err-run-clause-stops
 returns-in_err-run-clause-stops g c =
     let s = c.args.settings.now in
@@ -59,6 +64,11 @@ whole-requires g c =
     subst (λ (start : Start). CountsLogs c.args.setup.now start s.generate c.items-names.result.now c.in_ok-entries.entries c.count_logs.new.entries (g.F.Files.view c.args.files.now) (g.F.Files.view c.count_logs.new.files) c.in_ok-total.total) c.start-start.ensures
     c.in_ok-total.ensures.ok in
     whole-fits c.args.setup.now s stored _ c.in_ok-run.run' c.sound.ensures (sum-lines c.args.setup.now (start_of s stored).totals _ c.in_ok-total.total c.in_ok-run.run' counts.counts c.in_ok-run.ensures)
+
+pub returns-in_err-whole-clause-sure : goal.returns-in_err-whole-clause-sure
+returns-in_err-whole-clause-sure g c = λ _.
+    let p = err_from_is_err_and c.from_residual-in_err-whole.result c.from_residual-in_err-whole.ensures.1 in
+    rw (p.1, p.2) tt
 
 pub returns-in_err-whole-clause-stops : goal.returns-in_err-whole-clause-stops
 returns-in_err-whole-clause-stops g c =

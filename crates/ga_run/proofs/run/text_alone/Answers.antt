@@ -41,6 +41,32 @@ returns-in_err-total-clause-stops g c =
 pub told-requires : goal.told-requires
 told-requires g c = countable-total _ _ _ _ c.in_ok-total.ensures.ok.counts
 
+pub returns-in_err-told-clause-stops : goal.returns-in_err-told-clause-stops
+returns-in_err-told-clause-stops g c =
+    let s = c.args.settings.now in
+    let before = g.F.Files.view c.args.files.now in
+    let after = g.F.Files.view c.count_logs.new.files in
+    let entries = c.in_ok-entries.entries in
+    let total = c.in_ok-total.total in
+    let counts =
+    subst (λ (start : Start). CountsLogs c.args.setup.now start s.generate s.logs entries c.count_logs.new.entries before after total) c.start-start.ensures
+    (subst (λ (names : List (List ℕ)). CountsLogs c.args.setup.now c.start-start.result s.generate names entries c.count_logs.new.entries before after total) c.items-names.ensures c.in_ok-total.ensures.ok) in
+    let p = err_from_is_err_and c.from_residual-in_err-told.result c.from_residual-in_err-told.ensures.1 in
+    rw (p.1, p.2) (inr (refl, inr (record { entries = entries; begin = c.in_ok-entries.ensures; entries' = c.count_logs.new.entries; total = total; counts = counts })))
+
+pub returns-in_err-text-clause-stops : goal.returns-in_err-text-clause-stops
+returns-in_err-text-clause-stops g c =
+    let s = c.args.settings.now in
+    let before = g.F.Files.view c.args.files.now in
+    let after = g.F.Files.view c.count_logs.new.files in
+    let entries = c.in_ok-entries.entries in
+    let total = c.in_ok-total.total in
+    let counts =
+    subst (λ (start : Start). CountsLogs c.args.setup.now start s.generate s.logs entries c.count_logs.new.entries before after total) c.start-start.ensures
+    (subst (λ (names : List (List ℕ)). CountsLogs c.args.setup.now c.start-start.result s.generate names entries c.count_logs.new.entries before after total) c.items-names.ensures c.in_ok-total.ensures.ok) in
+    let p = err_from_is_err_and c.from_residual-in_err-text.result c.from_residual-in_err-text.ensures.1 in
+    rw (p.1, p.2) (inr (refl, inr (record { entries = entries; begin = c.in_ok-entries.ensures; entries' = c.count_logs.new.entries; total = total; counts = counts })))
+
 pub returns-clause-ok : goal.returns-clause-ok
 returns-clause-ok g c =
     let s = c.args.settings.now in

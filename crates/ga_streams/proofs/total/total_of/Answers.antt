@@ -1,12 +1,9 @@
 use Rattle.std.proofs.Common.{◌≡◌, ◌∷◌, ◌++◌, [], ◌≢◌, ◌<◌, List, append_assoc, append-nil, ap, arith, length, remove, subst, sym, vec_len, ◌∙◌}
 use Rattle.std.proofs.lemmas.Bool.{eqb-true, eqb-false}
 use Rattle.std.specs.Vec.Iter.{into_iter_items}
-use Rattle.std.proofs.lemmas.Result.{IfOk-weaker}
-use Rattle.ga_pool.specs.Together.{AreCounted}
 use Rattle.ga_streams.proofs.Absorbed.{absorbed-counted, absorbed-more, absorbed-one, first-removed, next-fits, none-counted}
 use Rattle.ga_streams.proofs.Counts.{no-items, tallies-fit}
-use Rattle.ga_summary.specs.Outcomes.{Outcome}
-use Rattle.ga_tallies.specs.Tallies.{IsTallyOf, TallySeen}
+use Rattle.ga_tallies.specs.Tallies.{TallySeen}
 use Rattle.ga_streams.specs.Steps.{AreAbsorbed}
 use Rattle.ga_streams.proofs.total.total_of.Goals as goal
 
@@ -31,10 +28,12 @@ loop-other-init g c =
 pub absorb-requires : goal.absorb-requires
 absorb-requires g c =
     let some = c.requires.some in
-    let steps = c.in-Some.ensures.steps.0 in
-    next-fits c.args.tallies.items (c.remove-tally.result ∷ c.loop-other.yielded) c.in-Some.other _ c.loop-other.tally
-    (c.loop-other.invariant.rest ∙ ap (λ (l : List TallySeen). c.remove-tally.result ∷ (c.loop-other.yielded ++ l)) steps) c.loop-other.invariant.absorbed
-    (tallies-fit some.0 c.args.tallies.items some.1 some.2)
+    let steps = c.in-Some.ensures.steps.0 in (
+      c.type_bounds.sync-R,
+      next-fits c.args.tallies.items (c.remove-tally.result ∷ c.loop-other.yielded) c.in-Some.other _ c.loop-other.tally
+          (c.loop-other.invariant.rest ∙ ap (λ (l : List TallySeen). c.remove-tally.result ∷ (c.loop-other.yielded ++ l)) steps) c.loop-other.invariant.absorbed
+          (tallies-fit some.0 c.args.tallies.items some.1 some.2),
+    )
 
 pub loop-other-preserved : goal.loop-other-preserved
 loop-other-preserved g c =
@@ -56,5 +55,4 @@ returns g c =
     let short : length rest.items ≡ 0 = omega (arith, c.in-None.ensures.steps.0, rest.ok) in
     let end = c.loop-other.invariant.rest ∙ ap (λ (l : List TallySeen). first ∷ (c.loop-other.yielded ++ l)) (no-items rest.items short) ∙ ap (λ (l : List TallySeen). first ∷ l) (append-nil c.loop-other.yielded) in
     let all = subst (λ (l : List TallySeen). AreAbsorbed l c.loop-other.tally) (sym end) c.loop-other.invariant.absorbed in
-    IfOk-weaker c.of.result (λ total. total ≡ c.loop-other.tally) (λ total. (outcomes : List Outcome) → AreCounted outcomes c.args.tallies.items → IsTallyOf outcomes total)
-    (λ total is. absorbed-counted c.args.tallies.items total (subst (AreAbsorbed c.args.tallies.items) (sym is) all)) c.of.ensures
+    absorbed-counted c.args.tallies.items c.of.result (subst (AreAbsorbed c.args.tallies.items) (sym c.of.ensures) all)

@@ -9,9 +9,9 @@ use Rattle.ga_numbers.proofs.key_numbers.KeyNumbers.into_dictionary.Goals as goa
 
 pub returns : goal.returns
 returns c =
-    let items = c.in_ok-into_items.field-0.items in
+    let items = c.in_ok-items.field-0.items in
     c.in_ok-note_all.ensures.noted
     ∙ ap (λ l. all_noted (λ (a b : Key). tests.eq a b) l items) c.new-keys.ensures
     ∙ ap (λ (same : Key → Key → Bool). all_noted same [] items) key-test
-    ∙ noted-whole is_same_key same-key key-laws items [] c.in_ok-into_items.ensures.distinct
-    ∙ c.in_ok-into_items.ensures.value
+    ∙ noted-whole is_same_key same-key key-laws items [] c.in_ok-items.ensures.distinct
+    ∙ c.in_ok-items.ensures.value

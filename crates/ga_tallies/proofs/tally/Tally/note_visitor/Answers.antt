@@ -13,5 +13,5 @@ returns-in_ok-number-in-Some c =
     let old = c.self.inside in
     let seen : TallySeen = record { totals = old.totals; keys = old.keys; visitors = old.visitors; sums = old.sums.items; pairs = old.pairs } in
     let new : TallySeen = record seen { visitors = c.number.new.self } in
-    let one = visitor-noted visitor n seen c.number.new.self c.in_ok-number-in-Some.ensures in
+    let one = visitor-noted visitor n seen c.number.new.self c.in_ok-number-in-Some.ensures.ok in
     subst (λ v. NotesVisitor (option_map visitor_of v) (Some n) c.args.self.now new) (sym c.in-Some.is) (n, refl, subst (λ (t : TallySeen). NotesOne visitor n t new) c.self.view_is one)

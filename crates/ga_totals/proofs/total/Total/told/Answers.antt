@@ -1,4 +1,4 @@
-use Rattle.std.proofs.Common.{◌≡◌, length, refl, sym, subst, arith}
+use Rattle.std.proofs.Common.{length, refl, sym, subst}
 use Rattle.ga_tallies.specs.Tallies.{IsTallyOf, lists_in, pairs_in}
 use Rattle.ga_totals.specs.Steps.Telling.{AreVisits}
 use Rattle.ga_totals.proofs.OfOutcomes.{rows-within}
@@ -7,22 +7,22 @@ use Rattle.ga_totals.proofs.total.Total.told.Goals as goal
 
 pub visits_of-requires : goal.visits_of-requires
 visits_of-requires c =
-    let many : c.len-2.result ≡ length c.self.inside.visitors.items = omega (arith, c.len-2.ensures, c.self.inside.visitors.ok) in
     let is = subst (IsTallyOf c.requires.outcomes) (sym c.self.view_is) c.requires.tally in
-    rw (many, c.deref.ensures.value) (rows-within c.requires.outcomes _ (lists_in c.self.inside.visits.items) is refl)
+    rw (c.len-2.ensures.value, c.deref.ensures.value) (rows-within c.requires.outcomes _ (lists_in c.self.inside.parts.visits.items) is refl)
 
 pub of-requires : goal.of-requires
 of-requires c =
-    let inside = c.self.inside in
-    let many : c.len.result ≡ length inside.keys.items = omega (arith, c.len.ensures, inside.keys.ok) in
+    let inside = c.self.inside.parts in
     let is = subst (IsTallyOf c.requires.outcomes) (sym c.self.view_is) c.requires.tally in
-    let are_visits : AreVisits (length inside.keys.items) (pairs_in (lists_in inside.visits.items)) c.in_ok-visits.visits.items = rw (many, c.deref.ensures.value) at c.in_ok-visits.ensures in
-    rw (c.deref-2.ensures.value, c.deref-3.ensures.value) (can-tell c.requires.outcomes _ is c.requires.countable _ are_visits c.self.invariant)
+    let are_visits : AreVisits (length inside.keys) (pairs_in (lists_in inside.visits.items)) c.in_ok-visits.visits.items = rw (c.len.ensures.value, c.deref.ensures.value) at c.in_ok-visits.ensures in
+    record {
+      can = rw (c.deref-2.ensures.value) (can-tell c.requires.outcomes _ is c.requires.countable _ are_visits c.self.invariant);
+      panels = c.in_ok-panels.ensures;
+    }
 
 pub returns : goal.returns
 returns c = λ xs tally can.
-    let inside = c.self.inside in
-    let many : c.len.result ≡ length inside.keys.items = omega (arith, c.len.ensures, inside.keys.ok) in
+    let inside = c.self.inside.parts in
     let is = subst (IsTallyOf xs) (sym c.self.view_is) tally in
-    let are_visits : AreVisits (length inside.keys.items) (pairs_in (lists_in inside.visits.items)) c.in_ok-visits.visits.items = rw (many, c.deref.ensures.value) at c.in_ok-visits.ensures in
-    rw (c.of.ensures, c.deref-2.ensures.value, c.deref-3.ensures.value) (tells-sum xs _ is can _ are_visits c.self.invariant)
+    let are_visits : AreVisits (length inside.keys) (pairs_in (lists_in inside.visits.items)) c.in_ok-visits.visits.items = rw (c.len.ensures.value, c.deref.ensures.value) at c.in_ok-visits.ensures in
+    rw (c.of.ensures, c.deref-2.ensures.value) (tells-sum xs _ is can _ are_visits c.self.invariant)

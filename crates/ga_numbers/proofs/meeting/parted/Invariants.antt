@@ -1,0 +1,8 @@
+use Rattle.std.proofs.Common.{◌≡◌, map}
+use Rattle.ga_numbers.proofs.meeting.parted.Given as goal
+
+abbrev pub invariant-loop-met : goal.invariant-loop-met
+invariant-loop-met l = record {
+  known : l.shards.items ≡ map (λ met. met.known) l.yielded;
+  stand : map (λ v. v.items) l.locals.items ≡ map (λ met. met.locals.items) l.yielded;
+}

@@ -1,0 +1,207 @@
+ghost use Rattle.std.specs.Prelude.{◌≡◌, ◌<◌, [], ℕ, List, Some, IfOk, IsTrue, OnErr, OnOk, length, map, slice_get, slice_index_or, vec_len};
+ghost use Rattle.std.specs.List.{IsDistinct};
+ghost use Rattle.ga_numbers.specs.Kept.{AreKept, AreShards, Grows, StandsAt, rows_in};
+ghost use Rattle.ga_numbers.specs.Numbers.{AreNoted, IsNumbered};
+ghost use Rattle.ga_numbers.specs.Rows.{is_same_row, moved_by, row_in};
+ghost use Rattle.ga_numbers.specs.declared.place.Place.{Place};
+
+use crate::hints::Hints;
+use crate::meeting::{assign_all, meet_all};
+use crate::noting::note;
+use crate::place::{Place, assign};
+use crate::row::{Row, RowRef, shard_of};
+use ga_base::NoMemory;
+use ga_shards::{Dictionary, Keyed};
+use std::alloc::Global;
+use std::marker::Model;
+use std::thread::Threads;
+
+/// So many shards there are.
+const SHARDS: usize = 8;
+
+/// Different rows, in the order in which they were first noted. Contracts see the list of them.
+///
+/// A row stands in a shard by its text, and the place of each number says which row has it. A shard may have rows that have no
+/// number, where memory ran out as they were noted.
+#[derive(Drop)]
+pub(crate) struct Rows {
+    /// The rows of each shard. There is none before the first row came.
+    shards: Vec<Dictionary<Row>>,
+    /// For each shard the numbers of its rows.
+    numbers: Vec<Vec<u32>>,
+    /// Where the row of each number stands.
+    places: Vec<Place>,
+    /// The numbers of the rows that came lately.
+    hints: Hints,
+    /// How the shards hash.
+    keyed: Keyed,
+}
+
+impl Model for Rows {
+    ghost use Rattle.std.specs.Prelude.{List, map};
+    ghost use Rattle.ga_numbers.specs.Kept.{AreKept, rows_in};
+    ghost use Rattle.ga_numbers.specs.declared.row.Row.{Row};
+
+    ghost Value = { List Row };
+
+    ghost view = { λ r. rows_in r.shards.items r.places.items };
+
+    ghost invariant = { λ r. AreKept r.shards.items (map (λ l. l.items) r.numbers.items) r.places.items };
+}
+
+impl Rows {
+    /// No rows, which take no memory.
+    pub(crate) fn new(alloc: Global, keyed: Keyed) -> Rows
+        ensures { result ≡ [] }
+    {
+        Rows {
+            shards: Vec::new(alloc),
+            numbers: Vec::new(alloc),
+            places: Vec::new(alloc),
+            hints: Hints::new(alloc),
+            keyed,
+        }
+    }
+
+    /// How many rows there are.
+    pub(crate) fn len(&self) -> u32
+        ensures value { result ≡ length self.now }
+        ensures distinct { IsDistinct is_same_row self.now }
+    {
+        self.places.len() as u32
+    }
+
+    /// The row of this number.
+    pub(crate) fn row(&self, number: u32) -> &Row
+        requires { number < length self.now }
+        ensures { slice_get self.now number ≡ Some result.now }
+    {
+        let place = self.places[number as usize];
+        self.shards[place.shard as usize].item(place.local)
+    }
+
+    /// Notes a row, and gives its number. Where the row stands at its hint it has been noted, and none is made. After an `Err`
+    /// the rows are as they were.
+    pub(crate) fn number(&mut self, alloc: Global, row: RowRef<'_>) -> Result<u32, NoMemory>
+        ensures ok { IfOk result (λ number. IsNumbered is_same_row (row_in row.entry) number self.old self.new) }
+        ensures err { OnErr result (self.new ≡ self.old) }
+    {
+        let hash = row.hint();
+        match self.hints.get(hash) {
+            Some(hint) if self.stands(hint, &row) => return Ok(hint),
+            _ => {}
+        }
+        self.hints.make_room()?;
+        open(alloc, self.keyed, &mut self.shards, &mut self.numbers)?;
+        let place = put(alloc, &mut self.shards, row)?;
+        let number = assign(&mut self.numbers, &mut self.places, place)?;
+        self.hints.set(hash, number);
+        Ok(number)
+    }
+
+    /// Notes other rows, whose frames have these numbers here, and gives the number of each. The shards are noted side by side.
+    /// Where there are no other rows no thread is started.
+    pub(crate) fn absorb<R: Threads + Sync>(
+        self,
+        rt: &R,
+        alloc: Global,
+        more: Rows,
+        frames: &[u32],
+    ) -> Result<(Rows, Vec<u32>), NoMemory>
+        ensures { IfOk result (λ grown. AreNoted is_same_row (map (moved_by frames.now) more) grown.1.items self grown.0) }
+    {
+        if more.len() == 0 {
+            return Ok((self, Vec::new(alloc)));
+        }
+        let Rows {
+            mut shards,
+            mut numbers,
+            mut places,
+            hints,
+            keyed,
+        } = self;
+        let Rows {
+            shards: mut others,
+            numbers: mut other_numbers,
+            places: order,
+            ..
+        } = more;
+        open(alloc, keyed, &mut shards, &mut numbers)?;
+        open(alloc, keyed, &mut others, &mut other_numbers)?;
+        let (shards, locals) = meet_all(rt, alloc, shards, others, frames)?;
+        let given = assign_all(alloc, &mut numbers, &mut places, &order, &locals)?;
+        let rows = Rows {
+            shards,
+            numbers,
+            places,
+            hints,
+            keyed,
+        };
+        Ok((rows, given))
+    }
+
+    /// Whether a row stands at this number.
+    fn stands(&self, number: u32, row: &RowRef<'_>) -> bool
+        ensures { IsTrue result → IsNumbered is_same_row (row_in row.now) number self.now self.now }
+    {
+        number < self.len() && row.is(self.row(number))
+    }
+}
+
+/// Makes the shards, where there is none.
+fn open(
+    alloc: Global,
+    keyed: Keyed,
+    shards: &mut Vec<Dictionary<Row>>,
+    numbers: &mut Vec<Vec<u32>>,
+) -> Result<(), NoMemory>
+    requires { AreShards shards.old.items }
+    ensures many { OnOk result (vec_len shards.new ≡ 8) }
+    ensures kept { (places : List Place) → AreKept shards.old.items (map (λ l. l.items) numbers.old.items) places
+        → AreKept shards.new.items (map (λ l. l.items) numbers.new.items) places }
+    ensures same { (places : List Place) → AreKept shards.old.items (map (λ l. l.items) numbers.old.items) places
+        → rows_in shards.new.items places ≡ rows_in shards.old.items places }
+{
+    if shards.len() == 0 {
+        let vacant = vacant_shards(alloc, keyed)?;
+        *numbers = no_numbers(alloc)?;
+        *shards = vacant;
+    }
+    Ok(())
+}
+
+/// Shards without rows.
+fn vacant_shards(alloc: Global, keyed: Keyed) -> Result<Vec<Dictionary<Row>>, NoMemory>
+    ensures many { IfOk result (λ shards. vec_len shards ≡ 8) }
+    ensures each { IfOk result (λ shards. (s : ℕ) → slice_index_or shards.items s [] ≡ []) }
+{
+    let mut shards = Vec::with_capacity(alloc, SHARDS)?;
+    for _ in 0..SHARDS {
+        shards.push(Dictionary::new(alloc, keyed))?;
+    }
+    Ok(shards)
+}
+
+/// No numbers for each shard.
+fn no_numbers(alloc: Global) -> Result<Vec<Vec<u32>>, NoMemory>
+    ensures { IfOk result (λ numbers. vec_len numbers ≡ 8) }
+{
+    let mut numbers = Vec::with_capacity(alloc, SHARDS)?;
+    for _ in 0..SHARDS {
+        numbers.push(Vec::new(alloc))?;
+    }
+    Ok(numbers)
+}
+
+/// Puts a row into the shard of its text, where it isn't there, and tells its place.
+fn put(alloc: Global, shards: &mut Vec<Dictionary<Row>>, row: RowRef<'_>) -> Result<Place, NoMemory>
+    requires { vec_len shards.old ≡ 8 }
+    ensures stands { IfOk result (λ place. StandsAt shards.new.items place (row_in row.entry)) }
+    ensures within { IfOk result (λ place. place.shard < 8) }
+    ensures shards { AreShards shards.old.items → AreShards shards.new.items }
+    ensures grown { AreShards shards.old.items → Grows shards.old.items shards.new.items }
+{
+    let shard = shard_of(row.text);
+    let local = note(&mut shards[shard as usize], row.to_row(alloc)?)?;
+    Ok(Place { shard, local })
+}
