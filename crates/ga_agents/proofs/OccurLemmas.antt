@@ -1,11 +1,33 @@
 -- Where a token stands, and how the first entry of a list is found.
-use Rattle.std.proofs.Common.{◌≡◌, ℕ, ◌+◌, ◌<◌, ◌≤◌, List, [], ◌∷◌, ◌++◌, length, take, drop, get_or, map, Option, Some, None, MatchOption, refl, sym, ap, ◌∙◌, subst, arith, length-append, length-take-le, take-append-drop, append_assoc, ⊎_elim}
-use Rattle.std.proofs.lemmas.List.{drop_at, take_more, drop_more, map-append}
+use Rattle.std.proofs.Common.{◌≡◌, ℕ, ◌+◌, ◌-◌, ◌<◌, ◌≤◌, List, [], ◌∷◌, ◌++◌, length, take, drop, get_or, map, Option, Some, None, MatchOption, refl, sym, ap, ◌∙◌, subst, arith, length-append, length-take-le, take-append-drop, append_assoc, ⊎_elim}
+use Rattle.std.proofs.lemmas.List.{get_or-append_right, get_or_append_left, drop_at, take_more, drop_more, map-append}
 use Rattle.std.proofs.lemmas.Bool.{cases_lt}
 use Rattle.std.specs.List.{AllByRecursion}
 use Rattle.std.specs.Str.Pattern.{FindsText, MatchBeginsAt}
+use Rattle.ga_agents.specs.declared.pair_set.PairSet.{PairSet}
 use Rattle.ga_agents.specs.Occurs.{Occurs, NoneOccurs, IsFirstEntry}
-use Rattle.ga_agents.specs.Steps.{IsPlace}
+use Rattle.ga_agents.specs.Steps.{IsPlace, IsSetOf, HasAllPairs, slot_of, slot_at}
+
+-- where a token occurs in an agent, its pairs are pairs of the agent
+byte_occurs : (front token rest : List ℕ) (i j : ℕ) → i < length token → j ≡ length front + i → get_or (front ++ (token ++ rest)) j 0 ≡ get_or token i 0
+byte_occurs front token rest i j inside at =
+    get_or-append_right front (token ++ rest) (length front) j 0 refl (omega (arith, at))
+    ∙ ap (λ k. get_or (token ++ rest) k 0) (omega (arith, at)) ∙ get_or_append_left token rest 0 i inside
+
+pair_occurs : (front token rest : List ℕ) (i : ℕ) → 1 ≤ i → i < length token → slot_at (front ++ (token ++ rest)) (length front + i) ≡ slot_at token i
+pair_occurs front token rest i low inside =
+    ap (λ b. slot_of b (get_or (front ++ (token ++ rest)) (length front + i) 0)) (byte_occurs front token rest (i - 1) (length front + i - 1) (omega (arith, low, inside)) (omega (arith, low)))
+    ∙ ap (λ b. slot_of (get_or token (i - 1) 0) b) (byte_occurs front token rest i (length front + i) inside refl)
+
+-- so a token with a pair that the agent lacks doesn't occur there
+pub lacking_none : (set : PairSet) (token agent : List ℕ) → IsSetOf set agent → ¬ HasAllPairs set token → ¬ Occurs token agent
+lacking_none set token agent is lacks = λ o. lacks (λ i low inside.
+    (is (slot_at token i)).1 (
+      length o.0 + i,
+      omega (arith, low),
+      omega (arith, inside, ap length o.2, length-append o.0 (token ++ o.1), length-append token o.1),
+      ap (λ a. slot_at a (length o.0 + i)) o.2 ∙ pair_occurs o.0 token o.1 i low inside,
+    ))
 
 -- what `find` of std answers, in our words
 pub place_found : (token agent : List ℕ) (r : Option ℕ) → MatchOption r (FindsText token agent None) (MatchBeginsAt (FindsText token) agent) → MatchOption r (¬ Occurs token agent) (IsPlace token agent)

@@ -1,10 +1,11 @@
 -- What the steps promise to one another: the words of functions that only this crate calls.
-use Rattle.std.specs.Prelude.{◌≡◌, ◌≢◌, ℕ, ◌+◌, ◌≤◌, List, [], ◌∷◌, ◌++◌, length, take, drop, Bool, not, ◌==◌}
-use Rattle.std.specs.List.{AllByRecursion}
+use Rattle.std.specs.Prelude.{◌≡◌, ◌≢◌, ◌↔◌, ℕ, ◌+◌, ◌-◌, ◌*◌, ◌%◌, ◌<◌, ◌≤◌, List, [], ◌∷◌, ◌++◌, length, take, drop, Bool, false, not, ◌==◌, IsTrue, slice_index}
+use Rattle.std.specs.List.{AllByRecursion, slice_index_or}
 use Rattle.std.specs.Str.{IsCharBoundary}
 use Rattle.ga_agents.specs.declared.classes.Found.{Found}
 use Rattle.ga_agents.specs.declared.fault.RuleFault.{RuleFault}
 use Rattle.ga_agents.specs.declared.fault.RuleFault.TheVariants.{RuleFault as BadLine, NoMemory}
+use Rattle.ga_agents.specs.declared.pair_set.PairSet.{PairSet}
 use Rattle.ga_agents.specs.declared.row.Row.{Row}
 use Rattle.ga_agents.specs.declared.row.Row.TheVariants.{PassedOver, Entry}
 use Rattle.ga_agents.specs.declared.row.Rule.{Rule}
@@ -20,6 +21,26 @@ rule_of entry = rule entry.0.now entry.1.now
 
 abbrev pub system_of : SystemEntry → System
 system_of entry = system entry.0.now entry.1.now entry.2.now
+
+-- the slot of a pair of bytes
+abbrev pub slot_of : ℕ → ℕ → ℕ
+slot_of first second = (first * 31 + second) % 256
+
+-- the slot of the pair of neighbours in a text that ends at this place
+abbrev pub slot_at : List ℕ → ℕ → ℕ
+slot_at text i = slot_of (slice_index text (i - 1)) (slice_index text i)
+
+-- whether a slot is in a set
+abbrev pub has_slot : PairSet → ℕ → Bool
+has_slot set slot = slice_index_or set.flags slot false
+
+-- the slots in the set are those of the text's pairs
+abbrev pub IsSetOf : PairSet → List ℕ → Type 0
+IsSetOf set text = (slot : ℕ) → IsTrue (has_slot set slot) ↔ ((i : ℕ) × (1 ≤ i) × (i < length text) × (slot_at text i ≡ slot))
+
+-- the slot of each pair of the token is in the set
+abbrev pub HasAllPairs : PairSet → List ℕ → Type 0
+HasAllPairs set token = (i : ℕ) → 1 ≤ i → i < length token → IsTrue (has_slot set (slot_at token i))
 
 -- the first place of the token in the agent, and the agent may be cut there and behind the token
 pub record IsPlace (token agent : List ℕ) (at : ℕ) : Type 0 where

@@ -8,6 +8,7 @@ ghost use Rattle.ga_agents.specs.Steps.{IsFound, IsPlace};
 ghost use Rattle.ga_agents.specs.Tables.{builtin_rules};
 
 use crate::Rule;
+use crate::agent_text::AgentText;
 use crate::entries::first_entry;
 use crate::tables::{browsers, system_entries};
 
@@ -38,12 +39,12 @@ pub(crate) struct System {
 }
 
 /// The browser of an agent, by these rules and then the built-in ones.
-pub(crate) fn browser_in<'a>(rules: &'a [Rule], agent: &'a str) -> Browser<'a>
+pub(crate) fn browser_in<'a>(rules: &'a [Rule], agent: &AgentText<'a>) -> Browser<'a>
     ensures { HasBrowser (rules.now ++ builtin_rules) agent.now result.name.now result.category.now }
 {
     match found_in(rules, agent) {
         Some(found) => Browser {
-            name: browser_text(agent, found.token, found.at),
+            name: browser_text(agent.as_str(), found.token, found.at),
             category: found.category,
         },
         None => Browser {
@@ -54,7 +55,7 @@ pub(crate) fn browser_in<'a>(rules: &'a [Rule], agent: &'a str) -> Browser<'a>
 }
 
 /// The system of an agent.
-pub(crate) fn system_in(agent: &str) -> System
+pub(crate) fn system_in(agent: &AgentText<'_>) -> System
     ensures { HasSystem agent.now result.name.now result.group.now }
 {
     match first_entry(system_entries(), agent) {
@@ -70,7 +71,7 @@ pub(crate) fn system_in(agent: &str) -> System
 }
 
 /// The first of these rules, and then of the built-in ones, whose token the agent has.
-pub(crate) fn found_in<'a>(rules: &'a [Rule], agent: &str) -> Option<Found<'a>>
+pub(crate) fn found_in<'a>(rules: &'a [Rule], agent: &AgentText<'_>) -> Option<Found<'a>>
     ensures { MatchOption result (NoneOccurs (λ (r : RuleSpec). r.token) (rules.now ++ builtin_rules) agent.now) (IsFound (rules.now ++ builtin_rules) agent.now) }
 {
     if let Some((rule, at)) = first_entry(rules, agent) {

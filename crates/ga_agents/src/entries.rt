@@ -1,6 +1,8 @@
 ghost use Rattle.std.specs.Prelude.{◌≡◌, MatchOption};
-ghost use Rattle.ga_agents.specs.Occurs.{Occurs, NoneOccurs, IsFirstEntry};
+ghost use Rattle.ga_agents.specs.Occurs.{NoneOccurs, IsFirstEntry};
 ghost use Rattle.ga_agents.specs.Steps.{IsPlace};
+
+use crate::agent_text::AgentText;
 
 /// An entry of a list that is searched for the first whose token an agent has.
 pub(crate) trait HasToken {
@@ -14,20 +16,16 @@ pub(crate) trait HasToken {
 }
 
 /// The first entry whose token is a substring of the agent, and the token's first place there.
-pub(crate) fn first_entry<'a, E: HasToken>(entries: &'a [E], agent: &str) -> Option<(&'a E, usize)>
+pub(crate) fn first_entry<'a, E: HasToken>(
+    entries: &'a [E],
+    agent: &AgentText<'_>,
+) -> Option<(&'a E, usize)>
     ensures { MatchOption result (NoneOccurs E.token_of entries.now agent.now) (λ found. IsFirstEntry E.token_of entries.now agent.now found.0.now × IsPlace (E.token_of found.0.now) agent.now found.1) }
 {
     for entry in entries {
-        if let Some(at) = first_place(agent, entry.token()) {
+        if let Some(at) = agent.find(entry.token()) {
             return Some((entry, at));
         }
     }
     None
-}
-
-/// The first place of the token in the agent.
-fn first_place(agent: &str, token: &str) -> Option<usize>
-    ensures { MatchOption result (¬ Occurs token.now agent.now) (IsPlace token.now agent.now) }
-{
-    agent.find(token)
 }

@@ -8,10 +8,12 @@
 #![tactic(auto)]
 
 mod agent;
+mod agent_text;
 mod classes;
 mod entries;
 mod fault;
 pub mod laws;
+mod pair_set;
 mod row;
 mod rules;
 mod tables;

@@ -5,6 +5,7 @@ ghost use Rattle.ga_agents.specs.Classes.{HasNames, IsAgent, IsCrawler, agent_of
 ghost use Rattle.ga_agents.specs.RulesFile.{FileGives, IsBadLine, IsFileFault, LineGives, UnlessNoMemory};
 ghost use Rattle.ga_agents.specs.Steps.{IsLineFault};
 
+use crate::agent_text::AgentText;
 use crate::classes::{browser_in, found_in, system_in};
 use crate::row::{Row, row_of};
 use crate::{Agent, Class, Rule, RuleFault};
@@ -77,8 +78,9 @@ impl Rules {
         ensures agent { IsAgent self.now agent.now (agent_of result) }
         ensures named { HasNames (agent_of result) }
     {
-        let browser = browser_in(self.file.items(), agent);
-        let system = system_in(agent);
+        let agent = AgentText::of(agent);
+        let browser = browser_in(self.file.items(), &agent);
+        let system = system_in(&agent);
         Class {
             browser: browser.name,
             category: browser.category,
@@ -101,7 +103,7 @@ impl Rules {
         ensures crawler { IsTrue result ↔ IsCrawler self.now agent.now }
         ensures agrees { (answer : AgentSpec) → IsAgent self.now agent.now answer → result ≡ answer.crawler }
     {
-        match found_in(self.file.items(), agent.as_str()) {
+        match found_in(self.file.items(), &AgentText::of(agent.as_str())) {
             Some(found) => is_crawlers(found.category),
             None => false,
         }

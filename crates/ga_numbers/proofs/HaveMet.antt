@@ -1,5 +1,5 @@
 -- Shards that met: the rows of others stand in them.
-use Rattle.std.proofs.Common.{◌≡◌, ℕ, zero, suc, ◌+◌, ◌<◌, ◌≤◌, List, [], ◌∷◌, ◌++◌, length, get_or, map, Some, Result, Ok, Err, IfOk, ◌⊎◌, refl, sym, ap, ◌∙◌, subst, arith, ⊎_elim}
+use Rattle.std.proofs.Common.{◌≡◌, ℕ, zero, suc, ◌<◌, ◌≤◌, List, [], ◌∷◌, ◌++◌, length, get_or, map, Some, Result, Ok, Err, IfOk, refl, sym, ap, ◌∙◌, subst, arith, ⊎_elim}
 use Rattle.std.specs.Prelude.{OnErr, slice_get}
 use Rattle.std.specs.Hash.FoldHasher as hashes
 use Rattle.std.specs.List.{All}
@@ -93,16 +93,16 @@ no-list-there (x ∷ lists) zero past = absurd (omega (arith, past))
 no-list-there (x ∷ lists) (suc s) past = no-list-there lists s (omega (arith, past))
 
 module _ (frames : List ℕ) (shards others new : List (List Row)) (locals : List (List ℕ)) (are : AreShards shards) (others-are : AreShards others) (met : HaveMet frames shards others new locals) where
-  moved-own : (s : ℕ) (rows : List Row) → All (λ (row : Row). shard_at row.text ≡ s) rows → All (λ (row : Row). shard_at row.text ≡ s) (map (moved_by frames) rows)
+  moved-own : (s : ℕ) (rows : List Row) → All (λ (row : Row). shard_at row ≡ s) rows → All (λ (row : Row). shard_at row ≡ s) (map (moved_by frames) rows)
   moved-own s rows own k d within =
       let inside : k < length rows = omega (arith, within, length-map rows (moved_by frames)) in
-      ap (λ (r : Row). shard_at r.text) (get_or-map (moved_by frames) rows k d d inside) ∙ own k d inside
+      ap (λ (r : Row). shard_at r) (get_or-map (moved_by frames) rows k d d inside) ∙ own k d inside
 
-  grown-by : (s : ℕ) → (more : List Row) × (get_or new s [] ≡ all_noted is_same_row (get_or shards s []) more) × All (λ (row : Row). shard_at row.text ≡ s) more
+  grown-by : (s : ℕ) → (more : List Row) × (get_or new s [] ≡ all_noted is_same_row (get_or shards s []) more) × All (λ (row : Row). shard_at row ≡ s) more
   grown-by s =
       ⊎_elim
       (λ within. (map (moved_by frames) (get_or others s []), (met.each s within).known, moved-own s (get_or others s []) (others-are.own s)))
-      (λ past. ([], no-list-there new s (omega (arith, past, met.many)) ∙ sym (no-list-there shards s past), All-nil (λ (row : Row). shard_at row.text ≡ s)))
+      (λ past. ([], no-list-there new s (omega (arith, past, met.many)) ∙ sym (no-list-there shards s past), All-nil (λ (row : Row). shard_at row ≡ s)))
       (cases_lt s (length shards))
 
   pub met-shards : AreShards new
@@ -111,11 +111,11 @@ module _ (frames : List ℕ) (shards others new : List (List Row)) (locals : Lis
   pub met-grows : Grows shards new
   met-grows = noted-grows shards new met.many (λ s. ((grown-by s).0, (grown-by s).1))
 
-  module _ (whole : length shards ≡ 8) (numbers : List (List ℕ)) (order : List Place) (named : AreNamed others numbers order) where
+  module _ (whole : length shards ≡ 64) (numbers : List (List ℕ)) (order : List Place) (named : AreNamed others numbers order) where
     -- a place of the others is in one of the shards
-    pub order-within : (p : Place) → IsRowAt others p → p.shard < 8
+    pub order-within : (p : Place) → IsRowAt others p → p.shard < 64
     order-within p within =
-        let own : shard_at (row_at others p).text ≡ p.shard = others-are.own p.shard p.local no_row within in
+        let own : shard_at (row_at others p) ≡ p.shard = others-are.own p.shard p.local no_row within in
         let below = mod_below (hashes.finish (hashes.write hashes.initial (row_at others p).text)) 8 (omega arith) in
         omega (arith, own, below)
 
@@ -143,7 +143,7 @@ module _ (frames : List ℕ) (shards others new : List (List Row)) (locals : Lis
     ordered : (k : ℕ) (d : Place) → k < length order → IsRowAt others (get_or order k d)
     ordered k d within = named.rows k (get_or order k d) (slice_get-get_or order k d within)
 
-    pub order-in : All (λ (p : Place). p.shard < 8) order
+    pub order-in : All (λ (p : Place). p.shard < 64) order
     order-in k d within = order-within (get_or order k d) (ordered k d within)
 
     pub order-stands : All (IsRowAt new) (map (met_at locals) order)

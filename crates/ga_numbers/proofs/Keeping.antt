@@ -1,6 +1,6 @@
 -- Rows in shards: a row has one place, and a place one number. So rows that are in the order of their numbers are different, and
 -- a row is noted among them by a look at its place.
-use Rattle.std.proofs.Common.{◌≡◌, ℕ, zero, suc, ◌+◌, ◌<◌, ◌≤◌, ◌^◌, false, List, [], ◌∷◌, ◌++◌, length, get_or, map, None, Some, refl, sym, ap, ◌∙◌, subst, arith, length-append, ⊎_elim, set}
+use Rattle.std.proofs.Common.{◌≡◌, ℕ, zero, suc, ◌+◌, ◌<◌, ◌≤◌, ◌^◌, false, List, [], ◌∷◌, ◌++◌, length, get_or, map, None, Some, refl, sym, ap, ◌∙◌, subst, arith, length-append, ⊎_elim}
 use Rattle.std.specs.Prelude.{slice_get}
 use Rattle.std.specs.List.{All, IsDistinct, list_any}
 use Rattle.std.proofs.lemmas.Bool.{cases_Bool, cases_lt, cond-false}
@@ -10,7 +10,7 @@ use Rattle.std.proofs.lemmas.List.Folds.{Any-from_list_any}
 use Rattle.std.proofs.lemmas.Map.Keys.{IsDistinct-from_apart}
 use Rattle.std.proofs.lemmas.Option.{slice_get-get_or, slice_get_within, get_or_from_slice_get}
 use Rattle.std.proofs.Math.Seq.{get_or-append_seam}
-use Rattle.ga_shards.specs.Numbers.{item_of, noted}
+use Rattle.ga_shards.specs.Numbers.{item_of}
 use Rattle.ga_shards.specs.Steps.{all_noted}
 use Rattle.ga_shards.proofs.Noting.{from-all, stays-distinct}
 use Rattle.ga_numbers.specs.Kept.{AreKept, AreNamed, AreShards, Grows, IsRowAt, StandsAt, no_row, row_at, rows_in}
@@ -48,7 +48,7 @@ module _ (shards : List (List Row)) (are : AreShards shards) where
   one-place p q in-p in-q same = place-made p q shard local
     where
       shard : p.shard ≡ q.shard
-      shard = sym (are.own p.shard p.local no_row in-p) ∙ ap (λ (r : Row). shard_at r.text) same ∙ are.own q.shard q.local no_row in-q
+      shard = sym (are.own p.shard p.local no_row in-p) ∙ ap (λ (r : Row). shard_at r) same ∙ are.own q.shard q.local no_row in-q
 
       in-p-too : p.local < length (get_or shards q.shard [])
       in-p-too = subst (λ s. p.local < length (get_or shards s [])) shard in-p
@@ -190,7 +190,7 @@ module _ (shards : List (List Row)) (numbers : List (List ℕ)) (places : List P
 
 -- shards in which rows were noted, each in its own
 pub noted-shards : (shards new : List (List Row)) → AreShards shards → length new ≡ length shards
-    → ((s : ℕ) → (more : List Row) × (get_or new s [] ≡ all_noted is_same_row (get_or shards s []) more) × All (λ (row : Row). shard_at row.text ≡ s) more) → AreShards new
+    → ((s : ℕ) → (more : List Row) × (get_or new s [] ≡ all_noted is_same_row (get_or shards s []) more) × All (λ (row : Row). shard_at row ≡ s) more) → AreShards new
 noted-shards shards new are long each = record {
   many = λ some. long ∙ are.many (omega (arith, some, long));
   different = λ s.
@@ -198,7 +198,7 @@ noted-shards shards new are long each = record {
       subst (IsDistinct is_same_row) (sym at.1) (stays-distinct is_same_row row-laws at.0 (get_or shards s []) (are.different s));
   own = λ s.
       let at = each s in
-      subst (All (λ (row : Row). shard_at row.text ≡ s)) (sym at.1) (from-all is_same_row row-laws (λ (row : Row). shard_at row.text ≡ s) at.0 (get_or shards s []) (are.own s) at.2);
+      subst (All (λ (row : Row). shard_at row ≡ s)) (sym at.1) (from-all is_same_row row-laws (λ (row : Row). shard_at row ≡ s) at.0 (get_or shards s []) (are.own s) at.2);
 }
 
 pub noted-grows : (shards new : List (List Row)) → length new ≡ length shards → ((s : ℕ) → (more : List Row) × (get_or new s [] ≡ all_noted is_same_row (get_or shards s []) more)) → Grows shards new
@@ -210,12 +210,12 @@ noted-grows shards new long each = record {
 }
 
 -- shards without rows, and no places
-pub vacant-kept : (shards : List (List Row)) (numbers : List (List ℕ)) → (0 < length shards → length shards ≡ 8) → ((s : ℕ) → get_or shards s [] ≡ []) → length numbers ≡ length shards → AreKept shards numbers []
+pub vacant-kept : (shards : List (List Row)) (numbers : List (List ℕ)) → (0 < length shards → length shards ≡ 64) → ((s : ℕ) → get_or shards s [] ≡ []) → length numbers ≡ length shards → AreKept shards numbers []
 vacant-kept shards numbers many vacant long = record {
   sharded = record {
     many = many;
     different = λ s. subst (IsDistinct is_same_row) (sym (vacant s)) (IsDistinct-from_apart is_same_row [] (λ i j d less within. let off : j < 0 = within in absurd (omega (arith, off))));
-    own = λ s. subst (All (λ (row : Row). shard_at row.text ≡ s)) (sym (vacant s)) (All-nil (λ (row : Row). shard_at row.text ≡ s));
+    own = λ s. subst (All (λ (row : Row). shard_at row ≡ s)) (sym (vacant s)) (All-nil (λ (row : Row). shard_at row ≡ s));
   };
   named = record {
     many = long;

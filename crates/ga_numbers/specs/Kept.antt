@@ -1,4 +1,4 @@
--- How rows are kept: each in the shard of its text, beside the place where the row of each number stands.
+-- How rows are kept: each in the shard of its day and its text, beside the place where the row of each number stands.
 use Rattle.std.specs.Prelude.{◌≡◌, ◌<◌, ◌^◌, ℕ, List, [], Some, length, map, slice_get, slice_index_or}
 use Rattle.std.specs.List.{All, IsDistinct}
 use Rattle.ga_shards.specs.Numbers.{item_of}
@@ -29,10 +29,10 @@ rows_in shards places = map (row_at shards) places
 
 -- shards of different rows
 pub record AreShards (shards : List (List Row)) : Type 0 where
-  pub many : 0 < length shards → length shards ≡ 8
+  pub many : 0 < length shards → length shards ≡ 64
   pub different : (s : ℕ) → IsDistinct is_same_row (slice_index_or shards s [])
-  -- each row is in the shard of its text
-  pub own : (s : ℕ) → All (λ (row : Row). shard_at row.text ≡ s) (slice_index_or shards s [])
+  -- each row is in the shard of its day and its text
+  pub own : (s : ℕ) → All (λ (row : Row). shard_at row ≡ s) (slice_index_or shards s [])
 
 -- a row stands at each place, and the shards know its number
 pub record AreNamed (shards : List (List Row)) (numbers : List (List ℕ)) (places : List Place) : Type 0 where

@@ -1,5 +1,6 @@
 -- Items but for what they share with others, which are called rows, and what they share, which is called their frame.
-use Rattle.std.specs.Prelude.{ℕ, ◌<◌, ◌%◌, Bool, List, length, All, slice_index_or}
+use Rattle.std.specs.Prelude.{ℕ, ◌<◌, ◌+◌, ◌*◌, ◌%◌, ◌++◌, Bool, List, length, All, slice_index_or}
+use Rattle.std.specs.Hash.{HashWrites, str, u64}
 use Rattle.std.specs.Hash.FoldHasher as hashes
 use Rattle.std.specs.List.{IsDistinct}
 use Rattle.ga_numbers.specs.contracts.row.RowPartialEq.TheImpl.{ghosts as rows}
@@ -14,9 +15,13 @@ is_same_row a b = rows.eq a b
 abbrev pub row_in : RowRef → Row
 row_in r = record { frame = r.frame; date = r.date; text = r.text.now }
 
--- in which shard the rows of a text are
-abbrev pub shard_at : List ℕ → ℕ
-shard_at text = hashes.finish (hashes.write hashes.initial text) % 8
+-- what a hasher is fed of a row
+abbrev pub fed_row : Row → HashWrites
+fed_row row = u64 row.frame ++ u64 row.date ++ str row.text
+
+-- in which shard a row is: one of the four of its day, which some other days share, by its text
+abbrev pub shard_at : Row → ℕ
+shard_at row = row.date % 16 * 4 + hashes.finish (hashes.write hashes.initial row.text) % 4
 
 -- each row's frame is one of these
 abbrev pub AreFramed : {F : Type 0} → List F → List Row → Type 0

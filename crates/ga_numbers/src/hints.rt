@@ -6,8 +6,8 @@ use std::mem;
 /// `MOST`.
 const FIRST: usize = 1 << 12;
 
-/// So many slots there are at most: beyond that they cost more cache than they save where all items are different.
-const MOST: usize = 1 << 17;
+/// So many slots there are at most: beyond that they cost more cache than they save.
+const MOST: usize = 1 << 15;
 
 /// A slot that nothing took.
 const VACANT: Slot = Slot { tag: 0, number: 0 };

@@ -2,7 +2,7 @@
 //!
 //! `KeyNumbers` and `VisitorNumbers` are seen as lists of different items. They keep what many items share once: a key's panel
 //! and its texts but the label, a visitor's agent. An item is then a `Row` of 24 bytes: the number of what it shares, a day and a
-//! text. Rows are kept in shards by their texts (`specs/Kept.antt`), so that those of others are noted side by side.
+//! text. Rows are kept in shards by their days and texts (`specs/Kept.antt`), so that those of others are noted side by side.
 //! `specs/Numbers.antt` says what a number is.
 #![tactic(auto)]
 

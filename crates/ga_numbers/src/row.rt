@@ -1,15 +1,20 @@
 ghost use Rattle.std.specs.Prelude.{◌≡◌, ◌<◌, IfOk, IsTrue};
-ghost use Rattle.ga_numbers.specs.Rows.{row_in, shard_at};
+ghost use Rattle.std.specs.Cmp.Rules.{comparing, hashing};
+ghost use Rattle.std.proofs.Common.{rules};
+ghost use Rattle.ga_numbers.specs.Rows.{fed_row, row_in, shard_at};
 
 use ga_base::{NoMemory, Noted, Text};
 use std::alloc::Global;
-use std::hash::{FoldHasher, Hasher};
+use std::hash::{FoldHasher, Hash, Hasher};
 
-/// So many shards the rows are in.
-const SHARDS: u64 = 8;
+/// So many days have shards of their own.
+const DAYS: u32 = 16;
+
+/// So many shards the rows of a day are in.
+const TEXTS: u32 = 4;
 
 /// An item, but for what it shares with others.
-#[derive(Debug, PartialEq, Eq, Hash, Clone, Drop)]
+#[derive(Debug, PartialEq, Eq, Clone, Drop)]
 pub(crate) struct Row {
     /// The number of what it shares.
     pub(crate) frame: u32,
@@ -17,6 +22,19 @@ pub(crate) struct Row {
     pub(crate) date: u32,
     /// The text of its own: a key's label, a visitor's host.
     pub(crate) text: Text,
+}
+
+impl Hash for Row {
+    ghost hash_input = { fed_row };
+
+    ghost respects_eq = { Prim.search (hashing, rules) };
+
+    /// Each number is a whole word, which costs a hasher less than half a word does.
+    fn hash<H: Hasher>(&self, state: &mut H) {
+        state.write_u64(u64::from(self.frame));
+        state.write_u64(u64::from(self.date));
+        self.text.hash(state);
+    }
 }
 
 impl Noted for Row {
@@ -64,13 +82,14 @@ impl<'a> RowRef<'a> {
     }
 }
 
-/// In which shard the rows of a text are. A hash of the standard library decides, which costs little: who makes texts that
-/// collide under it fills one shard, and its map is keyed.
-pub(crate) fn shard_of(text: &str) -> u32
-    ensures value { result ≡ shard_at text.now }
-    ensures within { result < 8 }
+/// In which shard a row is: one of the four of its day, by its text. Lines of a log come day by day, so while one lasts the
+/// shards that it needs are small and near the processor; and the rows of a single day are in four. A hash of the standard
+/// library decides, which costs little: who makes texts that collide under it fills one shard, and its map is keyed.
+pub(crate) fn shard_of(row: &RowRef<'_>) -> u32
+    ensures value { result ≡ shard_at (row_in row.now) }
+    ensures within { result < 64 }
 {
     let mut hasher = FoldHasher::default();
-    hasher.write(text.as_bytes());
-    (hasher.finish() % SHARDS) as u32
+    hasher.write(row.text.as_bytes());
+    row.date % DAYS * TEXTS + (hasher.finish() % u64::from(TEXTS)) as u32
 }

@@ -17,11 +17,11 @@ use std::marker::Model;
 use std::thread::Threads;
 
 /// So many shards there are.
-const SHARDS: usize = 8;
+const SHARDS: usize = 64;
 
 /// Different rows, in the order in which they were first noted. Contracts see the list of them.
 ///
-/// A row stands in a shard by its text, and the place of each number says which row has it. A shard may have rows that have no
+/// A row stands in a shard by its day and its text, and the place of each number says which row has it. A shard may have rows that have no
 /// number, where memory ran out as they were noted.
 #[derive(Drop)]
 pub(crate) struct Rows {
@@ -156,7 +156,7 @@ fn open(
     numbers: &mut Vec<Vec<u32>>,
 ) -> Result<(), NoMemory>
     requires { AreShards shards.old.items }
-    ensures many { OnOk result (vec_len shards.new ≡ 8) }
+    ensures many { OnOk result (vec_len shards.new ≡ 64) }
     ensures kept { (places : List Place) → AreKept shards.old.items (map (λ l. l.items) numbers.old.items) places
         → AreKept shards.new.items (map (λ l. l.items) numbers.new.items) places }
     ensures same { (places : List Place) → AreKept shards.old.items (map (λ l. l.items) numbers.old.items) places
@@ -172,7 +172,7 @@ fn open(
 
 /// Shards without rows.
 fn vacant_shards(alloc: Global, keyed: Keyed) -> Result<Vec<Dictionary<Row>>, NoMemory>
-    ensures many { IfOk result (λ shards. vec_len shards ≡ 8) }
+    ensures many { IfOk result (λ shards. vec_len shards ≡ 64) }
     ensures each { IfOk result (λ shards. (s : ℕ) → slice_index_or shards.items s [] ≡ []) }
 {
     let mut shards = Vec::with_capacity(alloc, SHARDS)?;
@@ -184,7 +184,7 @@ fn vacant_shards(alloc: Global, keyed: Keyed) -> Result<Vec<Dictionary<Row>>, No
 
 /// No numbers for each shard.
 fn no_numbers(alloc: Global) -> Result<Vec<Vec<u32>>, NoMemory>
-    ensures { IfOk result (λ numbers. vec_len numbers ≡ 8) }
+    ensures { IfOk result (λ numbers. vec_len numbers ≡ 64) }
 {
     let mut numbers = Vec::with_capacity(alloc, SHARDS)?;
     for _ in 0..SHARDS {
@@ -193,15 +193,15 @@ fn no_numbers(alloc: Global) -> Result<Vec<Vec<u32>>, NoMemory>
     Ok(numbers)
 }
 
-/// Puts a row into the shard of its text, where it isn't there, and tells its place.
+/// Puts a row into its shard, where it isn't there, and tells its place.
 fn put(alloc: Global, shards: &mut Vec<Dictionary<Row>>, row: RowRef<'_>) -> Result<Place, NoMemory>
-    requires { vec_len shards.old ≡ 8 }
+    requires { vec_len shards.old ≡ 64 }
     ensures stands { IfOk result (λ place. StandsAt shards.new.items place (row_in row.entry)) }
-    ensures within { IfOk result (λ place. place.shard < 8) }
+    ensures within { IfOk result (λ place. place.shard < 64) }
     ensures shards { AreShards shards.old.items → AreShards shards.new.items }
     ensures grown { AreShards shards.old.items → Grows shards.old.items shards.new.items }
 {
-    let shard = shard_of(row.text);
+    let shard = shard_of(&row);
     let local = note(&mut shards[shard as usize], row.to_row(alloc)?)?;
     Ok(Place { shard, local })
 }

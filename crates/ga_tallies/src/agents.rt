@@ -9,6 +9,7 @@ use ga_base::{NoMemory, Text};
 use std::alloc::Global;
 use std::hash::{FoldHasher, Hasher};
 use std::marker::Model;
+use std::mem;
 
 /// So many places there are for agents, once the first came.
 const PLACES: usize = 2048;
@@ -16,18 +17,23 @@ const PLACES: usize = 2048;
 /// An agent that came, and what it is.
 #[derive(Drop)]
 struct KnownAgent {
+    /// The hash of its text, which tells most others apart without a look at the text.
+    hash: u64,
     /// The agent as the line has it.
     text: Text,
     /// What the rules say of it.
     agent: Agent,
 }
 
-/// What the agents that came lately are, so that the rules aren't asked for each line. An agent is kept at the place that
-/// its text names, until another comes to that place. Contracts see the places.
+/// What the agents that came lately are, so that the rules aren't asked for each line. An agent is kept once it came twice to the
+/// place that its text names with no other between, and until another is kept there. So one that comes once takes no memory.
+/// Contracts see the places.
 #[derive(Drop)]
 pub struct Agents {
-    /// None before the first agent came, and then `PLACES`.
+    /// None before the first agent was kept, and then `PLACES`.
     places: Vec<Option<KnownAgent>>,
+    /// The hash of the last agent that came to each place unknown. None before the first came, and then `PLACES`.
+    came: Vec<u64>,
 }
 
 impl Model for Agents {
@@ -46,10 +52,11 @@ impl Agents {
     {
         Agents {
             places: Vec::new(alloc),
+            came: Vec::new(alloc),
         }
     }
 
-    /// Keeps what an agent is, where that isn't known.
+    /// Keeps what an agent is, where that isn't known and the agent was the last that came to its place.
     pub(crate) fn learn(
         &mut self,
         alloc: Global,
@@ -59,12 +66,26 @@ impl Agents {
         requires { AreAgents rules.now self.old }
         ensures { AreAgents rules.now self.new }
     {
-        if self.known(agent).is_some() {
+        let hash = hash_of(agent);
+        if self.known(hash, agent).is_some() || !self.has_come(hash)? {
             return Ok(());
         }
         let text = Text::of(alloc, agent)?;
         let agent = rules.classify(&text)?;
-        self.put(KnownAgent { text, agent })
+        self.put(KnownAgent { hash, text, agent })
+    }
+
+    /// Whether the last agent that came to its place unknown had this hash. Now one has that has it.
+    fn has_come(&mut self, hash: u64) -> Result<bool, NoMemory>
+        ensures { self.new ≡ self.old }
+    {
+        if self.came.is_empty() {
+            self.came = vec![in *self.came.allocator(); 0; PLACES]?;
+        }
+        match self.came.get_mut(place_of(hash)) {
+            Some(last) => Ok(mem::replace(last, hash) == hash),
+            None => Ok(false),
+        }
     }
 
     /// What an agent is: as it is kept, else as the rules say.
@@ -72,20 +93,20 @@ impl Agents {
         requires { AreAgents rules.now self.now }
         ensures { IsTold rules.now agent.now (agent_of result) }
     {
-        match self.known(agent) {
+        match self.known(hash_of(agent), agent) {
             Some(known) => class_in(known),
             None => rules.class_of(agent),
         }
     }
 
-    /// What is kept of an agent.
-    fn known(&self, agent: &str) -> Option<&Agent>
+    /// What is kept of an agent, whose text has this hash.
+    fn known(&self, hash: u64, agent: &str) -> Option<&Agent>
         ensures { (rules : List Rule) → AreAgents rules self.now →
             IfSome result (λ known. IsTold rules agent.now known.now) }
     {
-        let place = place_of(agent);
+        let place = place_of(hash);
         if place < self.places.len() {
-            kept_at(&self.places[place], agent)
+            kept_at(&self.places[place], hash, agent)
         } else {
             None
         }
@@ -97,28 +118,33 @@ impl Agents {
             AreAgents rules self.old → AreAgents rules self.new }
     {
         make_places(&mut self.places, PLACES)?;
-        let place = place_of(known.text.as_str());
+        let place = place_of(known.hash);
         put_at(&mut self.places, place, known);
         Ok(())
     }
 }
 
-/// What the agent at a place is, where it has this text.
-fn kept_at<'a>(place: &'a Option<KnownAgent>, text: &str) -> Option<&'a Agent>
+/// What the agent at a place is, where it has this hash and this text.
+fn kept_at<'a>(place: &'a Option<KnownAgent>, hash: u64, text: &str) -> Option<&'a Agent>
     ensures { (rules : List Rule) → IfSome place.now (λ known. IsTold rules known.text known.agent) →
         IfSome result (λ agent. IsTold rules text.now agent.now) }
 {
     match place {
-        Some(known) if known.text.as_str() == text => Some(&known.agent),
+        Some(known) if known.hash == hash && known.text.as_str() == text => Some(&known.agent),
         _ => None,
     }
 }
 
-/// The place of an agent with this text.
-fn place_of(text: &str) -> usize {
+/// A cheap hash of an agent's text.
+fn hash_of(text: &str) -> u64 {
     let mut hasher = FoldHasher::default();
     hasher.write(text.as_bytes());
-    hasher.finish() as usize % PLACES
+    hasher.finish()
+}
+
+/// The place of an agent whose text has this hash.
+fn place_of(hash: u64) -> usize {
+    hash as usize % PLACES
 }
 
 /// The same answer, borrowed.

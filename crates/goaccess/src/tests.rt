@@ -202,7 +202,7 @@ Report:
                       STATUS_CODES, REMOTE_USER, CACHE_STATUS, MIME_TYPE or
                       TLS_TYPE
 
-Working; these change no report, and have no effect yet:
+Working; these change no report:
   --jobs N            workers, 1 to 16; default 1
   --chunk-size N      lines that a worker takes at once, 1 to 32768; default
                       1024
