@@ -4,9 +4,10 @@ use Rattle.ga_base.specs.Orders.{is_same_key, is_same_visitor}
 use Rattle.ga_base.specs.declared.key.Key.{Key}
 use Rattle.ga_base.specs.declared.key.Visitor.{Visitor}
 use Rattle.ga_numbers.specs.KeyFrames.{IsKeyFrame, is_same_frame, key_at}
-use Rattle.ga_numbers.specs.VisitorFrames.{IsVisitorFrame, is_same_agent, visitor_at}
+use Rattle.ga_numbers.specs.Rows.{is_same_row}
+use Rattle.ga_numbers.specs.VisitorFrames.{IsAgent, visitor_at}
 use Rattle.ga_numbers.proofs.Framed.{Makes}
-use Rattle.ga_numbers.proofs.Same.{agent-laws, frame-laws, key-itself, same-agent, same-frame, same-key, same-visitor, visitor-itself}
+use Rattle.ga_numbers.proofs.Same.{frame-laws, key-itself, row-laws, same-frame, same-key, same-row, same-visitor, visitor-itself}
 
 pub makes-keys : Makes is_same_frame is_same_key IsKeyFrame key_at
 makes-keys = record {
@@ -29,12 +30,12 @@ makes-keys = record {
   only = λ f r q date text i. record { panel = f.panel; date = date i; parent = f.parent; label = text i; method = f.method; protocol = f.protocol };
 }
 
-pub makes-visitors : Makes is_same_agent is_same_visitor IsVisitorFrame visitor_at
+pub makes-visitors : Makes is_same_row is_same_visitor IsAgent visitor_at
 makes-visitors = record {
-  laws = agent-laws;
-  exact = same-agent;
+  laws = row-laws;
+  exact = same-row;
   itself = visitor-itself;
   exact-items = same-visitor;
-  says = λ f g r q plain other e. ((λ i. record { host = (plain.1 ∙ sym other.1) i; date = (plain.0 ∙ sym other.0) i; agent = (e i).agent }), ap (λ (v : Visitor). v.date) e, ap (λ (v : Visitor). v.host) e);
-  only = λ f r q date text i. record { host = text i; date = date i; agent = f.agent };
+  says = λ f g r q plain other e. ((λ i. record { frame = (plain.0 ∙ sym other.0) i; date = (plain.1 ∙ sym other.1) i; text = (e i).agent }), ap (λ (v : Visitor). v.date) e, ap (λ (v : Visitor). v.host) e);
+  only = λ f r q date text i. record { host = text i; date = date i; agent = f.text };
 }

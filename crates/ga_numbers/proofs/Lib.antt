@@ -9,3 +9,5 @@ pub mod Keeping
 pub mod Setting
 pub mod Giving
 pub mod HaveMet
+pub mod Meetings
+pub mod Agents

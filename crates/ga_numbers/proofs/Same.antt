@@ -15,7 +15,6 @@ use Rattle.ga_base.specs.Orders.{is_same_key, is_same_visitor, name_of, visitor_
 use Rattle.ga_base.proofs.OrderLemmas.{key_cmp_is, key_cmp_total, key_cmp_exact, name_cmp_total, name_cmp_exact, visitor_cmp_is, visitor_cmp_total, visitor_cmp_exact}
 use Rattle.ga_numbers.specs.KeyFrames.{is_same_frame}
 use Rattle.ga_numbers.specs.Rows.{is_same_row}
-use Rattle.ga_numbers.specs.VisitorFrames.{is_same_agent}
 use Rattle.ga_numbers.specs.declared.row.Row.{Row}
 
 both_true : (a b : Bool) → (a && b) ≡ true → (a ≡ true) × (b ≡ true)
@@ -94,13 +93,3 @@ frame-itself a = (λ i. key-test i a a) ∙ key-itself a
 
 pub frame-laws : IsEquivalence is_same_frame
 frame-laws = exact-laws is_same_frame frame-itself same-frame
-
--- and those of visitors are visitors
-pub same-agent : (a b : Visitor) → is_same_agent a b ≡ true → a ≡ b
-same-agent a b e = same-visitor a b (sym (λ i. visitor-test i a b) ∙ e)
-
-pub agent-itself : (a : Visitor) → is_same_agent a a ≡ true
-agent-itself a = (λ i. visitor-test i a a) ∙ visitor-itself a
-
-pub agent-laws : IsEquivalence is_same_agent
-agent-laws = exact-laws is_same_agent agent-itself same-agent

@@ -3,5 +3,6 @@ pub mod Numbers
 pub mod Refs
 pub mod Rows
 pub mod Kept
+pub mod Meetings
 pub mod KeyFrames
 pub mod VisitorFrames

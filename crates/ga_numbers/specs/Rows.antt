@@ -21,7 +21,7 @@ fed_row row = u64 row.frame ++ u64 row.date ++ str row.text
 
 -- in which shard a row is: one of the four of its day, which some other days share, by its text
 abbrev pub shard_at : Row → ℕ
-shard_at row = row.date % 16 * 4 + hashes.finish (hashes.write hashes.initial row.text) % 4
+shard_at row = hashes.finish (hashes.write hashes.initial row.text) % 4 * 16 + row.date % 16
 
 -- each row's frame is one of these
 abbrev pub AreFramed : {F : Type 0} → List F → List Row → Type 0

@@ -5,15 +5,56 @@ ghost use Rattle.ga_numbers.specs.Numbers.{IsNumbered};
 
 use crate::hints::Hints;
 use crate::noting::note;
-use ga_base::{Key, NoMemory};
+use ga_base::{Key, NoMemory, Panel};
 use ga_panels::KeyRef;
 use ga_shards::Dictionary;
 use std::alloc::Global;
 use std::hash::{FoldHasher, Hasher};
 
-/// Notes the frame of a key, and gives its number. Where the frame stands at its hint it has been noted, and none is made. After
-/// an `Err` the frames are as they were.
+/// Where the frames of keys may stand.
+#[derive(Drop)]
+pub(crate) struct FrameHints {
+    /// The number of the frame that came last in each panel: in most panels there is one alone.
+    last: [u32; Panel::COUNT],
+    /// The numbers of those that came lately.
+    lately: Hints,
+}
+
+impl FrameHints {
+    /// No hints, which take no memory.
+    pub(crate) fn new(alloc: Global) -> FrameHints {
+        FrameHints {
+            last: [0; Panel::COUNT],
+            lately: Hints::new(alloc),
+        }
+    }
+}
+
+/// Notes the frame of a key, and gives its number. Where the frame came last in its panel nothing is looked up. After an `Err`
+/// the frames are as they were.
 pub(crate) fn frame_number(
+    alloc: Global,
+    frames: &mut Dictionary<Key>,
+    hints: &mut FrameHints,
+    key: &KeyRef<'_>,
+) -> Result<u32, NoMemory>
+    ensures ok { IfOk result (λ number. IsNumbered is_same_frame (frame_of key.now) number frames.old frames.new) }
+    ensures distinct { IsDistinct is_same_frame frames.old → IsDistinct is_same_frame frames.new }
+    ensures plain { All IsKeyFrame frames.old → All IsKeyFrame frames.new }
+    ensures err { OnErr result (frames.new ≡ frames.old) }
+{
+    let panel = key.panel.number();
+    let last = hints.last[panel];
+    if stands_frame(frames, last, key) {
+        return Ok(last);
+    }
+    let number = frame_among(alloc, frames, &mut hints.lately, key)?;
+    hints.last[panel] = number;
+    Ok(number)
+}
+
+/// The same, for a frame that didn't come last. Where the frame stands at its hint it has been noted, and none is made.
+fn frame_among(
     alloc: Global,
     frames: &mut Dictionary<Key>,
     hints: &mut Hints,

@@ -5,8 +5,7 @@ ghost use Rattle.ga_numbers.specs.Numbers.{AreNoted, IsNumbered};
 ghost use Rattle.ga_numbers.specs.Refs.{key_lent};
 ghost use Rattle.ga_panels.specs.Refs.{key_of};
 
-use crate::hints::Hints;
-use crate::key_frame::frame_number;
+use crate::key_frame::{FrameHints, frame_number};
 use crate::lent_key::LentKey;
 use crate::noting::note_all;
 use crate::row::RowRef;
@@ -26,8 +25,8 @@ pub struct KeyNumbers {
     frames: Dictionary<Key>,
     /// The keys but for that.
     rows: Rows,
-    /// The numbers of the frames that came lately.
-    frame_hints: Hints,
+    /// Where the frames may stand.
+    frame_hints: FrameHints,
     /// How the dictionaries hash.
     keyed: Keyed,
 }
@@ -53,7 +52,7 @@ impl KeyNumbers {
         KeyNumbers {
             frames: Dictionary::new(alloc, keyed),
             rows: Rows::new(alloc, keyed),
-            frame_hints: Hints::new(alloc),
+            frame_hints: FrameHints::new(alloc),
             keyed,
         }
     }

@@ -15,7 +15,6 @@ mod noting;
 mod place;
 mod row;
 mod rows;
-mod visitor_frame;
 mod visitor_numbers;
 mod visitor_ref;
 

@@ -1,5 +1,8 @@
 ghost use Rattle.std.specs.Prelude.{◌≡◌, ◌<◌, ◌++◌, List, Ok, IfOk, All, map, slice_index_or, vec_len};
+ghost use Rattle.std.specs.List.{AllZip, flat_map};
+ghost use Rattle.std.specs.Global.{Vec as TheVec};
 ghost use Rattle.ga_numbers.specs.Kept.{AreNamed, AreShards, HaveMet, IsRowAt, met_at, rows_in};
+ghost use Rattle.ga_numbers.specs.Meetings.{HasMet};
 ghost use Rattle.ga_numbers.specs.Numbers.{AreNoted};
 ghost use Rattle.ga_numbers.specs.Rows.{is_same_row, moved_by};
 ghost use Rattle.ga_numbers.specs.declared.row.Row.{Row};
@@ -10,6 +13,7 @@ use crate::row::Row;
 use ga_base::NoMemory;
 use ga_shards::Dictionary;
 use std::alloc::Global;
+use std::mem;
 use std::thread::{self, Threads};
 
 /// A shard, and that of others whose rows are noted in it.
@@ -30,8 +34,11 @@ pub(crate) struct Grown {
     locals: Vec<u32>,
 }
 
+/// So many shards are put together by one thread.
+const GROUP: usize = 8;
+
 /// Notes the rows of other shards, whose frames have these numbers here, each in the shard at its place, and tells where each
-/// stands. The shards are noted side by side.
+/// stands. The shards are noted in groups, side by side.
 pub(crate) fn meet_all<R: Threads + Sync>(
     rt: &R,
     alloc: Global,
@@ -42,14 +49,36 @@ pub(crate) fn meet_all<R: Threads + Sync>(
     requires { vec_len shards ≡ vec_len others }
     ensures { IfOk result (λ met. HaveMet frames.now shards.items others.items met.0.items (map (λ l. l.items) met.1.items)) }
 {
-    let meetings = meetings_of(alloc, shards, others)?;
-    let work = move |meeting: Meeting| -> Result<Grown, NoMemory>
-        ensures { IfOk result (λ met. AreNoted is_same_row (map (moved_by frames.entry.now) meeting.more) met.locals.items meeting.known met.known) }
-    { met_of(alloc, meeting, frames) };
-    parted(
-        alloc,
-        gathered(alloc, thread::map_vec(rt, meetings, &work)?)?,
-    )
+    let groups = groups_of(alloc, meetings_of(alloc, shards, others)?)?;
+    let work = move |group: Vec<Meeting>| -> Result<Vec<Grown>, NoMemory>
+        ensures { IfOk result (λ met. AllZip (HasMet frames.entry.now) group.items met.items) }
+    { met_in_turn(alloc, group, frames) };
+    parted(alloc, gathered(alloc, thread::map_vec(rt, groups, &work)?)?)
+}
+
+/// The meetings in groups, in their order.
+fn groups_of(alloc: Global, meetings: Vec<Meeting>) -> Result<Vec<Vec<Meeting>>, NoMemory>
+    ensures { IfOk result (λ groups. flat_map (λ group. group.items) groups.items ≡ meetings.items) }
+{
+    let mut groups = Vec::new(alloc);
+    let mut rest = meetings;
+    while rest.len() > GROUP {
+        let more = rest.split_off(GROUP)?;
+        groups.push(mem::replace(&mut rest, more))?;
+    }
+    groups.push(rest)?;
+    Ok(groups)
+}
+
+/// The shards of a group after their meetings, one after the other.
+fn met_in_turn(alloc: Global, group: Vec<Meeting>, frames: &[u32]) -> Result<Vec<Grown>, NoMemory>
+    ensures { IfOk result (λ met. AllZip (HasMet frames.now) group.items met.items) }
+{
+    let mut all = Vec::with_capacity(alloc, group.len())?;
+    for meeting in group {
+        all.push(met_of(alloc, meeting, frames)?)?;
+    }
+    Ok(all)
 }
 
 /// A meeting for each shard with that of the others at its place.
@@ -75,20 +104,23 @@ fn meetings_of(
 
 /// One shard after the meeting.
 fn met_of(alloc: Global, meeting: Meeting, frames: &[u32]) -> Result<Grown, NoMemory>
-    ensures { IfOk result (λ met. AreNoted is_same_row (map (moved_by frames.now) meeting.more) met.locals.items meeting.known met.known) }
+    ensures { IfOk result (HasMet frames.now meeting) }
 {
     let Meeting { mut known, more } = meeting;
     let locals = note_rows(alloc, &mut known, more.into_items(alloc)?, frames)?;
     Ok(Grown { known, locals })
 }
 
-/// The values, where none of the results is want of memory.
-fn gathered(alloc: Global, results: Vec<Result<Grown, NoMemory>>) -> Result<Vec<Grown>, NoMemory>
-    ensures { IfOk result (λ all. results.items ≡ map Ok all.items) }
+/// The shards of all groups, where none of the results is want of memory.
+fn gathered(
+    alloc: Global,
+    results: Vec<Result<Vec<Grown>, NoMemory>>,
+) -> Result<Vec<Grown>, NoMemory>
+    ensures { IfOk result (λ all. (parts : List (TheVec Grown)) × (results.items ≡ map Ok parts) × (all.items ≡ flat_map (λ part. part.items) parts)) }
 {
-    let mut all = Vec::with_capacity(alloc, results.len())?;
+    let mut all = Vec::new(alloc);
     for result in results {
-        all.push(result?)?;
+        all.append(&mut result?)?;
     }
     Ok(all)
 }

@@ -1,4 +1,4 @@
-ghost use Rattle.std.specs.Prelude.{◌≡◌, ◌<◌, IfOk, IsTrue};
+ghost use Rattle.std.specs.Prelude.{◌≡◌, ◌↔◌, ◌<◌, IfOk, IsTrue};
 ghost use Rattle.std.specs.Cmp.Rules.{comparing, hashing};
 ghost use Rattle.std.proofs.Common.{rules};
 ghost use Rattle.ga_numbers.specs.Rows.{fed_row, row_in, shard_at};
@@ -68,7 +68,7 @@ impl<'a> RowRef<'a> {
 
     /// Whether a row is this one.
     pub(crate) fn is(&self, row: &Row) -> bool
-        ensures { IsTrue result → row.now ≡ row_in self.now }
+        ensures { IsTrue result ↔ (row.now ≡ row_in self.now) }
     {
         row.frame == self.frame && row.date == self.date && row.text.as_str() == self.text
     }
@@ -83,13 +83,14 @@ impl<'a> RowRef<'a> {
 }
 
 /// In which shard a row is: one of the four of its day, by its text. Lines of a log come day by day, so while one lasts the
-/// shards that it needs are small and near the processor; and the rows of a single day are in four. A hash of the standard
-/// library decides, which costs little: who makes texts that collide under it fills one shard, and its map is keyed.
+/// shards that it needs are small and near the processor. The four stand far apart, so that where shards are put together in
+/// groups, rows of a single day are in four of these. A hash of the standard library decides, which costs little: who makes
+/// texts that collide under it fills one shard, and its map is keyed.
 pub(crate) fn shard_of(row: &RowRef<'_>) -> u32
     ensures value { result ≡ shard_at (row_in row.now) }
     ensures within { result < 64 }
 {
     let mut hasher = FoldHasher::default();
     hasher.write(row.text.as_bytes());
-    row.date % DAYS * TEXTS + (hasher.finish() % u64::from(TEXTS)) as u32
+    (hasher.finish() % u64::from(TEXTS)) as u32 * DAYS + row.date % DAYS
 }

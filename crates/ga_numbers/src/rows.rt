@@ -21,8 +21,8 @@ const SHARDS: usize = 64;
 
 /// Different rows, in the order in which they were first noted. Contracts see the list of them.
 ///
-/// A row stands in a shard by its day and its text, and the place of each number says which row has it. A shard may have rows that have no
-/// number, where memory ran out as they were noted.
+/// A row stands in a shard by its day and its text, and the place of each number says which row has it. A shard may have rows
+/// that have no number, where memory ran out as they were noted.
 #[derive(Drop)]
 pub(crate) struct Rows {
     /// The rows of each shard. There is none before the first row came.

@@ -4,11 +4,9 @@ ghost use Rattle.ga_base.specs.Orders.{is_same_visitor};
 ghost use Rattle.ga_numbers.specs.Numbers.{AreNoted, IsNumbered};
 ghost use Rattle.ga_numbers.specs.Refs.{visitor_of};
 
-use crate::hints::Hints;
 use crate::noting::note_all;
 use crate::row::RowRef;
 use crate::rows::Rows;
-use crate::visitor_frame::agent_number;
 use crate::visitor_ref::VisitorRef;
 use ga_base::{NoMemory, Visitor};
 use ga_shards::{Dictionary, Keyed};
@@ -20,12 +18,10 @@ use std::thread::Threads;
 /// Different visitors, in the order in which they were first noted. Contracts see the list of them.
 #[derive(Drop)]
 pub struct VisitorNumbers {
-    /// What visitors share.
-    frames: Dictionary<Visitor>,
-    /// The visitors but for that.
+    /// The agents, each a row that shares nothing with others, on day 0.
+    agents: Rows,
+    /// The visitors but for their agents: what a row shares with others is the agent of this number.
     rows: Rows,
-    /// The numbers of the frames that came lately.
-    frame_hints: Hints,
     /// How the dictionaries hash.
     keyed: Keyed,
 }
@@ -33,14 +29,14 @@ pub struct VisitorNumbers {
 impl Model for VisitorNumbers {
     ghost use Rattle.std.specs.Prelude.{List};
     ghost use Rattle.ga_base.specs.declared.key.Visitor.{Visitor};
-    ghost use Rattle.ga_numbers.specs.VisitorFrames.{IsVisitorFrame, is_same_agent, visitors_in};
-    ghost use Rattle.ga_numbers.specs.Rows.{AreRowsOf};
+    ghost use Rattle.ga_numbers.specs.VisitorFrames.{IsAgent, visitors_in};
+    ghost use Rattle.ga_numbers.specs.Rows.{AreRowsOf, is_same_row};
 
     ghost Value = { List Visitor };
 
-    ghost view = { λ v. visitors_in v.frames v.rows };
+    ghost view = { λ v. visitors_in v.agents v.rows };
 
-    ghost invariant = { λ v. AreRowsOf is_same_agent IsVisitorFrame v.frames v.rows };
+    ghost invariant = { λ v. AreRowsOf is_same_row IsAgent v.agents v.rows };
 }
 
 impl VisitorNumbers {
@@ -49,9 +45,8 @@ impl VisitorNumbers {
         ensures { result ≡ [] }
     {
         VisitorNumbers {
-            frames: Dictionary::new(alloc, keyed),
+            agents: Rows::new(alloc, keyed),
             rows: Rows::new(alloc, keyed),
-            frame_hints: Hints::new(alloc),
             keyed,
         }
     }
@@ -69,16 +64,21 @@ impl VisitorNumbers {
         ensures ok { IfOk result (λ number. IsNumbered is_same_visitor (visitor_of visitor.now) number self.old self.new) }
         ensures err { OnErr result (self.new ≡ self.old) }
     {
+        let agent = RowRef {
+            frame: 0,
+            date: 0,
+            text: visitor.agent,
+        };
         let row = RowRef {
-            frame: agent_number(alloc, &mut self.frames, &mut self.frame_hints, visitor)?,
+            frame: self.agents.number(alloc, agent)?,
             date: visitor.date,
             text: visitor.host,
         };
         self.rows.number(alloc, row)
     }
 
-    /// Notes other visitors, and gives the number of each. Their rows are noted side by side. After an `Err`
-    /// none are known any more.
+    /// Notes other visitors, and gives the number of each. Their agents are noted side by side, and then their rows. After an
+    /// `Err` none are known any more.
     pub fn absorb<R: Threads + Sync>(
         &mut self,
         rt: &R,
@@ -89,18 +89,12 @@ impl VisitorNumbers {
     {
         let keyed = self.keyed;
         let known = mem::replace(self, VisitorNumbers::new(alloc, keyed));
-        let VisitorNumbers {
-            frames: mut shared,
-            rows,
-            frame_hints,
-            ..
-        } = known;
-        let frames = note_all(alloc, &mut shared, more.frames.into_items(alloc)?)?;
-        let (rows, numbers) = rows.absorb(rt, alloc, more.rows, &frames)?;
+        let VisitorNumbers { agents, rows, .. } = known;
+        let (agents, places) = agents.absorb(rt, alloc, more.agents, &[])?;
+        let (rows, numbers) = rows.absorb(rt, alloc, more.rows, &places)?;
         *self = VisitorNumbers {
-            frames: shared,
+            agents,
             rows,
-            frame_hints,
             keyed,
         };
         Ok(numbers)
@@ -137,7 +131,7 @@ impl VisitorNumbers {
         Ok(Visitor {
             host: row.text.clone()?,
             date: row.date,
-            agent: self.frames.item(row.frame).agent.clone()?,
+            agent: self.agents.row(row.frame).text.clone()?,
         })
     }
 }

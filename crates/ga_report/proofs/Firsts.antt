@@ -1,16 +1,20 @@
 -- The first of a list's elements in their order.
-use Rattle.std.proofs.Common.{◌≡◌, ℕ, zero, suc, ◌<◌, min, Bool, false, List, [], ◌∷◌, ◌++◌, length, get_or, take, map, filter, refl, sym, ap, ◌∙◌, subst, arith, All}
+use Rattle.std.proofs.Common.{◌≡◌, ℕ, zero, suc, ◌<◌, ◌≤◌, min, Bool, true, false, not, List, [], ◌∷◌, ◌++◌, length, get_or, take, map, filter, refl, sym, ap, ◌∙◌, subst, arith, All}
 use Rattle.std.specs.declared.cmp.Ordering.{Ordering}
 use Rattle.std.specs.Ordering.{is_lt}
 use Rattle.std.specs.Cmp.{IsTotalOrder}
 use Rattle.std.specs.List.{AllByRecursion}
 use Rattle.std.specs.List.Sorted.{IsPermutation, IsSorted, IsSplitAroundBy}
-use Rattle.std.proofs.lemmas.List.Elements.{All-filter, All-take, recursion_from_All}
-use Rattle.std.proofs.lemmas.List.Sorted.{All-permutation, IsPermutation-append_left, IsPermutation-append_right, IsPermutation-trans, length_permutation, ranks_by}
+use Rattle.std.proofs.Math.Bool.{not-not}
+use Rattle.std.proofs.Math.Seq.{take-append_seam}
+use Rattle.std.proofs.lemmas.List.{append-nil, append_assoc}
+use Rattle.std.proofs.lemmas.List.Elements.{All-append, All-filter, All-take, filter_passes, recursion_from_All}
+use Rattle.std.proofs.lemmas.List.Sorted.{All-permutation, IsPermutation-append_left, IsPermutation-append_right, IsPermutation-filter_both, IsPermutation-refl, IsPermutation-trans, length_permutation, ranks_by}
 use Rattle.ga_base.specs.declared.key.Key.{Key}
 use Rattle.ga_base.specs.declared.panel.Panel.{Panel}
+use Rattle.ga_shards.proofs.Room.{filter-short}
 use Rattle.ga_report.specs.Items.{order}
-use Rattle.ga_report.specs.Steps.Summed.{AreFirst, AreSummed, AreTop, ComeFirst, panel_rows, undate}
+use Rattle.ga_report.specs.Steps.Summed.{AreFirst, AreSummed, AreTop, ComeFirst, is_up_to, panel_rows, undate}
 use Rattle.ga_report.specs.Told.{ToldRow}
 use Rattle.ga_report.proofs.Arrangement.{ForItems, InPanel, are-items}
 use Rattle.ga_report.proofs.Lists.{all-weaker}
@@ -50,6 +54,43 @@ module _ {R : ToldRow → ToldRow → Ordering} (o : IsTotalOrder R) where
       behind : (k : ℕ) (d : ToldRow) → k < length front → (j : ℕ) (e : ToldRow) → j < length (x ∷ back) → is_lt (R (get_or (x ∷ back) j e) (get_or front k d)) ≡ false
       behind k d at zero e there = split.0 k d at
       behind k d at (suc j) e there = (ranks_by o (λ y. y)).chain (get_or back j e) x (get_or front k d) (split.1 j e (omega (arith, there))) (split.0 k d at)
+
+  -- where no more are wanted than there are, all come first
+  pub come-first-all : (most : ℕ) (all : List ToldRow) → length all ≤ most → ComeFirst R most all all
+  come-first-all most all few = record {
+    rest = [];
+    are_all = subst (IsPermutation all) (sym (append-nil all)) (IsPermutation-refl all);
+    before = λ k d at j e there. absurd (omega (arith, there));
+    many = omega (arith, few);
+  }
+
+  -- those that come first of what doesn't stand behind a bar, where that is enough, come first of all
+  pub come-first-of : (most : ℕ) (all first : List ToldRow) (bar : ToldRow) → most ≤ length (filter (is_up_to R bar) all) → ComeFirst R most (filter (is_up_to R bar) all) first → ComeFirst R most all first
+  come-first-of most all first bar enough come =
+      let near = filter (is_up_to R bar) all in
+      let far = filter (λ x. is_lt (R bar x)) all in
+      let split : IsPermutation all (near ++ far) = IsPermutation-filter_both (is_up_to R bar) (λ x. is_lt (R bar x)) (λ x. sym (not-not (is_lt (R bar x)))) all in
+      let moved : IsPermutation all (first ++ come.rest ++ far) = IsPermutation-trans _ _ _ split (IsPermutation-append_left far near (first ++ come.rest) come.are_all) in
+      let near-all : All (λ x. is_up_to R bar x ≡ true) (first ++ come.rest) = All-permutation (λ x. is_up_to R bar x ≡ true) near (first ++ come.rest) come.are_all (filter_passes (is_up_to R bar) all) in
+      let near-first : All (λ x. is_up_to R bar x ≡ true) first = subst (λ (xs : List ToldRow). All (λ x. is_up_to R bar x ≡ true) xs) (take-append_seam first come.rest)
+      (All-take (λ x. is_up_to R bar x ≡ true) (length first) (first ++ come.rest) near-all) in
+      record {
+        rest = come.rest ++ far;
+        are_all = subst (λ (xs : List ToldRow). IsPermutation all xs) (append_assoc first come.rest far) moved;
+        before = λ k d at. All-append (λ y. is_lt (R y (get_or first k d)) ≡ false) come.rest far (come.before k d at) (behind-far (get_or first k d) (near-first k d at));
+        many = come.many ∙ few;
+      }
+    where
+      few : min most (length (filter (is_up_to R bar) all)) ≡ min most (length all)
+      few = omega (arith, enough, filter-short (is_up_to R bar) all)
+
+      behind : (y : ToldRow) → is_lt (R bar y) ≡ true → is_lt (R y bar) ≡ false
+      behind y less = (ranks_by o (λ y. y)).one_way bar y less
+
+      behind-far : (x : ToldRow) → is_up_to R bar x ≡ true → All (λ y. is_lt (R y x) ≡ false) (filter (λ y. is_lt (R bar y)) all)
+      behind-far x near j e there =
+          let far = filter (λ y. is_lt (R bar y)) all in
+          (ranks_by o (λ y. y)).chain (get_or far j e) bar x (behind (get_or far j e) (filter_passes (λ y. is_lt (R bar y)) all j e there)) (sym (not-not (is_lt (R bar x))) ∙ ap not near)
 
   -- those that come first, sorted, are the first
   pub are-first : (most : ℕ) (all first sorted : List ToldRow) → ComeFirst R most all first → IsPermutation first sorted → IsSorted R sorted → AreFirst R most all sorted

@@ -45,7 +45,7 @@ onto key a b = record {
   visitors = a.visitors + b.visitors;
 }
 
-together-cons : (key : Key) (x : ToldRow) (xs : List ToldRow) → together key (x ∷ xs) ≡ onto key x (together key xs)
+pub together-cons : (key : Key) (x : ToldRow) (xs : List ToldRow) → together key (x ∷ xs) ≡ onto key x (together key xs)
 together-cons key x xs =
     let h = sum_by-cons (λ (row : ToldRow). row.sums.hits) x xs in
     let b = sum_by-cons (λ (row : ToldRow). row.sums.bytes) x xs in

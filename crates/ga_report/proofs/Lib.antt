@@ -14,3 +14,5 @@ pub mod OneArrangement
 pub mod Printables
 pub mod Stretches
 pub mod PanelItems
+pub mod Marked
+pub mod Alone

@@ -1,6 +1,6 @@
 -- Rows added to their items, a row at a time.
-use Rattle.std.proofs.Common.{◌≡◌, ℕ, suc, ◌+◌, ◌<◌, ◌≤◌, ◌||◌, max, Bool, true, false, cond, List, [], ◌∷◌, ◌++◌, Some, length, map, get_or, set, take, take_all, refl, sym, ap, ◌∙◌, subst, arith, zero-add, All}
-use Rattle.std.specs.Prelude.{count_by, not, slice_get}
+use Rattle.std.proofs.Common.{◌≡◌, ℕ, suc, ◌+◌, ◌<◌, ◌≤◌, ◌||◌, max, Bool, true, false, cond, List, [], ◌∷◌, ◌++◌, length, map, get_or, set, refl, sym, ap, ◌∙◌, subst, arith, zero-add, All}
+use Rattle.std.specs.Prelude.{count_by, not}
 use Rattle.std.specs.List.{AllByRecursion, list_any, position_or_len}
 use Rattle.std.specs.List.Sorted.{IsPermutation}
 use Rattle.std.proofs.lemmas.Bool.{false≢true}
@@ -10,17 +10,13 @@ use Rattle.std.proofs.lemmas.List.Sorted.{IsPermutation-to_front, IsPermutation-
 use Rattle.ga_base.specs.declared.key.Key.{Key}
 use Rattle.ga_base.specs.declared.panel.Panel.{Panel}
 use Rattle.ga_base.specs.Orders.{is_same_key}
-use Rattle.ga_base.specs.Panels.{is_same_panel}
 use Rattle.ga_base.proofs.OrderLemmas.{key_cmp_total}
 use Rattle.ga_shards.specs.Numbers.{noted, place_of}
 use Rattle.ga_report.specs.Items.{has_item, is_of, item_of, together, undated}
-use Rattle.ga_report.specs.Sound.{AreSound}
-use Rattle.ga_report.specs.Steps.Summed.{AreSummed, FitTogether, panel_rows, plus, undate, with_row}
-use Rattle.ga_report.proofs.InPanel.{item-in-panel}
+use Rattle.ga_report.specs.Steps.Summed.{AreSummed, panel_rows, plus, undate, with_row}
 use Rattle.ga_report.specs.Told.{ToldRow}
 use Rattle.ga_report.proofs.ItemSums.{count-cons, item-cons, item-moved, item-none, onto, onto-nothing, own-item, same-item}
-use Rattle.ga_report.proofs.Lists.{all-weaker, filter-pass, filter-push, sum-room, take-more}
-use Rattle.ga_report.proofs.Shares.{item-fits}
+use Rattle.ga_report.proofs.Lists.{all-weaker}
 
 -- items in another order are the items
 pub summed-as : (rows items sorted : List ToldRow) → AreSummed rows items → IsPermutation items sorted → AreSummed rows sorted
@@ -78,14 +74,14 @@ any-turned : (row : ToldRow) (items : List ToldRow) → list_any (λ item. is_of
 any-turned row [] = refl
 any-turned row (x ∷ xs) = λ i. turned x row i || any-turned row xs i
 
-counted : (key : Key) (items : List ToldRow) → has_item key items ≡ true → 1 ≤ count_by (is_of key) items
+pub counted : (key : Key) (items : List ToldRow) → has_item key items ≡ true → 1 ≤ count_by (is_of key) items
 counted key [] e = absurd (false≢true e)
 counted key (x ∷ xs) e = elim (is_of key x) as (λ b. is_of key x ≡ b → (b || has_item key xs) ≡ true → 1 ≤ count_by (is_of key) (x ∷ xs)) [
   | true ↦ λ here _. omega (arith, count-cons (is_of key) x xs, ap {B = ℕ} (λ (b : Bool). cond b 1 0) here)
   | false ↦ λ other there. omega (arith, count-cons (is_of key) x xs, counted key xs there)
 ] refl e
 
-not-counted : (key : Key) (items : List ToldRow) → has_item key items ≡ false → count_by (is_of key) items ≡ 0
+pub not-counted : (key : Key) (items : List ToldRow) → has_item key items ≡ false → count_by (is_of key) items ≡ 0
 not-counted key [] e = refl
 not-counted key (x ∷ xs) e = elim (is_of key x) as (λ b. is_of key x ≡ b → (b || has_item key xs) ≡ false → count_by (is_of key) (x ∷ xs) ≡ 0) [
   | true ↦ λ here f. absurd (false≢true (sym f))
@@ -181,42 +177,9 @@ module _ (seen : List ToldRow) (row : ToldRow) where
         (sums-with items (at-most (has_item row.key seen) _ (are.once row.key)) (not-seen items are) (recursion_from_All _ items are.sums));
   }
 
-module _ (panel : Panel) (rows items : List ToldRow) where
-  pub summed-all : (n : ℕ) → length rows ≤ n → AreSummed (panel_rows panel (take n rows)) items → AreSummed (panel_rows panel rows) items
-  summed-all n all are = subst (λ (xs : List ToldRow). AreSummed (panel_rows panel xs) items) (take_all n rows all) are
-
-  module _ (n : ℕ) (row : ToldRow) (at : slice_get rows n ≡ Some row) where
-    -- a row more that is the panel's
-    pub summed-more : is_same_panel row.key.panel panel ≡ true → AreSummed (panel_rows panel (take n rows)) items → AreSummed (panel_rows panel (take (n + 1) rows)) (with_row row items)
-    summed-more own are =
-        let seen = panel_rows panel (take n rows) in
-        let more = ap (panel_rows panel) (take-more n rows row at) ∙ filter-push (λ r. is_same_panel r.key.panel panel) (take n rows) row own in
-        subst (λ (xs : List ToldRow). AreSummed xs (with_row row items)) (sym more)
-        (summed-of (row ∷ seen) (seen ++ row ∷ []) (with_row row items) (IsPermutation-sym _ _ (IsPermutation-to_front seen row)) (summed-with seen row items are))
-
-    -- and one that isn't
-    pub summed-pass : is_same_panel row.key.panel panel ≡ false → AreSummed (panel_rows panel (take n rows)) items → AreSummed (panel_rows panel (take (n + 1) rows)) items
-    summed-pass other are =
-        let more = ap (panel_rows panel) (take-more n rows row at) ∙ filter-pass (λ r. is_same_panel r.key.panel panel) (take n rows) row other in
-        subst (λ (xs : List ToldRow). AreSummed xs items) (sym more) are
-
-    -- a row and its item fit together
-    pub fits-more : is_same_panel row.key.panel panel ≡ true → AreSound rows → AreSummed (panel_rows panel (take n rows)) items → All (λ item. is_of item.key row ≡ true → FitTogether item row) items
-    fits-more own sound are =
-        All-from_recursion (λ item. is_of item.key row ≡ true → FitTogether item row) items
-        (all-weaker (λ item. undate item ≡ item_of item.key (panel_rows panel (take n rows))) (λ item. is_of item.key row ≡ true → FitTogether item row) fit items (recursion_from_All _ items are.sums))
-      where
-        fit : (item : ToldRow) → undate item ≡ item_of item.key (panel_rows panel (take n rows)) → is_of item.key row ≡ true → FitTogether item row
-        fit item has e =
-            let fits = item-fits rows sound item.key in
-            let mine : is_same_panel item.key.panel panel ≡ true = ap (λ (k : Key). is_same_panel k.panel panel) (sym (same-item item.key row e)) ∙ own in
-            let sums = has ∙ item-in-panel panel item.key mine (take n rows) in
-            record {
-              hits = omega (arith, ap (λ (r : ToldRow). r.sums.hits) sums, sum-room (λ r. r.sums.hits) (is_of item.key) rows n row at e, fits.hits);
-              bytes = omega (arith, ap (λ (r : ToldRow). r.sums.bytes) sums, sum-room (λ r. r.sums.bytes) (is_of item.key) rows n row at e, fits.bytes);
-              micros = omega (arith, ap (λ (r : ToldRow). r.sums.micros) sums, sum-room (λ r. r.sums.micros) (is_of item.key) rows n row at e, fits.micros);
-              visitors = omega (arith, ap (λ (r : ToldRow). r.visitors) sums, sum-room (λ r. r.visitors) (is_of item.key) rows n row at e, fits.visitors);
-            }
+-- a row put behind those that were seen
+pub summed-behind : (seen : List ToldRow) (row : ToldRow) (items : List ToldRow) → AreSummed seen items → AreSummed (seen ++ row ∷ []) (with_row row items)
+summed-behind seen row items are = summed-of (row ∷ seen) (seen ++ row ∷ []) (with_row row items) (IsPermutation-sym _ _ (IsPermutation-to_front seen row)) (summed-with seen row items are)
 
 -- ---- by the place that a dictionary of names gives
 

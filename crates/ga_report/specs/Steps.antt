@@ -1,2 +1,3 @@
 -- What only inner contracts and proofs say.
 pub mod Summed
+pub mod Alone

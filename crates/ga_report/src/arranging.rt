@@ -3,7 +3,7 @@ ghost use Rattle.std.specs.List.Sorted.{IsSorted};
 ghost use Rattle.ga_base.specs.Layers.{has_groups};
 ghost use Rattle.ga_report.specs.declared.report.General.{General};
 ghost use Rattle.ga_report.specs.Items.{by_hits, is_row, is_child, item_order, last_first, order};
-ghost use Rattle.ga_report.specs.Steps.Summed.{AreFirst, AreSummed, AreTop, ComeFirst, IsPart, by_parent, panel_rows, undate};
+ghost use Rattle.ga_report.specs.Steps.Summed.{AreFirst, AreSummed, AreTop, ComeFirst, IsPart, by_parent, is_up_to, panel_rows, undate};
 ghost use Rattle.ga_report.specs.Told.{ToldRow};
 
 use crate::Told;
@@ -12,6 +12,9 @@ use ga_base::laws::panel_order;
 use ga_base::{NoMemory, Panel};
 use std::alloc::Global;
 use std::cmp::Ordering;
+
+/// One item of so many is looked at to find where those that come first end.
+const SAMPLED: usize = 32;
 
 /// The first of the items that are groups of a panel with groups, at most so many, in the report's order.
 pub(crate) fn top_groups<'a>(
@@ -73,12 +76,63 @@ fn firsts<'a>(
 ) -> Result<Vec<Told<'a>>, NoMemory>
     ensures { IfOk result (λ rows. ComeFirst (order panel) most items.entry.items rows.items) }
 {
-    let mut items = items;
+    let mut items = likely(alloc, items, panel, most)?;
     if most >= items.len() as u64 {
         return Ok(items);
     }
     let (first, _, _) = items.select_nth_unstable_by(most as usize, |a, b| order(panel, a, b));
     copies(alloc, first)
+}
+
+/// The items, without most of those that don't come first where there are many. One in 32 is looked at to find a bar behind
+/// which none of the first stands, so that each item is compared about once.
+fn likely<'a>(
+    alloc: Global,
+    items: Vec<Told<'a>>,
+    panel: Panel,
+    most: u64,
+) -> Result<Vec<Told<'a>>, NoMemory>
+    ensures { IfOk result (λ rows. (first : List ToldRow) → ComeFirst (order panel) most rows.items first
+        → ComeFirst (order panel) most items.entry.items first) }
+{
+    let mut few = sample(alloc, &items)?;
+    if most >= few.len() as u64 {
+        return Ok(items);
+    }
+    let (_, bar, _) = few.select_nth_unstable_by(most as usize, |a, b| order(panel, a, b));
+    let rows = up_to(alloc, &items, panel, bar)?;
+    if most <= rows.len() as u64 {
+        Ok(rows)
+    } else {
+        Ok(items)
+    }
+}
+
+/// One of each so many items.
+fn sample<'a>(alloc: Global, items: &[Told<'a>]) -> Result<Vec<Told<'a>>, NoMemory> {
+    let mut few = Vec::with_capacity(alloc, items.len() / SAMPLED + 1)?;
+    for item in items.iter().step_by(SAMPLED) {
+        few.push(item.copy())?;
+    }
+    Ok(few)
+}
+
+/// The items that don't stand behind the bar.
+fn up_to<'a>(
+    alloc: Global,
+    items: &[Told<'a>],
+    panel: Panel,
+    bar: &Told<'_>,
+) -> Result<Vec<Told<'a>>, NoMemory>
+    ensures { IfOk result (λ rows. rows.items ≡ filter (is_up_to (order panel) bar.now) items.now) }
+{
+    let mut rows = Vec::new(alloc);
+    for item in items {
+        if !order(panel, bar, item).is_lt() {
+            rows.push(item.copy())?;
+        }
+    }
+    Ok(rows)
 }
 
 /// The same items.

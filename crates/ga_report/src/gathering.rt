@@ -1,10 +1,12 @@
-ghost use Rattle.std.specs.Prelude.{◌≡◌, All, IfOk, OnOk, IsTrue, map};
+ghost use Rattle.std.specs.Prelude.{◌≡◌, ◌≤◌, All, IfOk, OnOk, IsTrue, length, map};
 ghost use Rattle.std.specs.List.Sorted.{IsPermutation, IsSorted};
 ghost use Rattle.ga_report.specs.Items.{is_of, undated};
 ghost use Rattle.ga_report.specs.Reports.{general_of};
+ghost use Rattle.ga_report.specs.Steps.Alone.{alone_with, items_with};
 ghost use Rattle.ga_report.specs.Steps.Summed.{AreSummed, FitTogether, IsPart, by_parent, panel_rows, with_row};
 
 use crate::item_name::ItemName;
+use crate::marks::Marks;
 use crate::{Tells, Told};
 use ga_base::laws::panel_order;
 use ga_base::{NoMemory, Panel, Totals};
@@ -14,8 +16,8 @@ use std::alloc::Global;
 /// More items than numbers of 32 bits take more memory than there is.
 const MOST_ITEMS: usize = u32::MAX as usize - 2;
 
-/// The items of a panel, in any order: its rows that differ in their day alone are added up. It takes the time of one look for
-/// each of its rows, and of one at each other row's panel.
+/// The items of a panel, in any order: its rows that differ in their day alone are added up. It takes the time of two looks
+/// for each of its rows, of one by its name for each that isn't alone at its mark, and of two at each other row's panel.
 pub(crate) fn items_of<'a, T: Tells>(
     alloc: Global,
     told: &'a T,
@@ -30,7 +32,7 @@ pub(crate) fn items_of<'a, T: Tells>(
     gathered(alloc, told, panel)
 }
 
-/// The items of a panel, in the order in which they are told first.
+/// The items of a panel: first those that are a row by themselves, in the order in which they are told, and then the others.
 fn gathered<'a, T: Tells>(
     alloc: Global,
     told: &'a T,
@@ -39,14 +41,17 @@ fn gathered<'a, T: Tells>(
     ensures { IfOk result (λ items. AreSummed (panel_rows panel (T.view told.now).rows) items.items) }
 {
     panel_order();
+    let marks = Marks::of(alloc, told, panel)?;
     let mut names = Dictionary::new(alloc, keyed_by(&told.totals()));
+    let mut alone = Vec::new(alloc);
     let mut items = Vec::new(alloc);
     for at in 0..told.len() {
         if told.panel(at) == panel {
-            add_row(&mut names, &mut items, &told.row(at))?;
+            put_row(&marks, &mut names, &mut alone, &mut items, told.row(at))?;
         }
     }
-    Ok(items)
+    alone.append(&mut items)?;
+    Ok(alone)
 }
 
 /// How the names of items hash, by what all lines come to. Who writes lines into a log doesn't know what else will stand
@@ -55,6 +60,29 @@ fn keyed_by(totals: &Totals) -> Keyed
     ensures { result ≡ record { first = totals.now.bytes; second = totals.now.hits } }
 {
     Keyed::new(totals.bytes, totals.hits)
+}
+
+/// Puts a row to those that are alone at their marks, or adds it to its item, which costs a look by its name.
+fn put_row<'a>(
+    marks: &Marks,
+    names: &mut Dictionary<ItemName<'a>>,
+    alone: &mut Vec<Told<'a>>,
+    items: &mut Vec<Told<'a>>,
+    row: Told<'a>,
+) -> Result<(), NoMemory>
+    requires marks { 1 ≤ length marks.now.counts.items }
+    requires names { names.old ≡ map (λ item. undated item.key) items.old.items }
+    requires fit { All (λ item. IsTrue (is_of item.key row) → FitTogether item row) items.old.items }
+    ensures names { OnOk result (names.new ≡ map (λ item. undated item.key) items.new.items) }
+    ensures alone { OnOk result (alone.new.items ≡ alone_with marks.now.counts.items row.entry alone.old.items) }
+    ensures items { OnOk result (items.new.items ≡ items_with marks.now.counts.items row.entry items.old.items) }
+{
+    if marks.is_alone(&row) {
+        alone.push(row)?;
+    } else {
+        add_row(names, items, &row)?;
+    }
+    Ok(())
 }
 
 /// Adds a row to its item, or puts it at the end where its item isn't there. The names are those of the items.

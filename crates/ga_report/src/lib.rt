@@ -8,6 +8,7 @@ mod arranging;
 mod gathering;
 mod item_name;
 pub mod laws;
+mod marks;
 mod of_summary;
 mod percents;
 mod report;

@@ -17,6 +17,10 @@ impl Tells for Summary {
         self.len()
     }
 
+    fn about(&self, _panel: Panel) -> u64 {
+        self.len()
+    }
+
     fn panel(&self, at: u64) -> Panel {
         self.row(at).key.panel
     }

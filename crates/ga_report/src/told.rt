@@ -21,7 +21,10 @@ pub trait Tells {
     fn len(&self) -> u64
         ensures { result ≡ length (view self.now).rows };
 
-    /// The panel of the row at a place. A report looks at it once for each panel, and takes the rows of that panel alone.
+    /// About how many rows of a panel there are: how much room to make depends on it, and nothing else.
+    fn about(&self, panel: Panel) -> u64;
+
+    /// The panel of the row at a place. A report looks at it twice for each panel, and takes the rows of that panel alone.
     fn panel(&self, at: u64) -> Panel
         requires { at < length (view self.now).rows }
         ensures { IfSome (slice_get (view self.now).rows at) (λ row. result ≡ row.key.panel) };
@@ -88,6 +91,13 @@ impl<'a> Told<'a> {
         ensures { result ≡ undated self.now.key }
     {
         ItemName::of(self.shared, self.label)
+    }
+
+    /// The label.
+    pub(crate) fn label(&self) -> &'a Text
+        ensures { result.now ≡ self.now.key.label }
+    {
+        self.label
     }
 
     /// The sums.

@@ -41,6 +41,7 @@ use ga_summary::Summary;
 use ga_words::laws::one_reading;
 use ga_words::{Kind, Settings, read_words};
 use std::alloc::Global;
+use std::mem;
 use std::thread::Threads;
 
 /// What a run counted, and what it began with.
@@ -249,6 +250,9 @@ fn text_alone<R: Threads + Sync, G: Gate, F: Files>(
     )?;
     let told = total.told(alloc)?;
     let text = text_of(rt, alloc, settings, &told)?;
+    drop(told);
+    // Behind the report the program ends, and the system takes the total's memory back at once: piece by piece it takes long.
+    mem::forget(total);
     Ok(text)
 }
 

@@ -1,4 +1,4 @@
-ghost use Rattle.std.specs.Prelude.{◌≡◌, List, IfSome};
+ghost use Rattle.std.specs.Prelude.{◌≡◌, ◌<◌, List, IfSome};
 ghost use Rattle.ga_agents.specs.Classes.{agent_of};
 ghost use Rattle.ga_agents.specs.declared.row.Rule.{Rule};
 ghost use Rattle.ga_tallies.specs.Agents.{AreAgents, IsTold};
@@ -37,12 +37,14 @@ pub struct Agents {
 }
 
 impl Model for Agents {
-    ghost use Rattle.std.specs.Prelude.{List, Option};
+    ghost use Rattle.std.specs.Prelude.{◌≡◌, ◌⊎◌, List, Option, vec_len};
     ghost use Rattle.ga_tallies.specs.declared.agents.KnownAgent.{KnownAgent};
 
     ghost Value = { List (Option KnownAgent) };
 
     ghost view = { λ agents. agents.places.items };
+
+    ghost invariant = { λ agents. (vec_len agents.came ≡ 0) ⊎ (vec_len agents.came ≡ 2048) };
 }
 
 impl Agents {
@@ -100,7 +102,7 @@ impl Agents {
     }
 
     /// What is kept of an agent, whose text has this hash.
-    fn known(&self, hash: u64, agent: &str) -> Option<&Agent>
+    pub(crate) fn known(&self, hash: u64, agent: &str) -> Option<&Agent>
         ensures { (rules : List Rule) → AreAgents rules self.now →
             IfSome result (λ known. IsTold rules agent.now known.now) }
     {
@@ -136,14 +138,16 @@ fn kept_at<'a>(place: &'a Option<KnownAgent>, hash: u64, text: &str) -> Option<&
 }
 
 /// A cheap hash of an agent's text.
-fn hash_of(text: &str) -> u64 {
+pub(crate) fn hash_of(text: &str) -> u64 {
     let mut hasher = FoldHasher::default();
     hasher.write(text.as_bytes());
     hasher.finish()
 }
 
 /// The place of an agent whose text has this hash.
-fn place_of(hash: u64) -> usize {
+fn place_of(hash: u64) -> usize
+    ensures within { result < PLACES }
+{
     hash as usize % PLACES
 }
 

@@ -101,8 +101,8 @@ impl Tally {
         ensures full { IsErrOf result TallyFault.Full → IsTooMuch (Counted (hit_told facts.now)) self.old }
     {
         self.add_totals(totals_of(rec))?;
-        let place = self.note_visitor(alloc, visitor_in(facts, rec))?;
-        self.note_keys(alloc, facts, place, sums_of(rec))?;
+        let visit = self.note_visitor(alloc, visitor_in(facts, rec))?;
+        self.note_keys(alloc, facts, visit, sums_of(rec))?;
         Ok(())
     }
 

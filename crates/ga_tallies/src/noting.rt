@@ -4,7 +4,7 @@ ghost use Rattle.ga_numbers.specs.Refs.{visitor_of};
 ghost use Rattle.ga_panels.specs.Refs.{key_of};
 ghost use Rattle.ga_panels.specs.Table.{group_keys, with_group};
 ghost use Rattle.ga_tallies.specs.Adding.{added_at, with_line};
-ghost use Rattle.ga_tallies.specs.Steps.Notes.{NotesKey, NotesKeys, NotesVisitor, keys_told};
+ghost use Rattle.ga_tallies.specs.Steps.Notes.{NotesKey, NotesKeys, NotesVisitor, keys_told, number_in};
 
 use crate::{Pair, Tally};
 use ga_base::{NoMemory, Sums};
@@ -12,21 +12,32 @@ use ga_numbers::VisitorRef;
 use ga_panels::{KeyRef, PANELS, RecordFacts};
 use std::alloc::Global;
 
+/// The visitor of a line.
+#[derive(Clone, Copy)]
+pub(crate) struct Visit {
+    /// The visitor's number.
+    number: u32,
+    /// Whether this line is the visitor's first, so that none of its pairs is there yet.
+    is_first: bool,
+}
+
 impl Tally {
     /// Notes the visitor of a line, where it has one, and gives its number.
     pub(crate) fn note_visitor(
         &mut self,
         alloc: Global,
         visitor: Option<VisitorRef<'_>>,
-    ) -> Result<Option<u32>, NoMemory>
+    ) -> Result<Option<Visit>, NoMemory>
         ensures { IfOk result
-            (λ place. NotesVisitor (option_map visitor_of visitor.entry) place self.old self.new) }
+            (λ visit. NotesVisitor (option_map visitor_of visitor.entry) (number_in visit) self.old self.new) }
     {
         match visitor {
             None => Ok(None),
             Some(visitor) => {
+                let before = self.visitors.len();
                 let number = self.visitors.number(alloc, &visitor)?;
-                Ok(Some(number))
+                let is_first = number >= before;
+                Ok(Some(Visit { number, is_first }))
             }
         }
     }
@@ -36,13 +47,13 @@ impl Tally {
         &mut self,
         alloc: Global,
         facts: &RecordFacts<'_>,
-        visitor: Option<u32>,
+        visit: Option<Visit>,
         line: Sums,
     ) -> Result<(), NoMemory>
-        ensures { OnOk result (NotesKeys (keys_told facts.now) visitor line self.old self.new) }
+        ensures { OnOk result (NotesKeys (keys_told facts.now) (number_in visit) line self.old self.new) }
     {
         for panel in PANELS {
-            self.note_entry(alloc, facts.key_in(panel), visitor, line)?;
+            self.note_entry(alloc, facts.key_in(panel), visit, line)?;
         }
         Ok(())
     }
@@ -52,17 +63,17 @@ impl Tally {
         &mut self,
         alloc: Global,
         entry: Option<KeyRef<'_>>,
-        visitor: Option<u32>,
+        visit: Option<Visit>,
         line: Sums,
     ) -> Result<(), NoMemory>
         ensures { OnOk result
-            (NotesKeys (with_group (option_map key_of entry.entry)) visitor line self.old self.new) }
+            (NotesKeys (with_group (option_map key_of entry.entry)) (number_in visit) line self.old self.new) }
     {
         let Some(entry) = entry else {
             return Ok(());
         };
-        self.note_group(alloc, &entry, visitor, line)?;
-        self.note_key(alloc, &entry, visitor, line)
+        self.note_group(alloc, &entry, visit, line)?;
+        self.note_key(alloc, &entry, visit, line)
     }
 
     /// Notes the key of an entry's group, if it has one.
@@ -70,15 +81,15 @@ impl Tally {
         &mut self,
         alloc: Global,
         entry: &KeyRef<'_>,
-        visitor: Option<u32>,
+        visit: Option<Visit>,
         line: Sums,
     ) -> Result<(), NoMemory>
         ensures { OnOk result
-            (NotesKeys (group_keys (key_of entry.now) entry.now.parent.now) visitor line self.old self.new) }
+            (NotesKeys (group_keys (key_of entry.now) entry.now.parent.now) (number_in visit) line self.old self.new) }
     {
         match entry.group() {
             None => Ok(()),
-            Some(group) => self.note_key(alloc, &group, visitor, line),
+            Some(group) => self.note_key(alloc, &group, visit, line),
         }
     }
 
@@ -87,19 +98,23 @@ impl Tally {
         &mut self,
         alloc: Global,
         key: &KeyRef<'_>,
-        visitor: Option<u32>,
+        visit: Option<Visit>,
         line: Sums,
     ) -> Result<(), NoMemory>
-        ensures { OnOk result (NotesKey (key_of key.now) visitor line self.old self.new) }
+        ensures { OnOk result (NotesKey (key_of key.now) (number_in visit) line self.old self.new) }
     {
         let number = self.keys.number(alloc, key)?;
         add_line(&mut self.sums, number, line)?;
-        match visitor {
+        match visit {
             None => Ok(()),
-            Some(visitor) => self.pairs.add(Pair {
-                key: number,
-                visitor,
-            }),
+            Some(visit) => {
+                let visitor = visit.number;
+                let pair = Pair {
+                    key: number,
+                    visitor,
+                };
+                self.pairs.add(pair, visit.is_first)
+            }
         }
     }
 }

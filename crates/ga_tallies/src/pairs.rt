@@ -70,11 +70,11 @@ impl PairList {
         }
     }
 
-    /// Adds a pair.
-    pub(crate) fn add(&mut self, pair: Pair) -> Result<(), NoMemory>
+    /// Adds a pair. One that surely isn't there isn't looked for among those that came lately.
+    pub(crate) fn add(&mut self, pair: Pair, is_new: bool) -> Result<(), NoMemory>
         ensures { OnOk result (AddsOne (pair_of pair) self.old self.new) }
     {
-        if self.is_recent(pair) {
+        if !is_new && self.is_recent(pair) {
             return Ok(());
         }
         self.put(pair)

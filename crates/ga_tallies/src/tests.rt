@@ -1,6 +1,9 @@
+ghost use Rattle.ga_tallies.specs.Agents.{AreAgents};
+
+use crate::agents::hash_of;
 use crate::{Agents, Pair, Tally, pairs_of};
 use ga_agents::Rules;
-use ga_base::{FormatFault, PanelSet, Statuses, Sums, Text, Texts, Totals};
+use ga_base::{FormatFault, NoMemory, PanelSet, Statuses, Sums, Text, Texts, Totals};
 use ga_dates::{DEFAULT_DATE, DEFAULT_TIME, compile_date, compile_time};
 use ga_format::{compile, format_text};
 use ga_hosts::Ranges;
@@ -86,5 +89,36 @@ fn counts_lines(rt: HostRuntime) -> Result<(), Fail> {
         pairs_of(alloc, &parts.visits)?.as_slice(),
         [Pair { key: 0, visitor: 0 }].as_slice()
     );
+    Ok(())
+}
+
+/// Has an agent come, and tells whether it is known then.
+fn is_known_then(
+    alloc: Global,
+    rules: &Rules,
+    agents: &mut Agents,
+    agent: &str,
+) -> Result<bool, NoMemory>
+    requires { AreAgents rules.now agents.old }
+    ensures { AreAgents rules.now agents.new }
+{
+    agents.learn(alloc, rules, agent)?;
+    Ok(agents.known(hash_of(agent), agent).is_some())
+}
+
+#[test]
+fn knows_an_agent_that_came_twice(rt: HostRuntime) -> Result<(), Fail> {
+    let alloc = rt.alloc();
+    let rules = Rules::builtin(alloc);
+    let mut agents = Agents::new(alloc);
+    let known = [
+        is_known_then(alloc, &rules, &mut agents, "one/1")?,
+        is_known_then(alloc, &rules, &mut agents, "other/2")?,
+        is_known_then(alloc, &rules, &mut agents, "one/1")?,
+        is_known_then(alloc, &rules, &mut agents, "other/2")?,
+        is_known_then(alloc, &rules, &mut agents, "third/3")?,
+        is_known_then(alloc, &rules, &mut agents, "one/1")?,
+    ];
+    assert_eq!(rt; known, [false, false, true, true, false, true]);
     Ok(())
 }

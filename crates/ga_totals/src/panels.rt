@@ -14,3 +14,14 @@ pub(crate) fn panels_of(alloc: Global, keys: &KeyNumbers) -> Result<Vec<Panel>, 
     }
     Ok(panels)
 }
+
+/// How many of these each panel is, at the panel's number.
+pub(crate) fn sizes_of(panels: &[Panel]) -> [u64; Panel::COUNT] {
+    let mut sizes = [0u64; Panel::COUNT];
+    for panel in panels {
+        if let Some(size) = sizes.get_mut(panel.number()) {
+            *size = size.saturating_add(1);
+        }
+    }
+    sizes
+}

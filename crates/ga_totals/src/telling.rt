@@ -1,6 +1,7 @@
 ghost use Rattle.std.specs.Prelude.{◌≡◌, map};
 ghost use Rattle.ga_totals.specs.Steps.Telling.{CanTell, told_rows};
 
+use crate::panels::sizes_of;
 use ga_base::{Panel, Sums, Totals};
 use ga_numbers::KeyNumbers;
 use ga_report::{Tells, Told};
@@ -14,8 +15,10 @@ pub struct TotalTold<'a> {
     totals: Totals,
     /// The keys, each at its number.
     keys: &'a KeyNumbers,
-    /// The panel of each key, at its number: a report asks for it once for each panel.
+    /// The panel of each key, at its number: a report asks for it twice for each panel.
     panels: Vec<Panel>,
+    /// How many keys each panel has, at the panel's number.
+    sizes: [u64; Panel::COUNT],
     /// The sums of each key, at its number.
     sums: &'a [Sums],
     /// How many visitors each key has, at its number.
@@ -47,10 +50,12 @@ impl<'a> TotalTold<'a> {
         requires panels { panels.items ≡ map (λ key. key.panel) keys.now }
         ensures { result ≡ record { totals = totals; rows = told_rows keys.now sums.now visits.items } }
     {
+        let sizes = sizes_of(&panels);
         TotalTold {
             totals,
             keys,
             panels,
+            sizes,
             sums,
             visits,
         }
@@ -66,6 +71,13 @@ impl<'a> Tells for TotalTold<'a> {
 
     fn len(&self) -> u64 {
         u64::from(self.keys.len())
+    }
+
+    fn about(&self, panel: Panel) -> u64 {
+        match self.sizes.get(panel.number()) {
+            Some(size) => *size,
+            None => 0,
+        }
     }
 
     fn panel(&self, at: u64) -> Panel {

@@ -1,5 +1,5 @@
 -- The items of told rows, on the way to a report.
-use Rattle.std.specs.Prelude.{◌≡◌, ℕ, Bool, false, ◌+◌, ◌++◌, ◌≤◌, ◌<◌, ◌^◌, max, min, if◌then◌else◌, List, [], ◌∷◌, length, take, filter, count_by, All}
+use Rattle.std.specs.Prelude.{◌≡◌, ℕ, Bool, false, not, ◌+◌, ◌++◌, ◌≤◌, ◌<◌, ◌^◌, max, min, if◌then◌else◌, List, [], ◌∷◌, length, take, filter, count_by, All}
 use Rattle.std.specs.Hash.{HashWrites, str}
 use Rattle.std.specs.List.Sorted.{IsPermutation, IsSorted}
 use Rattle.std.specs.declared.cmp.Ordering.{Ordering}
@@ -85,6 +85,10 @@ pub record ComeFirst (R : ToldRow → ToldRow → Ordering) (most : ℕ) (all fi
   pub are_all : IsPermutation all (first ++ rest)
   pub before : All (λ x. All (λ y. is_lt (R y x) ≡ false) rest) first
   pub many : length first ≡ min most (length all)
+
+-- it doesn't stand behind the bar
+abbrev pub is_up_to : (ToldRow → ToldRow → Ordering) → ToldRow → ToldRow → Bool
+is_up_to R bar item = not (is_lt (R bar item))
 
 -- the first of a list's elements in their order
 pub record AreFirst (R : ToldRow → ToldRow → Ordering) (most : ℕ) (all first : List ToldRow) : Type 0 where

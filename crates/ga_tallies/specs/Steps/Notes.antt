@@ -1,5 +1,6 @@
 -- What is put down in a tally for one line: its visitor, and then each of its keys.
 use Rattle.std.specs.Prelude.{◌≡◌, ℕ, List, [], ◌∷◌, slice_get, Option, Some, None}
+use Rattle.std.specs.Option.{option_map}
 use Rattle.ga_base.specs.Orders.{is_same_key, is_same_visitor}
 use Rattle.ga_base.specs.declared.counts.Sums.{Sums}
 use Rattle.ga_base.specs.declared.key.Key.{Key}
@@ -10,11 +11,16 @@ use Rattle.ga_panels.specs.declared.record_facts.RecordFacts.{RecordFacts}
 use Rattle.ga_shards.specs.Numbers.{noted, place_of}
 use Rattle.ga_tallies.specs.Adding.{AddsOne, added_at}
 use Rattle.ga_tallies.specs.Tallies.{TallySeen}
+use Rattle.ga_tallies.specs.declared.noting.Visit.{Visit}
 
 -- a key's number was put down with a visitor's, where there is a visitor
 abbrev pub AddsVisit : ℕ → Option ℕ → List (ℕ × ℕ) → List (ℕ × ℕ) → Type 0
 AddsVisit k None old new = new ≡ old
 AddsVisit k (Some v) old new = AddsOne (k, v) old new
+
+-- the number of a line's visitor, where it has one
+abbrev pub number_in : Option Visit → Option ℕ
+number_in visit = option_map (λ (v : Visit). v.number) visit
 
 -- one key of a line was noted, with its visitor's number
 pub record NotesKey (key : Key) (visitor : Option ℕ) (line : Sums) (old new : TallySeen) : Type 0 where

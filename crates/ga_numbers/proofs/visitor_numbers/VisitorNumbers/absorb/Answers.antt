@@ -1,41 +1,26 @@
-use Rattle.std.proofs.Common.{◌∙◌, List, All, ap, sym, subst}
+use Rattle.std.proofs.Common.{◌∙◌, List, map, subst}
 use Rattle.ga_base.specs.Orders.{is_same_visitor}
 use Rattle.ga_base.specs.declared.key.Visitor.{Visitor}
-use Rattle.ga_numbers.specs.VisitorFrames.{IsVisitorFrame, is_same_agent, visitor_at, no_visitor_frame}
-use Rattle.ga_numbers.specs.Numbers.{AreNoted, places_of}
-use Rattle.ga_numbers.proofs.Framed.{absorbed, items_in}
-use Rattle.ga_numbers.proofs.Framings.{makes-visitors}
-use Rattle.ga_numbers.proofs.Same.{agent-laws}
-use Rattle.ga_shards.specs.Steps.{all_noted}
-use Rattle.ga_shards.proofs.Noting.{from-all}
+use Rattle.ga_numbers.specs.Numbers.{AreNoted}
+use Rattle.ga_numbers.specs.Rows.{is_same_row, moved_by}
+use Rattle.ga_numbers.specs.VisitorFrames.{visitors_in}
+use Rattle.ga_numbers.proofs.Agents.{agents-absorbed}
 use Rattle.ga_numbers.proofs.visitor_numbers.VisitorNumbers.absorb.Goals as goal
 
 pub invariant_of-self : goal.invariant_of-self
 invariant_of-self g c =
     let old = c.known.inside in
     let more = c.more.inside in
-    let frames = c.note_all.new.known in
-    let rows = c.in_ok-rows.rows in
-    let noted = c.in_ok-frames.ensures.noted ∙ ap (all_noted is_same_agent old.frames) c.in_ok-into_items.ensures in
-    let different = c.note_all.ensures.distinct c.known.invariant.different in
-    let plain : All IsVisitorFrame frames = subst (All IsVisitorFrame) (sym noted) (from-all is_same_agent agent-laws IsVisitorFrame more.frames old.frames c.known.invariant.plain c.more.invariant.plain) in
-    let both =
-    absorbed no_visitor_frame is_same_agent is_same_visitor IsVisitorFrame visitor_at makes-visitors old.frames more.frames frames old.rows more.rows rows c.deref.result.now c.in_ok-rows.numbers.items c.known.invariant.framed c.more.invariant.framed different plain
-    (c.deref.ensures.value ∙ c.in_ok-frames.ensures.numbers ∙ ap (places_of is_same_agent old.frames) c.in_ok-into_items.ensures) noted c.in_ok-rows.ensures in
-    record { different = different; plain = plain; framed = both.1 }
+    (agents-absorbed old.agents more.agents c.in_ok-agents.agents old.rows more.rows c.in_ok-rows.rows c.in_ok-agents.places.items c.in_ok-rows.numbers.items c.known.invariant c.more.invariant c.in_ok-agents.ensures
+    (subst (λ l. AreNoted is_same_row (map (moved_by l) more.rows) c.in_ok-rows.numbers.items old.rows c.in_ok-rows.rows) c.deref.ensures.value c.in_ok-rows.ensures)).1
 
 pub returns : goal.returns
 returns g c =
     let old = c.known.inside in
     let more = c.more.inside in
-    let frames = c.note_all.new.known in
+    let agents = c.in_ok-agents.agents in
     let rows = c.in_ok-rows.rows in
-    let noted = c.in_ok-frames.ensures.noted ∙ ap (all_noted is_same_agent old.frames) c.in_ok-into_items.ensures in
-    let different = c.note_all.ensures.distinct c.known.invariant.different in
-    let plain : All IsVisitorFrame frames = subst (All IsVisitorFrame) (sym noted) (from-all is_same_agent agent-laws IsVisitorFrame more.frames old.frames c.known.invariant.plain c.more.invariant.plain) in
-    let both =
-    absorbed no_visitor_frame is_same_agent is_same_visitor IsVisitorFrame visitor_at makes-visitors old.frames more.frames frames old.rows more.rows rows c.deref.result.now c.in_ok-rows.numbers.items c.known.invariant.framed c.more.invariant.framed different plain
-    (c.deref.ensures.value ∙ c.in_ok-frames.ensures.numbers ∙ ap (places_of is_same_agent old.frames) c.in_ok-into_items.ensures) noted c.in_ok-rows.ensures in
-    let items = items_in no_visitor_frame is_same_agent is_same_visitor IsVisitorFrame visitor_at makes-visitors in
-    subst (λ (l : List Visitor). AreNoted is_same_visitor l c.in_ok-rows.numbers.items c.args.self.now (items frames rows)) c.more.view_is
-    (subst (λ (l : List Visitor). AreNoted is_same_visitor (items more.frames more.rows) c.in_ok-rows.numbers.items l (items frames rows)) (c.known.view_is ∙ c.replace-known.ensures.value) both.0)
+    let both = agents-absorbed old.agents more.agents agents old.rows more.rows rows c.in_ok-agents.places.items c.in_ok-rows.numbers.items c.known.invariant c.more.invariant c.in_ok-agents.ensures
+    (subst (λ l. AreNoted is_same_row (map (moved_by l) more.rows) c.in_ok-rows.numbers.items old.rows rows) c.deref.ensures.value c.in_ok-rows.ensures) in
+    subst (λ (l : List Visitor). AreNoted is_same_visitor l c.in_ok-rows.numbers.items c.args.self.now (visitors_in agents rows)) c.more.view_is
+    (subst (λ (l : List Visitor). AreNoted is_same_visitor (visitors_in more.agents more.rows) c.in_ok-rows.numbers.items l (visitors_in agents rows)) (c.known.view_is ∙ c.replace-known.ensures.value) both.0)

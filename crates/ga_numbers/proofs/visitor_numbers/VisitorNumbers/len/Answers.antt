@@ -1,7 +1,9 @@
 use Rattle.std.proofs.Common.{subst}
 use Rattle.std.specs.List.{IsDistinct}
 use Rattle.ga_base.specs.Orders.{is_same_visitor}
-use Rattle.ga_numbers.specs.VisitorFrames.{IsVisitorFrame, is_same_agent, visitor_at, no_visitor_frame}
+use Rattle.ga_numbers.specs.Kept.{no_row}
+use Rattle.ga_numbers.specs.Rows.{is_same_row}
+use Rattle.ga_numbers.specs.VisitorFrames.{IsAgent, visitor_at}
 use Rattle.ga_numbers.proofs.Framed.{different-items}
 use Rattle.ga_numbers.proofs.Framings.{makes-visitors}
 use Rattle.ga_numbers.proofs.visitor_numbers.VisitorNumbers.len.Goals as goal
@@ -10,4 +12,4 @@ pub returns-clause-distinct : goal.returns-clause-distinct
 returns-clause-distinct c =
     let inside = c.self.inside in
     subst (IsDistinct is_same_visitor) c.self.view_is
-    (different-items no_visitor_frame is_same_agent is_same_visitor IsVisitorFrame visitor_at makes-visitors inside.frames inside.rows c.self.invariant.different c.self.invariant.plain c.self.invariant.framed c.len.ensures.distinct)
+    (different-items no_row is_same_row is_same_visitor IsAgent visitor_at makes-visitors inside.agents inside.rows c.self.invariant.different c.self.invariant.plain c.self.invariant.framed c.len.ensures.distinct)

@@ -5,7 +5,7 @@ use Rattle.ga_panels.specs.Visitors.{visitor_in}
 use Rattle.ga_summary.specs.OneLine.{record_sums, record_totals}
 use Rattle.ga_summary.specs.Rows.{totals_plus}
 use Rattle.ga_summary.specs.Sound.{TotalsFit}
-use Rattle.ga_tallies.specs.Steps.Notes.{NotesKeys, NotesVisitor, keys_told}
+use Rattle.ga_tallies.specs.Steps.Notes.{NotesKeys, NotesVisitor, keys_told, number_in}
 use Rattle.ga_tallies.proofs.FactsHit.{told-form}
 use Rattle.ga_tallies.proofs.OneLine.{hit-added, hit-too-much}
 use Rattle.ga_tallies.proofs.tally.Tally.count_facts.Goals as goal
@@ -25,9 +25,9 @@ returns-clause-counted c =
     let rec = record_of known in
     let values = sym c.requires.values in
     let visitor = visitor_in (setup_of known) rec in
-    let place = c.in_ok-place.place in
+    let place = number_in c.in_ok-visit.visit in
     let form = told-form (setup_of known) rec known known.dated in
     let adds = subst (λ more. c.add_totals.new.self ≡ record c.args.self.now { totals = totals_plus c.args.self.now.totals more }) (c.totals_of.ensures ∙ ap record_totals values) c.in_ok-add_totals.ensures.ok in
-    let sits = subst (λ v. NotesVisitor v place c.add_totals.new.self c.note_visitor.new.self) (c.visitor_in.ensures ∙ ap (visitor_in (setup_of known)) values) c.in_ok-place.ensures in
+    let sits = subst (λ v. NotesVisitor v place c.add_totals.new.self c.note_visitor.new.self) (c.visitor_in.ensures ∙ ap (visitor_in (setup_of known)) values) c.in_ok-visit.ensures in
     let notes = subst (λ line. NotesKeys (keys_told known) place line c.note_visitor.new.self c.note_keys.new.self) (c.sums_of.ensures ∙ ap record_sums values) c.in_ok-note_keys.ensures in
     hit-added (keys_told known) visitor rec place c.args.self.now c.add_totals.new.self c.note_visitor.new.self c.note_keys.new.self form adds c.in_ok-add_totals.ensures.fit sits notes

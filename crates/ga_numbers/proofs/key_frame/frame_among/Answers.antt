@@ -5,7 +5,7 @@ use Rattle.ga_numbers.specs.Numbers.{IsNumbered}
 use Rattle.ga_numbers.proofs.Noted.{noted-all}
 use Rattle.ga_numbers.proofs.NotedSo.{noted-so}
 use Rattle.ga_numbers.proofs.Same.{same-frame}
-use Rattle.ga_numbers.proofs.key_frame.frame_number.Goals as goal
+use Rattle.ga_numbers.proofs.key_frame.frame_among.Goals as goal
 
 pub returns-clause-ok : goal.returns-clause-ok
 returns-clause-ok c =

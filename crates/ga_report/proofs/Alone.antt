@@ -1,0 +1,246 @@
+-- Rows that are an item by themselves, beside the items of the others.
+use Rattle.std.proofs.Common.{◌≡◌, ℕ, ◌+◌, ◌≤◌, ◌&&◌, Bool, true, false, cond, List, [], ◌∷◌, ◌++◌, Some, length, get_or, filter, sum_by, take, take_all, inl, inr, refl, sym, ap, ◌∙◌, subst, arith, All}
+use Rattle.std.specs.Prelude.{count_by, not, slice_get}
+use Rattle.std.proofs.lemmas.Bool.{false≢true}
+use Rattle.std.proofs.lemmas.Bool.Decides.{Decides-eqb}
+use Rattle.std.proofs.lemmas.List.Elements.{All-append, All-from_recursion, recursion_from_All}
+use Rattle.std.proofs.lemmas.List.Sums.{sum_by-append, sum_by-cons}
+use Rattle.std.proofs.lemmas.Map.Views.{any-filter_same}
+use Rattle.std.proofs.lemmas.Nat.{mod_below}
+use Rattle.ga_base.specs.declared.key.Key.{Key}
+use Rattle.ga_base.specs.declared.panel.Panel.{Panel}
+use Rattle.ga_base.specs.Panels.{is_same_panel}
+use Rattle.ga_report.specs.Items.{has_item, is_of, item_of, of_item, together, undated}
+use Rattle.ga_report.specs.Sound.{AreSound}
+use Rattle.ga_report.specs.Steps.Alone.{AreGathered, AreMarks, alone_with, has_mark, is_alone, items_with, mark_at}
+use Rattle.ga_report.specs.Steps.Summed.{AreSummed, FitTogether, panel_rows, undate, with_row}
+use Rattle.ga_report.specs.Told.{ToldRow}
+use Rattle.ga_report.proofs.ItemSums.{count-cons, onto-nothing, own-item, same-item, together-cons}
+use Rattle.ga_report.proofs.Lists.{In, all-in, at-all, all-weaker, filter-pass, filter-push, in-filter, sum-room, sum_by-filter, take-more}
+use Rattle.ga_report.proofs.OneArrangement.{in-count}
+use Rattle.ga_report.proofs.RowsAdded.{counted, not-counted, summed-behind}
+use Rattle.ga_report.proofs.Shares.{item-fits}
+
+-- ---- items of some rows and of the others are items of all, where rows of one item are among the same
+
+-- rows with keys that pass a test
+abbrev those : (Key → Bool) → List ToldRow → List ToldRow
+those P rows = filter (λ row. P row.key) rows
+
+module _ (P : Key → Bool) (undates : (key : Key) → P (undated key) ≡ P key) (rows : List ToldRow) where
+  -- rows of a key's item pass where the key does
+  with-key : (key : Key) (x : ToldRow) → is_of key x ≡ true → P x.key ≡ P key
+  with-key key x e = sym (undates x.key) ∙ ap P (same-item key x e) ∙ undates key
+
+  has-there : (key : Key) (b : Bool) → P key ≡ b → has_item key (those P rows) ≡ (b && has_item key rows)
+  has-there key b e = any-filter_same (is_of key) (λ row. P row.key) b (λ x own. with-key key x own ∙ e) rows
+
+  all-there : (key : Key) → P key ≡ true → (xs : List ToldRow) → of_item key (those P xs) ≡ of_item key xs
+  all-there key e [] = refl
+  all-there key e (x ∷ xs) = elim (is_of key x) as (λ b. is_of key x ≡ b → of_item key (those P (x ∷ xs)) ≡ cond b (x ∷ of_item key xs) (of_item key xs)) [
+    | true ↦ λ own. rw (with-key key x own ∙ e, own) (ap (λ (r : List ToldRow). x ∷ r) (all-there key e xs))
+    | false ↦ λ other. passed (P x.key) other (all-there key e xs)
+  ] refl
+    where
+      passed : (b : Bool) → is_of key x ≡ false → of_item key (those P xs) ≡ of_item key xs → of_item key (cond b (x ∷ those P xs) (those P xs)) ≡ of_item key xs
+      passed true other rest = rw other rest
+      passed false other rest = rest
+
+  passes : (b : Bool) (n : ℕ) → n ≡ cond b 1 0 → 1 ≤ n → b ≡ true
+  passes true n e some = refl
+  passes false n e some = absurd (omega (arith, e, some))
+
+  both : (b c : Bool) → (b && c) ≡ true → b ≡ true
+  both true c e = refl
+  both false c e = e
+
+  -- items of those have all that their rows have
+  sums-there : (items : List ToldRow) → AreSummed (those P rows) items → All (λ item. undate item ≡ item_of item.key rows) items
+  sums-there items are = All-from_recursion (λ item. undate item ≡ item_of item.key rows) items (all-in (λ item. undate item ≡ item_of item.key rows) items own)
+    where
+      sum : (x : ToldRow) → In x items → undate x ≡ item_of x.key (those P rows)
+      sum x there = at-all (λ item. undate item ≡ item_of item.key (those P rows)) x items (recursion_from_All _ items are.sums) there
+
+      own : (x : ToldRow) → In x items → undate x ≡ item_of x.key rows
+      own x there =
+          let has = passes (has_item x.key (those P rows)) (count_by (is_of x.key) items) (are.once x.key) (in-count (is_of x.key) x items (own-item x) there) in
+          let mine = both (P x.key) (has_item x.key rows) (sym (has-there x.key (P x.key) refl) ∙ has) in
+          sum x there ∙ ap (together x.key) (all-there x.key mine rows)
+
+module _ (P : Key → Bool) (undates : (key : Key) → P (undated key) ≡ P key) (rows : List ToldRow) where
+  abbrev Q : Key → Bool
+  Q key = not (P key)
+
+  one-side : (b c : Bool) → cond (b && c) 1 0 + cond (not b && c) 1 0 ≡ cond c 1 0
+  one-side true true = refl
+  one-side true false = refl
+  one-side false true = refl
+  one-side false false = refl
+
+  pub summed-both : (xs ys : List ToldRow) → AreSummed (those P rows) xs → AreSummed (those Q rows) ys → AreSummed rows (xs ++ ys)
+  summed-both xs ys some others = record {
+    once = λ key.
+        let here = some.once key ∙ ap {B = ℕ} (λ (b : Bool). cond b 1 0) (has-there P undates rows key (P key) refl) in
+        let there = others.once key ∙ ap {B = ℕ} (λ (b : Bool). cond b 1 0) (has-there Q (λ k. ap not (undates k)) rows key (Q key) refl) in
+        sum_by-append (λ (x : ToldRow). cond (is_of key x) 1 0) xs ys ∙ (λ i. here i + there i) ∙ one-side (P key) (has_item key rows);
+    sums = All-append (λ item. undate item ≡ item_of item.key rows) xs ys (sums-there P undates rows xs some) (sums-there Q (λ k. ap not (undates k)) rows ys others);
+  }
+
+-- ---- rows that are alone at their marks are items
+
+-- of rows that pass one test at most as many pass another that asks for more
+fewer : (p q : ToldRow → Bool) → ((x : ToldRow) → p x ≡ true → q x ≡ true) → (xs : List ToldRow) → count_by p xs ≤ count_by q xs
+fewer p q h [] = omega arith
+fewer p q h (x ∷ xs) = omega (arith, count-cons p x xs, count-cons q x xs, one (p x) (q x) (h x), fewer p q h xs)
+  where
+    one : (b c : Bool) → (b ≡ true → c ≡ true) → cond b 1 0 ≤ cond c 1 0
+    one true c h = rw (h refl) (omega arith)
+    one false c h = omega arith
+
+fewer-among : (p t : ToldRow → Bool) (xs : List ToldRow) → count_by p (filter t xs) ≤ count_by p xs
+fewer-among p t [] = omega arith
+fewer-among p t (x ∷ xs) = elim (t x) as (λ b. count_by p (cond b (x ∷ filter t xs) (filter t xs)) ≤ count_by p (x ∷ xs)) [
+  | true ↦ omega (arith, count-cons p x (filter t xs), count-cons p x xs, fewer-among p t xs)
+  | false ↦ omega (arith, count-cons p x xs, fewer-among p t xs)
+]
+
+no-more : (q : ToldRow → Bool) (xs : List ToldRow) → count_by q xs ≤ 0 → filter q xs ≡ []
+no-more q [] none = refl
+no-more q (x ∷ xs) none = elim (q x) as (λ b. q x ≡ b → cond b (x ∷ filter q xs) (filter q xs) ≡ []) [
+  | true ↦ λ e. absurd (omega (arith, none, count-cons q x xs, ap {B = ℕ} (λ (b : Bool). cond b 1 0) e))
+  | false ↦ λ e. no-more q xs (omega (arith, none, count-cons q x xs))
+] refl
+
+-- the only one that passes
+only : (q : ToldRow → Bool) (x : ToldRow) (xs : List ToldRow) → q x ≡ true → count_by q xs ≤ 1 → In x xs → filter q xs ≡ x ∷ []
+only q x [] pass one there = absurd there
+only q x (y ∷ ys) pass one (inl e) =
+    let own : q y ≡ true = ap q (sym e) ∙ pass in
+    let here : cond (q y) 1 0 ≡ 1 = ap {B = ℕ} (λ (b : Bool). cond b 1 0) own in
+    let rest = no-more q ys (omega (arith, one, here, count-cons q y ys)) in
+    rw own (λ i. sym e i ∷ rest i)
+only q x (y ∷ ys) pass one (inr there) = elim (q y) as (λ b. q y ≡ b → cond b (y ∷ filter q ys) (filter q ys) ≡ x ∷ []) [
+  | true ↦ λ own. absurd (omega (arith, one, count-cons q y ys, ap {B = ℕ} (λ (b : Bool). cond b 1 0) own, in-count q x ys pass there))
+  | false ↦ λ other. only q x ys pass (omega (arith, one, count-cons q y ys)) there
+] refl
+
+module _ (rows : List ToldRow) (counts : List ℕ) (are : AreMarks rows counts) where
+  abbrev alone : List ToldRow
+  alone = those (is_alone counts) rows
+
+  same-mark : (key : Key) (x : ToldRow) → is_of key x ≡ true → has_mark (length counts) (mark_at (length counts) key) x ≡ true
+  same-mark key x e = (Decides-eqb _ _).1 (ap (mark_at (length counts)) (same-item key x e))
+
+  -- an item of the rows that are alone has one
+  one-row : (key : Key) → is_alone counts key ≡ true → count_by (is_of key) alone ≤ 1
+  one-row key e =
+      let mark = mark_at (length counts) key in
+      let count : get_or counts mark 0 ≡ 1 = (Decides-eqb _ _).0 e in
+      omega (arith, count, are.each mark (mod_below _ (length counts) (omega (arith, are.some))), fewer (is_of key) (has_mark (length counts) mark) (same-mark key) rows, fewer-among (is_of key) (λ row. is_alone counts row.key) rows)
+
+  once-alone : (key : Key) (b : Bool) → is_alone counts key ≡ b → (c : Bool) → has_item key alone ≡ c → count_by (is_of key) alone ≡ cond c 1 0
+  once-alone key b e false f = not-counted key alone f
+  once-alone key true e true f = omega (arith, one-row key e, counted key alone f)
+  once-alone key false e true f = absurd (false≢true (sym (has-there (is_alone counts) (λ _. refl) rows key false e) ∙ f))
+
+  sum-alone : (x : ToldRow) → In x alone → undate x ≡ item_of x.key alone
+  sum-alone x there =
+      let mine = (in-filter (λ row. is_alone counts row.key) x rows there).0 in
+      sym (ap (together x.key) (only (is_of x.key) x alone (own-item x) (one-row x.key mine) there) ∙ together-cons x.key x [] ∙ onto-nothing x)
+
+  pub summed-alone : AreSummed alone alone
+  summed-alone = record {
+    once = λ key. once-alone key (is_alone counts key) refl (has_item key alone) refl;
+    sums = All-from_recursion (λ item. undate item ≡ item_of item.key alone) alone (all-in (λ item. undate item ≡ item_of item.key alone) alone sum-alone);
+  }
+
+  -- with the items of the others they are the items
+  pub summed-beside : (own items : List ToldRow) → AreGathered rows counts own items → AreSummed rows (own ++ items)
+  summed-beside own items h =
+      subst (λ (xs : List ToldRow). AreSummed rows (xs ++ items)) (sym h.by_themselves) (summed-both (is_alone counts) (λ _. refl) rows alone items summed-alone h.others)
+
+-- ---- a row at a time
+
+-- a row more
+gathered-behind : (counts : List ℕ) (seen alone items : List ToldRow) (row : ToldRow) → AreGathered seen counts alone items
+    → AreGathered (seen ++ row ∷ []) counts (alone_with counts row alone) (items_with counts row items)
+gathered-behind counts seen alone items row h = elim (is_alone counts row.key) as (λ b. is_alone counts row.key ≡ b
+    → AreGathered (seen ++ row ∷ []) counts (cond b (alone ++ row ∷ []) alone) (cond b items (with_row row items))) [
+      | true ↦ λ e. record {
+        by_themselves = ap (λ (xs : List ToldRow). xs ++ row ∷ []) h.by_themselves ∙ sym (filter-push (λ r. is_alone counts r.key) seen row e);
+        others = subst (λ (xs : List ToldRow). AreSummed xs items) (sym (filter-pass (λ r. not (is_alone counts r.key)) seen row (ap not e))) h.others;
+      }
+      | false ↦ λ e. record {
+        by_themselves = h.by_themselves ∙ sym (filter-pass (λ r. is_alone counts r.key) seen row e);
+        others = subst (λ (xs : List ToldRow). AreSummed xs (with_row row items)) (sym (filter-push (λ r. not (is_alone counts r.key)) seen row (ap not e)))
+            (summed-behind (filter (λ r. not (is_alone counts r.key)) seen) row items h.others);
+      }
+    ] refl
+
+-- fewer rows sum to less
+sum-among : (f : ToldRow → ℕ) (p t : ToldRow → Bool) (xs : List ToldRow) → sum_by f (filter p (filter t xs)) ≤ sum_by f (filter p xs)
+sum-among f p t xs = omega (arith, sum_by-filter f p (filter t xs), sum_by-filter f p xs, within xs)
+  where
+    w : ToldRow → ℕ
+    w x = cond (p x) (f x) 0
+
+    within : (ys : List ToldRow) → sum_by w (filter t ys) ≤ sum_by w ys
+    within [] = omega arith
+    within (y ∷ ys) = elim (t y) as (λ b. sum_by w (cond b (y ∷ filter t ys) (filter t ys)) ≤ sum_by w (y ∷ ys)) [
+      | true ↦ omega (arith, sum_by-cons w y (filter t ys), sum_by-cons w y ys, within ys)
+      | false ↦ omega (arith, sum_by-cons w y ys, within ys)
+    ]
+
+module _ (panel : Panel) (rows : List ToldRow) (counts : List ℕ) (alone items : List ToldRow) (n : ℕ) where
+  -- all of them together are the items
+  pub gathered-all : (all : List ToldRow) → length rows ≤ n → AreMarks (panel_rows panel rows) counts → AreGathered (panel_rows panel (take n rows)) counts alone items
+      → all ≡ alone ++ items → AreSummed (panel_rows panel rows) all
+  gathered-all all long are h e =
+      let gathered = subst (λ (xs : List ToldRow). AreGathered (panel_rows panel xs) counts alone items) (take_all n rows long) h in
+      subst (λ (xs : List ToldRow). AreSummed (panel_rows panel rows) xs) (sym e) (summed-beside (panel_rows panel rows) counts are alone items gathered)
+
+  module _ (row : ToldRow) (at : slice_get rows n ≡ Some row) where
+    -- a row more that is the panel's
+    pub gathered-more : (alone' items' : List ToldRow) → is_same_panel row.key.panel panel ≡ true → AreGathered (panel_rows panel (take n rows)) counts alone items
+        → alone' ≡ alone_with counts row alone → items' ≡ items_with counts row items → AreGathered (panel_rows panel (take (n + 1) rows)) counts alone' items'
+    gathered-more alone' items' own h e f =
+        let seen = panel_rows panel (take n rows) in
+        let more = ap (panel_rows panel) (take-more n rows row at) ∙ filter-push (λ r. is_same_panel r.key.panel panel) (take n rows) row own in
+        let behind = gathered-behind counts seen alone items row h in
+        subst (λ (xs : List ToldRow). AreGathered xs counts alone' items') (sym more) (record {
+          by_themselves = e ∙ behind.by_themselves;
+          others = subst (λ (xs : List ToldRow). AreSummed (filter (λ r. not (is_alone counts r.key)) (seen ++ row ∷ [])) xs) (sym f) behind.others;
+        })
+
+    -- and one that isn't
+    pub gathered-pass : is_same_panel row.key.panel panel ≡ false → AreGathered (panel_rows panel (take n rows)) counts alone items → AreGathered (panel_rows panel (take (n + 1) rows)) counts alone items
+    gathered-pass other h =
+        let more = ap (panel_rows panel) (take-more n rows row at) ∙ filter-pass (λ r. is_same_panel r.key.panel panel) (take n rows) row other in
+        subst (λ (xs : List ToldRow). AreGathered xs counts alone items) (sym more) h
+
+    -- a row and its item fit together
+    pub fits-more : AreSound rows → AreGathered (panel_rows panel (take n rows)) counts alone items → All (λ item. is_of item.key row ≡ true → FitTogether item row) items
+    fits-more sound h =
+        All-from_recursion (λ item. is_of item.key row ≡ true → FitTogether item row) items
+        (all-weaker (λ item. undate item ≡ item_of item.key seen) (λ item. is_of item.key row ≡ true → FitTogether item row) fit items (recursion_from_All _ items h.others.sums))
+      where
+        seen : List ToldRow
+        seen = filter (λ r. not (is_alone counts r.key)) (panel_rows panel (take n rows))
+
+        room : (f : ToldRow → ℕ) (key : Key) → is_of key row ≡ true → sum_by f (of_item key seen) + f row ≤ sum_by f (of_item key rows)
+        room f key e = omega (
+          arith,
+          sum-among f (is_of key) (λ r. not (is_alone counts r.key)) (panel_rows panel (take n rows)),
+          sum-among f (is_of key) (λ r. is_same_panel r.key.panel panel) (take n rows),
+          sum-room f (is_of key) rows n row at e,
+        )
+
+        fit : (item : ToldRow) → undate item ≡ item_of item.key seen → is_of item.key row ≡ true → FitTogether item row
+        fit item sums e =
+            let fits = item-fits rows sound item.key in
+            record {
+              hits = omega (arith, ap (λ (r : ToldRow). r.sums.hits) sums, room (λ r. r.sums.hits) item.key e, fits.hits);
+              bytes = omega (arith, ap (λ (r : ToldRow). r.sums.bytes) sums, room (λ r. r.sums.bytes) item.key e, fits.bytes);
+              micros = omega (arith, ap (λ (r : ToldRow). r.sums.micros) sums, room (λ r. r.sums.micros) item.key e, fits.micros);
+              visitors = omega (arith, ap (λ (r : ToldRow). r.visitors) sums, room (λ r. r.visitors) item.key e, fits.visitors);
+            }
