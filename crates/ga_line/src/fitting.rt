@@ -1,4 +1,4 @@
-ghost use Rattle.std.specs.Prelude.{◌≡◌, ℕ, List, ◌∷◌, IfSome, IfNone, slice_get};
+ghost use Rattle.std.specs.Prelude.{◌≡◌, ℕ, List, [], ◌∷◌, IfSome, IfNone, IsTrue, IsFalse, slice_get};
 ghost use Rattle.std.specs.Option.{option_copied};
 ghost use Rattle.ga_line.specs.Fits.{Part, Fits, SkipsSpace, is_space};
 ghost use Rattle.ga_line.specs.Steps.Fitting.{AreNoted, EndsBefore, EndsLine};
@@ -8,16 +8,20 @@ use crate::fields::Fields;
 use crate::forwarded::forwarded_in;
 use ga_base::FormatItem;
 
-/// Fits a line to the items of a format, in their order. `None` where it doesn't fit.
-pub(crate) fn fit<'a>(items: &[FormatItem], line: &'a [u8]) -> Option<Fields<'a>>
-    ensures fits { IfSome result (λ fields. (parts : List Part) × Fits items.now line.now parts × AreNoted parts fields) }
-    ensures misfit { IfNone result ((parts : List Part) → ¬ Fits items.now line.now parts) }
+/// Whether a line fits the items of a format, in their order. Notes the line's fields where it does; else what is noted
+/// says nothing.
+pub(crate) fn fit<'a>(items: &[FormatItem], line: &'a [u8], fields: &mut Fields<'a>) -> bool
+    requires { AreNoted [] fields.old }
+    ensures fits { IsTrue result → (parts : List Part) × Fits items.now line.now parts × AreNoted parts fields.new }
+    ensures misfit { IsFalse result → (parts : List Part) → ¬ Fits items.now line.now parts }
 {
     let mut rest = line;
-    let mut fields = Fields::none();
     for (at, item) in items.iter().enumerate() {
         match item {
-            FormatItem::Literal(byte) => rest = after_byte(rest, *byte)?,
+            FormatItem::Literal(byte) => match after_byte(rest, *byte) {
+                Some(after) => rest = after,
+                None => return false,
+            },
             FormatItem::Skip => rest = after_space(rest),
             FormatItem::Field(letter) => match field_in(rest, item_at(items, at + 1)) {
                 Some((text, after)) => {
@@ -26,20 +30,23 @@ pub(crate) fn fit<'a>(items: &[FormatItem], line: &'a [u8]) -> Option<Fields<'a>
                 }
                 None => {
                     fields.note(*letter, rest);
-                    return Some(fields);
+                    return true;
                 }
             },
             FormatItem::Forwarded(separators) => {
-                let field = forwarded_in(rest, separators.bytes(), item_at(items, at + 1))?;
+                let next = item_at(items, at + 1);
+                let Some(field) = forwarded_in(rest, separators.bytes(), next) else {
+                    return false;
+                };
                 fields.note_host(field.host);
                 match field.after {
                     Some(after) => rest = after,
-                    None => return Some(fields),
+                    None => return true,
                 }
             }
         }
     }
-    Some(fields)
+    true
 }
 
 /// The item at a place, if there is one.

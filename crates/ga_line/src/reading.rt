@@ -7,6 +7,7 @@ ghost use Rattle.ga_line.specs.Records.{IsLineOf, IsPassedOver};
 ghost use Rattle.ga_line.specs.Views.{StandsInLine, line_in};
 
 use crate::LineSetup;
+use crate::fields::Fields;
 use crate::fitting::fit;
 use crate::numbers::numbers_of;
 use crate::saying::view_of;
@@ -57,9 +58,10 @@ pub fn read_view<'a>(
     if line.len() > MAX_LINE {
         return Ok(LineView::Failed);
     }
-    let Some(fields) = fit(setup.format.items(), line) else {
+    let mut fields = Fields::none();
+    if !fit(setup.format.items(), line, &mut fields) {
         return Ok(LineView::Failed);
-    };
+    }
     match numbers_of(setup, &fields) {
         None => Ok(LineView::Failed),
         Some(numbers) => {

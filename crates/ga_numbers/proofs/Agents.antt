@@ -8,7 +8,7 @@ use Rattle.ga_base.specs.Orders.{is_same_visitor}
 use Rattle.ga_numbers.specs.Kept.{no_row}
 use Rattle.ga_numbers.specs.Numbers.{AreNoted, IsNumbered, places_of}
 use Rattle.ga_numbers.specs.Rows.{AreFramed, AreRowsOf, is_same_row, moved_by}
-use Rattle.ga_numbers.specs.VisitorFrames.{IsAgent, visitor_at, visitors_in}
+use Rattle.ga_numbers.specs.Visitors.{IsAgent, visitor_at, visitors_in}
 use Rattle.ga_numbers.specs.declared.row.Row.{Row}
 use Rattle.ga_numbers.proofs.Framed.{absorbed}
 use Rattle.ga_numbers.proofs.Framings.{makes-visitors}

@@ -5,7 +5,7 @@ use Rattle.ga_base.specs.declared.key.Key.{Key}
 use Rattle.ga_base.specs.declared.key.Visitor.{Visitor}
 use Rattle.ga_numbers.specs.KeyFrames.{IsKeyFrame, is_same_frame, key_at}
 use Rattle.ga_numbers.specs.Rows.{is_same_row}
-use Rattle.ga_numbers.specs.VisitorFrames.{IsAgent, visitor_at}
+use Rattle.ga_numbers.specs.Visitors.{IsAgent, visitor_at}
 use Rattle.ga_numbers.proofs.Framed.{Makes}
 use Rattle.ga_numbers.proofs.Same.{frame-laws, key-itself, row-laws, same-frame, same-key, same-row, same-visitor, visitor-itself}
 

@@ -5,4 +5,4 @@ pub mod Rows
 pub mod Kept
 pub mod Meetings
 pub mod KeyFrames
-pub mod VisitorFrames
+pub mod Visitors

@@ -1,11 +1,11 @@
 -- Items but for what they share with others, which are called rows, and what they share, which is called their frame.
-use Rattle.std.specs.Prelude.{ℕ, ◌<◌, ◌+◌, ◌*◌, ◌%◌, ◌++◌, Bool, List, length, All, slice_index_or}
+use Rattle.std.specs.Prelude.{ℕ, ◌<◌, ◌+◌, ◌*◌, ◌%◌, ◌^◌, ◌++◌, Bool, List, length, All, slice_index_or}
 use Rattle.std.specs.Hash.{HashWrites, str, u64}
-use Rattle.std.specs.Hash.FoldHasher as hashes
 use Rattle.std.specs.List.{IsDistinct}
 use Rattle.ga_numbers.specs.contracts.row.RowPartialEq.TheImpl.{ghosts as rows}
 use Rattle.ga_numbers.specs.declared.row.Row.{Row}
 use Rattle.ga_numbers.specs.declared.row.RowRef.{RowRef}
+use Rattle.ga_shards.specs.Keys.{text_hash}
 
 -- two rows are the same, as a dictionary tests
 abbrev pub is_same_row : Row → Row → Bool
@@ -17,11 +17,11 @@ row_in r = record { frame = r.frame; date = r.date; text = r.text.now }
 
 -- what a hasher is fed of a row
 abbrev pub fed_row : Row → HashWrites
-fed_row row = u64 row.frame ++ u64 row.date ++ str row.text
+fed_row row = u64 (row.frame * 2 ^ 32 + row.date) ++ str row.text
 
 -- in which shard a row is: one of the four of its day, which some other days share, by its text
 abbrev pub shard_at : Row → ℕ
-shard_at row = hashes.finish (hashes.write hashes.initial row.text) % 4 * 16 + row.date % 16
+shard_at row = text_hash row.text % 4 * 16 + row.date % 16
 
 -- each row's frame is one of these
 abbrev pub AreFramed : {F : Type 0} → List F → List Row → Type 0

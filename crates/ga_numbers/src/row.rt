@@ -1,17 +1,24 @@
-ghost use Rattle.std.specs.Prelude.{◌≡◌, ◌↔◌, ◌<◌, IfOk, IsTrue};
+ghost use Rattle.std.specs.Prelude.{◌≡◌, ◌↔◌, ◌<◌, ◌+◌, ◌*◌, ◌^◌, IfOk, IsTrue};
 ghost use Rattle.std.specs.Cmp.Rules.{comparing, hashing};
 ghost use Rattle.std.proofs.Common.{rules};
 ghost use Rattle.ga_numbers.specs.Rows.{fed_row, row_in, shard_at};
+ghost use Rattle.ga_shards.specs.Keys.{text_hash};
 
 use ga_base::{NoMemory, Noted, Text};
 use std::alloc::Global;
-use std::hash::{FoldHasher, Hash, Hasher};
+use std::hash::{Hash, Hasher};
 
 /// So many days have shards of their own.
 const DAYS: u32 = 16;
 
 /// So many shards the rows of a day are in.
-const TEXTS: u32 = 4;
+const TEXTS: u64 = 4;
+
+/// What the upper half of a word counts by.
+const HALF_WORD: u64 = 1 << 32;
+
+/// An odd number with no pattern in its bits, by which what stands beside a text is spread over a hash.
+const SPREAD: u64 = 0x9e37_79b9_7f4a_7c15;
 
 /// An item, but for what it shares with others.
 #[derive(Debug, PartialEq, Eq, Clone, Drop)]
@@ -29,10 +36,9 @@ impl Hash for Row {
 
     ghost respects_eq = { Prim.search (hashing, rules) };
 
-    /// Each number is a whole word, which costs a hasher less than half a word does.
+    /// Both numbers are one word, which costs a hasher less than two halves do.
     fn hash<H: Hasher>(&self, state: &mut H) {
-        state.write_u64(u64::from(self.frame));
-        state.write_u64(u64::from(self.date));
+        state.write_u64(numbers_of(self.frame, self.date));
         self.text.hash(state);
     }
 }
@@ -73,24 +79,27 @@ impl<'a> RowRef<'a> {
         row.frame == self.frame && row.date == self.date && row.text.as_str() == self.text
     }
 
-    /// A cheap hash of the row, for a hint.
-    pub(crate) fn hint(&self) -> u64 {
-        let mut hasher = FoldHasher::default();
-        hasher.write_u64(u64::from(self.frame) << 32 | u64::from(self.date));
-        hasher.write(self.text.as_bytes());
-        hasher.finish()
+    /// A cheap hash of the row, for a hint, where its text has this hash.
+    pub(crate) fn hint(&self, text: u64) -> u64 {
+        text ^ numbers_of(self.frame, self.date).wrapping_mul(SPREAD)
+    }
+
+    /// In which shard the row is, where its text has this hash: one of the four of its day, by its text. Lines of a log come day
+    /// by day, so while one lasts the shards that it needs are small and near the processor. The four stand far apart, so that
+    /// where shards are put together in groups, rows of a single day are in four of these. Who makes texts that collide under the
+    /// cheap hash fills one shard, and its map is keyed.
+    pub(crate) fn shard(&self, text: u64) -> u32
+        requires { text ≡ text_hash self.now.text.now }
+        ensures value { result ≡ shard_at (row_in self.now) }
+        ensures within { result < 64 }
+    {
+        (text % TEXTS) as u32 * DAYS + self.date % DAYS
     }
 }
 
-/// In which shard a row is: one of the four of its day, by its text. Lines of a log come day by day, so while one lasts the
-/// shards that it needs are small and near the processor. The four stand far apart, so that where shards are put together in
-/// groups, rows of a single day are in four of these. A hash of the standard library decides, which costs little: who makes
-/// texts that collide under it fills one shard, and its map is keyed.
-pub(crate) fn shard_of(row: &RowRef<'_>) -> u32
-    ensures value { result ≡ shard_at (row_in row.now) }
-    ensures within { result < 64 }
+/// A frame and a day in one word.
+fn numbers_of(frame: u32, date: u32) -> u64
+    ensures { result ≡ frame * 2 ^ 32 + date }
 {
-    let mut hasher = FoldHasher::default();
-    hasher.write(row.text.as_bytes());
-    (hasher.finish() % u64::from(TEXTS)) as u32 * DAYS + row.date % DAYS
+    u64::from(frame) * HALF_WORD + u64::from(date)
 }

@@ -4,14 +4,15 @@ ghost use Rattle.ga_numbers.specs.Kept.{AreKept, AreShards, Grows, StandsAt, row
 ghost use Rattle.ga_numbers.specs.Numbers.{AreNoted, IsNumbered};
 ghost use Rattle.ga_numbers.specs.Rows.{is_same_row, moved_by, row_in};
 ghost use Rattle.ga_numbers.specs.declared.place.Place.{Place};
+ghost use Rattle.ga_shards.specs.Keys.{text_hash};
 
 use crate::hints::Hints;
 use crate::meeting::{assign_all, meet_all};
 use crate::noting::note;
 use crate::place::{Place, assign};
-use crate::row::{Row, RowRef, shard_of};
+use crate::row::{Row, RowRef};
 use ga_base::NoMemory;
-use ga_shards::{Dictionary, Keyed};
+use ga_shards::{Dictionary, Keyed, text_hash};
 use std::alloc::Global;
 use std::marker::Model;
 use std::thread::Threads;
@@ -86,14 +87,15 @@ impl Rows {
         ensures ok { IfOk result (λ number. IsNumbered is_same_row (row_in row.entry) number self.old self.new) }
         ensures err { OnErr result (self.new ≡ self.old) }
     {
-        let hash = row.hint();
+        let text = text_hash(row.text.as_bytes());
+        let hash = row.hint(text);
         match self.hints.get(hash) {
             Some(hint) if self.stands(hint, &row) => return Ok(hint),
             _ => {}
         }
         self.hints.make_room()?;
         open(alloc, self.keyed, &mut self.shards, &mut self.numbers)?;
-        let place = put(alloc, &mut self.shards, row)?;
+        let place = put(alloc, &mut self.shards, row, text)?;
         let number = assign(&mut self.numbers, &mut self.places, place)?;
         self.hints.set(hash, number);
         Ok(number)
@@ -193,15 +195,21 @@ fn no_numbers(alloc: Global) -> Result<Vec<Vec<u32>>, NoMemory>
     Ok(numbers)
 }
 
-/// Puts a row into its shard, where it isn't there, and tells its place.
-fn put(alloc: Global, shards: &mut Vec<Dictionary<Row>>, row: RowRef<'_>) -> Result<Place, NoMemory>
-    requires { vec_len shards.old ≡ 64 }
+/// Puts a row, whose text has this hash, into its shard, where it isn't there, and tells its place.
+fn put(
+    alloc: Global,
+    shards: &mut Vec<Dictionary<Row>>,
+    row: RowRef<'_>,
+    text: u64,
+) -> Result<Place, NoMemory>
+    requires many { vec_len shards.old ≡ 64 }
+    requires text { text ≡ text_hash row.text.now }
     ensures stands { IfOk result (λ place. StandsAt shards.new.items place (row_in row.entry)) }
     ensures within { IfOk result (λ place. place.shard < 64) }
     ensures shards { AreShards shards.old.items → AreShards shards.new.items }
     ensures grown { AreShards shards.old.items → Grows shards.old.items shards.new.items }
 {
-    let shard = shard_of(&row);
+    let shard = row.shard(text);
     let local = note(&mut shards[shard as usize], row.to_row(alloc)?)?;
     Ok(Place { shard, local })
 }

@@ -29,7 +29,7 @@ pub struct VisitorNumbers {
 impl Model for VisitorNumbers {
     ghost use Rattle.std.specs.Prelude.{List};
     ghost use Rattle.ga_base.specs.declared.key.Visitor.{Visitor};
-    ghost use Rattle.ga_numbers.specs.VisitorFrames.{IsAgent, visitors_in};
+    ghost use Rattle.ga_numbers.specs.Visitors.{IsAgent, visitors_in};
     ghost use Rattle.ga_numbers.specs.Rows.{AreRowsOf, is_same_row};
 
     ghost Value = { List Visitor };

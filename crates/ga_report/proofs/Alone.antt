@@ -1,12 +1,13 @@
 -- Rows that are an item by themselves, beside the items of the others.
-use Rattle.std.proofs.Common.{◌≡◌, ℕ, ◌+◌, ◌≤◌, ◌&&◌, Bool, true, false, cond, List, [], ◌∷◌, ◌++◌, Some, length, get_or, filter, sum_by, take, take_all, inl, inr, refl, sym, ap, ◌∙◌, subst, arith, All}
+use Rattle.std.proofs.Common.{◌≡◌, ℕ, ◌+◌, ◌-◌, ◌<◌, ◌≤◌, ◌&&◌, Bool, true, false, cond, List, [], ◌∷◌, ◌++◌, Some, length, get_or, filter, sum_by, take, take_all, inl, inr, refl, sym, ap, ◌∙◌, subst, arith, All}
+use Rattle.std.specs.Hash.FoldHasher as hashes
 use Rattle.std.specs.Prelude.{count_by, not, slice_get}
 use Rattle.std.proofs.lemmas.Bool.{false≢true}
 use Rattle.std.proofs.lemmas.Bool.Decides.{Decides-eqb}
 use Rattle.std.proofs.lemmas.List.Elements.{All-append, All-from_recursion, recursion_from_All}
 use Rattle.std.proofs.lemmas.List.Sums.{sum_by-append, sum_by-cons}
 use Rattle.std.proofs.lemmas.Map.Views.{any-filter_same}
-use Rattle.std.proofs.lemmas.Nat.{mod_below}
+use Rattle.std.proofs.lemmas.Nat.{and_le_r}
 use Rattle.ga_base.specs.declared.key.Key.{Key}
 use Rattle.ga_base.specs.declared.panel.Panel.{Panel}
 use Rattle.ga_base.specs.Panels.{is_same_panel}
@@ -131,12 +132,15 @@ module _ (rows : List ToldRow) (counts : List ℕ) (are : AreMarks rows counts) 
   same-mark : (key : Key) (x : ToldRow) → is_of key x ≡ true → has_mark (length counts) (mark_at (length counts) key) x ≡ true
   same-mark key x e = (Decides-eqb _ _).1 (ap (mark_at (length counts)) (same-item key x e))
 
+  mark-within : (key : Key) → mark_at (length counts) key < length counts
+  mark-within key = omega (arith, are.some, and_le_r (hashes.finish (hashes.write hashes.initial key.label)) (length counts - 1))
+
   -- an item of the rows that are alone has one
   one-row : (key : Key) → is_alone counts key ≡ true → count_by (is_of key) alone ≤ 1
   one-row key e =
       let mark = mark_at (length counts) key in
       let count : get_or counts mark 0 ≡ 1 = (Decides-eqb _ _).0 e in
-      omega (arith, count, are.each mark (mod_below _ (length counts) (omega (arith, are.some))), fewer (is_of key) (has_mark (length counts) mark) (same-mark key) rows, fewer-among (is_of key) (λ row. is_alone counts row.key) rows)
+      omega (arith, count, are.each mark (mark-within key), fewer (is_of key) (has_mark (length counts) mark) (same-mark key) rows, fewer-among (is_of key) (λ row. is_alone counts row.key) rows)
 
   once-alone : (key : Key) (b : Bool) → is_alone counts key ≡ b → (c : Bool) → has_item key alone ≡ c → count_by (is_of key) alone ≡ cond c 1 0
   once-alone key b e false f = not-counted key alone f
@@ -191,56 +195,49 @@ sum-among f p t xs = omega (arith, sum_by-filter f p (filter t xs), sum_by-filte
       | false ↦ omega (arith, sum_by-cons w y ys, within ys)
     ]
 
-module _ (panel : Panel) (rows : List ToldRow) (counts : List ℕ) (alone items : List ToldRow) (n : ℕ) where
-  -- all of them together are the items
-  pub gathered-all : (all : List ToldRow) → length rows ≤ n → AreMarks (panel_rows panel rows) counts → AreGathered (panel_rows panel (take n rows)) counts alone items
-      → all ≡ alone ++ items → AreSummed (panel_rows panel rows) all
-  gathered-all all long are h e =
-      let gathered = subst (λ (xs : List ToldRow). AreGathered (panel_rows panel xs) counts alone items) (take_all n rows long) h in
-      subst (λ (xs : List ToldRow). AreSummed (panel_rows panel rows) xs) (sym e) (summed-beside (panel_rows panel rows) counts are alone items gathered)
+-- all of them together are the items
+pub gathered-all : (those : List ToldRow) (counts : List ℕ) (alone items all : List ToldRow) (n : ℕ) → length those ≤ n → AreMarks those counts → AreGathered (take n those) counts alone items
+    → all ≡ alone ++ items → AreSummed those all
+gathered-all those counts alone items all n long are h e =
+    let gathered = subst (λ (xs : List ToldRow). AreGathered xs counts alone items) (take_all n those long) h in
+    subst (λ (xs : List ToldRow). AreSummed those xs) (sym e) (summed-beside those counts are alone items gathered)
 
-  module _ (row : ToldRow) (at : slice_get rows n ≡ Some row) where
-    -- a row more that is the panel's
-    pub gathered-more : (alone' items' : List ToldRow) → is_same_panel row.key.panel panel ≡ true → AreGathered (panel_rows panel (take n rows)) counts alone items
-        → alone' ≡ alone_with counts row alone → items' ≡ items_with counts row items → AreGathered (panel_rows panel (take (n + 1) rows)) counts alone' items'
-    gathered-more alone' items' own h e f =
-        let seen = panel_rows panel (take n rows) in
-        let more = ap (panel_rows panel) (take-more n rows row at) ∙ filter-push (λ r. is_same_panel r.key.panel panel) (take n rows) row own in
-        let behind = gathered-behind counts seen alone items row h in
-        subst (λ (xs : List ToldRow). AreGathered xs counts alone' items') (sym more) (record {
-          by_themselves = e ∙ behind.by_themselves;
-          others = subst (λ (xs : List ToldRow). AreSummed (filter (λ r. not (is_alone counts r.key)) (seen ++ row ∷ [])) xs) (sym f) behind.others;
-        })
+module _ (those : List ToldRow) (counts : List ℕ) (alone items : List ToldRow) (n : ℕ) (row : ToldRow) (at : slice_get those n ≡ Some row) where
+  -- a row more
+  pub gathered-more : (alone' items' : List ToldRow) → AreGathered (take n those) counts alone items
+      → alone' ≡ alone_with counts row alone → items' ≡ items_with counts row items → AreGathered (take (n + 1) those) counts alone' items'
+  gathered-more alone' items' h e f =
+      let behind = gathered-behind counts (take n those) alone items row h in
+      subst (λ (xs : List ToldRow). AreGathered xs counts alone' items') (sym (take-more n those row at)) (record {
+        by_themselves = e ∙ behind.by_themselves;
+        others = subst (λ (xs : List ToldRow). AreSummed (filter (λ r. not (is_alone counts r.key)) (take n those ++ row ∷ [])) xs) (sym f) behind.others;
+      })
 
-    -- and one that isn't
-    pub gathered-pass : is_same_panel row.key.panel panel ≡ false → AreGathered (panel_rows panel (take n rows)) counts alone items → AreGathered (panel_rows panel (take (n + 1) rows)) counts alone items
-    gathered-pass other h =
-        let more = ap (panel_rows panel) (take-more n rows row at) ∙ filter-pass (λ r. is_same_panel r.key.panel panel) (take n rows) row other in
-        subst (λ (xs : List ToldRow). AreGathered xs counts alone items) (sym more) h
+  -- a row of a panel and its item fit together
+  pub fits-more : (panel : Panel) (rows : List ToldRow) → those ≡ panel_rows panel rows → AreSound rows → AreGathered (take n those) counts alone items
+      → All (λ item. is_of item.key row ≡ true → FitTogether item row) items
+  fits-more panel rows e sound h =
+      All-from_recursion (λ item. is_of item.key row ≡ true → FitTogether item row) items
+      (all-weaker (λ item. undate item ≡ item_of item.key seen) (λ item. is_of item.key row ≡ true → FitTogether item row) fit items (recursion_from_All _ items h.others.sums))
+    where
+      seen : List ToldRow
+      seen = filter (λ r. not (is_alone counts r.key)) (take n those)
 
-    -- a row and its item fit together
-    pub fits-more : AreSound rows → AreGathered (panel_rows panel (take n rows)) counts alone items → All (λ item. is_of item.key row ≡ true → FitTogether item row) items
-    fits-more sound h =
-        All-from_recursion (λ item. is_of item.key row ≡ true → FitTogether item row) items
-        (all-weaker (λ item. undate item ≡ item_of item.key seen) (λ item. is_of item.key row ≡ true → FitTogether item row) fit items (recursion_from_All _ items h.others.sums))
-      where
-        seen : List ToldRow
-        seen = filter (λ r. not (is_alone counts r.key)) (panel_rows panel (take n rows))
+      room : (f : ToldRow → ℕ) (key : Key) → is_of key row ≡ true → sum_by f (of_item key seen) + f row ≤ sum_by f (of_item key rows)
+      room f key own = omega (
+        arith,
+        sum-among f (is_of key) (λ r. not (is_alone counts r.key)) (take n those),
+        sum-room f (is_of key) those n row at own,
+        ap (λ (xs : List ToldRow). sum_by f (of_item key xs)) e,
+        sum-among f (is_of key) (λ r. is_same_panel r.key.panel panel) rows,
+      )
 
-        room : (f : ToldRow → ℕ) (key : Key) → is_of key row ≡ true → sum_by f (of_item key seen) + f row ≤ sum_by f (of_item key rows)
-        room f key e = omega (
-          arith,
-          sum-among f (is_of key) (λ r. not (is_alone counts r.key)) (panel_rows panel (take n rows)),
-          sum-among f (is_of key) (λ r. is_same_panel r.key.panel panel) (take n rows),
-          sum-room f (is_of key) rows n row at e,
-        )
-
-        fit : (item : ToldRow) → undate item ≡ item_of item.key seen → is_of item.key row ≡ true → FitTogether item row
-        fit item sums e =
-            let fits = item-fits rows sound item.key in
-            record {
-              hits = omega (arith, ap (λ (r : ToldRow). r.sums.hits) sums, room (λ r. r.sums.hits) item.key e, fits.hits);
-              bytes = omega (arith, ap (λ (r : ToldRow). r.sums.bytes) sums, room (λ r. r.sums.bytes) item.key e, fits.bytes);
-              micros = omega (arith, ap (λ (r : ToldRow). r.sums.micros) sums, room (λ r. r.sums.micros) item.key e, fits.micros);
-              visitors = omega (arith, ap (λ (r : ToldRow). r.visitors) sums, room (λ r. r.visitors) item.key e, fits.visitors);
-            }
+      fit : (item : ToldRow) → undate item ≡ item_of item.key seen → is_of item.key row ≡ true → FitTogether item row
+      fit item sums own =
+          let fits = item-fits rows sound item.key in
+          record {
+            hits = omega (arith, ap (λ (r : ToldRow). r.sums.hits) sums, room (λ r. r.sums.hits) item.key own, fits.hits);
+            bytes = omega (arith, ap (λ (r : ToldRow). r.sums.bytes) sums, room (λ r. r.sums.bytes) item.key own, fits.bytes);
+            micros = omega (arith, ap (λ (r : ToldRow). r.sums.micros) sums, room (λ r. r.sums.micros) item.key own, fits.micros);
+            visitors = omega (arith, ap (λ (r : ToldRow). r.visitors) sums, room (λ r. r.visitors) item.key own, fits.visitors);
+          }

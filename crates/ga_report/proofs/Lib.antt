@@ -14,5 +14,6 @@ pub mod OneArrangement
 pub mod Printables
 pub mod Stretches
 pub mod PanelItems
+pub mod PanelPlaces
 pub mod Marked
 pub mod Alone

@@ -9,7 +9,7 @@ use Rattle.std.specs.List.Sorted.{IsStrictlySortedBy, IsPermutation}
 use Rattle.std.proofs.lemmas.Cmp.{tied_itself}
 use Rattle.std.proofs.lemmas.List.Elements.{All-get_or, filter-append}
 use Rattle.std.proofs.lemmas.List.Sorted.{Contains-permutation}
-use Rattle.std.proofs.lemmas.List.Sums.{sum_by-cons, sum_by_push}
+use Rattle.std.proofs.lemmas.List.Sums.{sum_by-cons}
 
 -- an item is somewhere in the list
 abbrev pub In : {X : Type 0} → X → List X → Type 0
@@ -153,11 +153,6 @@ more-part w [] zero x e = cc
 more-part w [] (suc n) x e = cc
 more-part w (y ∷ ys) zero x e = let same : y ≡ x = cc e in omega (arith, sum_by-cons w y ys, ap w same)
 more-part w (y ∷ ys) (suc n) x e = omega (arith, sum_by-cons w y ys, sum_by-cons w y (take n ys), more-part w ys n x e)
-
-pub sum-push : {X : Type 0} (f : X → ℕ) (test : X → Bool) (xs : List X) (x : X) (b : Bool) → test x ≡ b → sum_by f (filter test (xs ++ x ∷ [])) ≡ sum_by f (filter test xs) + cond b (f x) 0
-sum-push {X} f test xs x b e =
-    sum_by-filter f test (xs ++ x ∷ []) ∙ sum_by_push (λ y. cond (test y) (f y) 0) xs x
-    ∙ ap (λ (n : ℕ). n + cond (test x) (f x) 0) (sym (sum_by-filter f test xs)) ∙ ap (λ (v : Bool). sum_by f (filter test xs) + cond v (f x) 0) e
 
 pub sum-room : {X : Type 0} (f : X → ℕ) (test : X → Bool) (xs : List X) (n : ℕ) (x : X) → slice_get xs n ≡ Some x → test x ≡ true
     → sum_by f (filter test (take n xs)) + f x ≤ sum_by f (filter test xs)

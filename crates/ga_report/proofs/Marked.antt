@@ -5,12 +5,9 @@ use Rattle.std.proofs.lemmas.Bool.{false≢true}
 use Rattle.std.proofs.lemmas.Bool.Decides.{Decides-eqb}
 use Rattle.std.proofs.lemmas.List.{get_or-set_same, get_or-set_other, length-set}
 use Rattle.std.proofs.lemmas.List.Sums.{sum_by_push}
-use Rattle.ga_base.specs.declared.panel.Panel.{Panel}
-use Rattle.ga_base.specs.Panels.{is_same_panel}
 use Rattle.ga_report.specs.Steps.Alone.{AreMarks, has_mark, mark_at, noted_mark}
-use Rattle.ga_report.specs.Steps.Summed.{panel_rows}
 use Rattle.ga_report.specs.Told.{ToldRow}
-use Rattle.ga_report.proofs.Lists.{filter-pass, filter-push, take-more}
+use Rattle.ga_report.proofs.Lists.{take-more}
 
 -- there are as many
 pub noted-long : (counts : List ℕ) (mark : ℕ) → length (noted_mark counts mark) ≡ length counts
@@ -49,15 +46,8 @@ module _ (rows : List ToldRow) (row : ToldRow) (counts : List ℕ) where
         each = λ mark less. more-each are mark (omega (arith, less, long)) ∙ ap (λ (k : ℕ). min 2 (count_by (has_mark k mark) (rows ++ row ∷ []))) (sym long);
       }
 
-module _ (panel : Panel) (rows : List ToldRow) (counts : List ℕ) (n : ℕ) (row : ToldRow) (at : slice_get rows n ≡ Some row) where
-  -- a row more that is the panel's
-  pub marked-more : is_same_panel row.key.panel panel ≡ true → AreMarks (panel_rows panel (take n rows)) counts → AreMarks (panel_rows panel (take (n + 1) rows)) (noted_mark counts (mark_at (length counts) row.key))
-  marked-more own are =
-      let more = ap (panel_rows panel) (take-more n rows row at) ∙ filter-push (λ r. is_same_panel r.key.panel panel) (take n rows) row own in
-      subst (λ (xs : List ToldRow). AreMarks xs (noted_mark counts (mark_at (length counts) row.key))) (sym more) (marked-behind (panel_rows panel (take n rows)) row counts are)
-
-  -- and one that isn't
-  pub marked-pass : is_same_panel row.key.panel panel ≡ false → AreMarks (panel_rows panel (take n rows)) counts → AreMarks (panel_rows panel (take (n + 1) rows)) counts
-  marked-pass other are =
-      let more = ap (panel_rows panel) (take-more n rows row at) ∙ filter-pass (λ r. is_same_panel r.key.panel panel) (take n rows) row other in
-      subst (λ (xs : List ToldRow). AreMarks xs counts) (sym more) are
+-- a row more of those that are read
+pub marked-more : (those : List ToldRow) (counts : List ℕ) (n : ℕ) (row : ToldRow) → slice_get those n ≡ Some row → AreMarks (take n those) counts
+    → AreMarks (take (n + 1) those) (noted_mark counts (mark_at (length counts) row.key))
+marked-more those counts n row at are =
+    subst (λ (xs : List ToldRow). AreMarks xs (noted_mark counts (mark_at (length counts) row.key))) (sym (take-more n those row at)) (marked-behind (take n those) row counts are)

@@ -4,11 +4,12 @@ ghost use Rattle.ga_report.specs.Items.{is_of, undated};
 ghost use Rattle.ga_report.specs.Reports.{general_of};
 ghost use Rattle.ga_report.specs.Steps.Alone.{alone_with, items_with};
 ghost use Rattle.ga_report.specs.Steps.Summed.{AreSummed, FitTogether, IsPart, by_parent, panel_rows, with_row};
+ghost use Rattle.ga_shards.specs.Keys.{keyed_with};
 
 use crate::item_name::ItemName;
 use crate::marks::Marks;
+use crate::places::places_of;
 use crate::{Tells, Told};
-use ga_base::laws::panel_order;
 use ga_base::{NoMemory, Panel, Totals};
 use ga_shards::{Dictionary, Keyed};
 use std::alloc::Global;
@@ -16,8 +17,8 @@ use std::alloc::Global;
 /// More items than numbers of 32 bits take more memory than there is.
 const MOST_ITEMS: usize = u32::MAX as usize - 2;
 
-/// The items of a panel, in any order: its rows that differ in their day alone are added up. It takes the time of two looks
-/// for each of its rows, of one by its name for each that isn't alone at its mark, and of two at each other row's panel.
+/// The items of a panel, in any order: its rows that differ in their day alone are added up. It takes the time of finding
+/// the panel's rows, of two looks at each of them, and of one by its name for each that isn't alone at its mark.
 pub(crate) fn items_of<'a, T: Tells>(
     alloc: Global,
     told: &'a T,
@@ -40,15 +41,13 @@ fn gathered<'a, T: Tells>(
 ) -> Result<Vec<Told<'a>>, NoMemory>
     ensures { IfOk result (λ items. AreSummed (panel_rows panel (T.view told.now).rows) items.items) }
 {
-    panel_order();
-    let marks = Marks::of(alloc, told, panel)?;
+    let places = places_of(alloc, told, panel)?;
+    let marks = Marks::of(alloc, told, &places)?;
     let mut names = Dictionary::new(alloc, keyed_by(&told.totals()));
     let mut alone = Vec::new(alloc);
     let mut items = Vec::new(alloc);
-    for at in 0..told.len() {
-        if told.panel(at) == panel {
-            put_row(&marks, &mut names, &mut alone, &mut items, told.row(at))?;
-        }
+    for place in &places {
+        put_row(&marks, &mut names, &mut alone, &mut items, told.row(*place))?;
     }
     alone.append(&mut items)?;
     Ok(alone)
@@ -57,7 +56,7 @@ fn gathered<'a, T: Tells>(
 /// How the names of items hash, by what all lines come to. Who writes lines into a log doesn't know what else will stand
 /// there, so can't choose texts that collide.
 fn keyed_by(totals: &Totals) -> Keyed
-    ensures { result ≡ record { first = totals.now.bytes; second = totals.now.hits } }
+    ensures { result ≡ keyed_with totals.now.bytes totals.now.hits }
 {
     Keyed::new(totals.bytes, totals.hits)
 }
@@ -70,12 +69,11 @@ fn put_row<'a>(
     items: &mut Vec<Told<'a>>,
     row: Told<'a>,
 ) -> Result<(), NoMemory>
-    requires marks { 1 ≤ length marks.now.counts.items }
     requires names { names.old ≡ map (λ item. undated item.key) items.old.items }
     requires fit { All (λ item. IsTrue (is_of item.key row) → FitTogether item row) items.old.items }
     ensures names { OnOk result (names.new ≡ map (λ item. undated item.key) items.new.items) }
-    ensures alone { OnOk result (alone.new.items ≡ alone_with marks.now.counts.items row.entry alone.old.items) }
-    ensures items { OnOk result (items.new.items ≡ items_with marks.now.counts.items row.entry items.old.items) }
+    ensures alone { OnOk result (alone.new.items ≡ alone_with marks.now row.entry alone.old.items) }
+    ensures items { OnOk result (items.new.items ≡ items_with marks.now row.entry items.old.items) }
 {
     if marks.is_alone(&row) {
         alone.push(row)?;

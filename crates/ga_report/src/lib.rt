@@ -11,6 +11,7 @@ pub mod laws;
 mod marks;
 mod of_summary;
 mod percents;
+mod places;
 mod report;
 mod reporting;
 mod told;

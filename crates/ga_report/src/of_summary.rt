@@ -17,7 +17,7 @@ impl Tells for Summary {
         self.len()
     }
 
-    fn about(&self, _panel: Panel) -> u64 {
+    fn at_most(&self, _panel: Panel) -> u64 {
         self.len()
     }
 

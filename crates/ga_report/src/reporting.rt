@@ -10,10 +10,10 @@ ghost use Rattle.ga_report.specs.Told.{ToldRow};
 use crate::arranging::{entries_of, has_groups, top, top_groups};
 use crate::gathering::{grouped, items_of};
 use crate::item_name::ItemName;
+use crate::places::places_of;
 use crate::{
     General, Item, Items, PanelList, PanelLists, Report, Row, RowList, Tells, Told, hundredths,
 };
-use ga_base::laws::panel_order;
 use ga_base::{NoMemory, Panel, PanelSet, Text};
 use std::alloc::Global;
 use std::marker::Sync;
@@ -55,7 +55,7 @@ pub fn rows<R: Threads + Sync, T: Tells + Sync>(
 {
     // What is known of the totals is that each key has a hit.
     let _totals = told.totals();
-    let general = general_of(told);
+    let general = general_of(alloc, told)?;
     let shown = shown_panels(alloc, panels)?;
     let panels = if jobs <= 1 {
         lists_in_turn(alloc, told, &general, &shown, max_items)?
@@ -65,12 +65,11 @@ pub fn rows<R: Threads + Sync, T: Tells + Sync>(
     Ok(Report { general, panels })
 }
 
-/// The numbers over all lines.
-fn general_of<T: Tells>(told: &T) -> General
-    ensures { result ≡ general_of (T.view told.now) }
+/// The numbers over all lines: those of the days are sums over their rows.
+fn general_of<T: Tells>(alloc: Global, told: &T) -> Result<General, NoMemory>
+    ensures { IfOk result (λ general. general ≡ general_of (T.view told.now)) }
 {
     let totals = told.totals();
-    panel_order();
     let mut general = General {
         total_requests: totals.lines,
         valid_requests: 0,
@@ -79,12 +78,11 @@ fn general_of<T: Tells>(told: &T) -> General
         unique_visitors: 0,
         bandwidth: 0,
     };
-    for at in 0..told.len() {
-        if told.panel(at) == Panel::Visitors {
-            general = with_day(general, &told.row(at));
-        }
+    let days = places_of(alloc, told, Panel::Visitors)?;
+    for day in &days {
+        general = with_day(general, &told.row(*day));
     }
-    general
+    Ok(general)
 }
 
 /// The numbers with one day more.

@@ -1,4 +1,5 @@
-ghost use Rattle.std.specs.Prelude.{◌≡◌, ◌<◌, length, slice_get, IfSome, Some};
+ghost use Rattle.std.specs.Prelude.{◌≡◌, ◌<◌, ◌≤◌, count_by, length, slice_get, IfSome, Some};
+ghost use Rattle.ga_base.specs.Panels.{is_same_panel};
 ghost use Rattle.ga_report.specs.Items.{undated};
 ghost use Rattle.ga_report.specs.Sound.{AreSound};
 ghost use Rattle.ga_report.specs.Steps.Summed.{plus, FitTogether};
@@ -21,10 +22,11 @@ pub trait Tells {
     fn len(&self) -> u64
         ensures { result ≡ length (view self.now).rows };
 
-    /// About how many rows of a panel there are: how much room to make depends on it, and nothing else.
-    fn about(&self, panel: Panel) -> u64;
+    /// So many rows of a panel there are at most. Where so many are seen, a report looks for no more of them.
+    fn at_most(&self, panel: Panel) -> u64
+        ensures { count_by (λ row. is_same_panel row.key.panel panel) (view self.now).rows ≤ result };
 
-    /// The panel of the row at a place. A report looks at it twice for each panel, and takes the rows of that panel alone.
+    /// The panel of the row at a place. A report looks at it once for each panel, and takes the rows of that panel alone.
     fn panel(&self, at: u64) -> Panel
         requires { at < length (view self.now).rows }
         ensures { IfSome (slice_get (view self.now).rows at) (λ row. result ≡ row.key.panel) };

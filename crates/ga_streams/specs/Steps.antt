@@ -5,6 +5,7 @@ use Rattle.std.specs.Hash.DefaultHasher.{finish, initial, write}
 use Rattle.ga_base.specs.declared.counts.Totals.{Totals}
 use Rattle.ga_batches.specs.Batches.{BatcherSeen, held}
 use Rattle.ga_pool.specs.Together.{AreTalliesOf, together, totals_in}
+use Rattle.ga_shards.specs.Keys.{keyed_with}
 use Rattle.ga_shards.specs.declared.keyed.Keyed.{Keyed}
 use Rattle.ga_streams.specs.Counting.{AreTallied}
 use Rattle.ga_summary.specs.Outcomes.{Outcome}
@@ -28,4 +29,4 @@ HasRoom b = length (held b) < b.limit
 abbrev pub keyed_from : List ℕ → ℕ → Keyed
 keyed_from front size =
     let read = write initial front in
-    record { first = finish read; second = finish (write read (hash.le_bytes 8 size)) }
+    keyed_with (finish read) (finish (write read (hash.le_bytes 8 size)))

@@ -6,13 +6,34 @@ ghost use Rattle.ga_tallies.specs.Agents.{AreAgents, IsTold};
 use crate::places::{make_places, put_at};
 use ga_agents::{Agent, Class, Rules};
 use ga_base::{NoMemory, Text};
+use ga_shards::text_hash;
 use std::alloc::Global;
-use std::hash::{FoldHasher, Hasher};
 use std::marker::Model;
 use std::mem;
 
 /// So many places there are for agents, once the first came.
 const PLACES: usize = 2048;
+
+/// The agent of a line, with the hash of its text.
+#[derive(Clone, Copy)]
+pub(crate) struct AgentRef<'a> {
+    /// The hash of its text.
+    hash: u64,
+    /// The agent as the line has it.
+    text: &'a str,
+}
+
+impl<'a> AgentRef<'a> {
+    /// The agent with this text.
+    pub(crate) fn of(text: &'a str) -> AgentRef<'a>
+        ensures { result.text.now ≡ text.now }
+    {
+        AgentRef {
+            hash: text_hash(text.as_bytes()),
+            text,
+        }
+    }
+}
 
 /// An agent that came, and what it is.
 #[derive(Drop)]
@@ -63,16 +84,16 @@ impl Agents {
         &mut self,
         alloc: Global,
         rules: &Rules,
-        agent: &str,
+        came: AgentRef<'_>,
     ) -> Result<(), NoMemory>
         requires { AreAgents rules.now self.old }
         ensures { AreAgents rules.now self.new }
     {
-        let hash = hash_of(agent);
-        if self.known(hash, agent).is_some() || !self.has_come(hash)? {
+        let hash = came.hash;
+        if self.known(came).is_some() || !self.has_come(hash)? {
             return Ok(());
         }
-        let text = Text::of(alloc, agent)?;
+        let text = Text::of(alloc, came.text)?;
         let agent = rules.classify(&text)?;
         self.put(KnownAgent { hash, text, agent })
     }
@@ -91,24 +112,24 @@ impl Agents {
     }
 
     /// What an agent is: as it is kept, else as the rules say.
-    pub(crate) fn class_of<'a>(&'a self, rules: &'a Rules, agent: &'a str) -> Class<'a>
+    pub(crate) fn class_of<'a>(&'a self, rules: &'a Rules, agent: AgentRef<'a>) -> Class<'a>
         requires { AreAgents rules.now self.now }
-        ensures { IsTold rules.now agent.now (agent_of result) }
+        ensures { IsTold rules.now agent.entry.text.now (agent_of result) }
     {
-        match self.known(hash_of(agent), agent) {
+        match self.known(agent) {
             Some(known) => class_in(known),
-            None => rules.class_of(agent),
+            None => rules.class_of(agent.text),
         }
     }
 
-    /// What is kept of an agent, whose text has this hash.
-    pub(crate) fn known(&self, hash: u64, agent: &str) -> Option<&Agent>
+    /// What is kept of an agent.
+    pub(crate) fn known(&self, agent: AgentRef<'_>) -> Option<&Agent>
         ensures { (rules : List Rule) → AreAgents rules self.now →
-            IfSome result (λ known. IsTold rules agent.now known.now) }
+            IfSome result (λ known. IsTold rules agent.entry.text.now known.now) }
     {
-        let place = place_of(hash);
+        let place = place_of(agent.hash);
         if place < self.places.len() {
-            kept_at(&self.places[place], hash, agent)
+            kept_at(&self.places[place], agent)
         } else {
             None
         }
@@ -126,22 +147,17 @@ impl Agents {
     }
 }
 
-/// What the agent at a place is, where it has this hash and this text.
-fn kept_at<'a>(place: &'a Option<KnownAgent>, hash: u64, text: &str) -> Option<&'a Agent>
+/// What the agent at a place is, where it is this one.
+fn kept_at<'a>(place: &'a Option<KnownAgent>, agent: AgentRef<'_>) -> Option<&'a Agent>
     ensures { (rules : List Rule) → IfSome place.now (λ known. IsTold rules known.text known.agent) →
-        IfSome result (λ agent. IsTold rules text.now agent.now) }
+        IfSome result (λ kept. IsTold rules agent.entry.text.now kept.now) }
 {
     match place {
-        Some(known) if known.hash == hash && known.text.as_str() == text => Some(&known.agent),
+        Some(known) if known.hash == agent.hash && known.text.as_str() == agent.text => {
+            Some(&known.agent)
+        }
         _ => None,
     }
-}
-
-/// A cheap hash of an agent's text.
-pub(crate) fn hash_of(text: &str) -> u64 {
-    let mut hasher = FoldHasher::default();
-    hasher.write(text.as_bytes());
-    hasher.finish()
 }
 
 /// The place of an agent whose text has this hash.

@@ -14,6 +14,7 @@ ghost use Rattle.ga_summary.specs.Sound.{TotalsFit};
 ghost use Rattle.ga_tallies.specs.Agents.{AreAgents};
 ghost use Rattle.ga_tallies.specs.Steps.OneLine.{Adds, IsTooMuch, OverfillsLine, OverfillsSaid, TakesLine, TakesSaid, hit_told};
 
+use crate::agents::AgentRef;
 use crate::{Agents, Tally, TallyFault};
 use ga_base::{LIMIT, NoMemory, RecordRef, Sums, Totals};
 use ga_line::{LineView, read_view};
@@ -80,8 +81,9 @@ impl Tally {
             OverfillsSaid panels.now (SaysRecord (record_in rec.entry)) self.old }
         ensures known { AreAgents panels.now.rules agents.new }
     {
-        agents.learn(alloc, &panels.rules, rec.agent)?;
-        let facts = facts_of(alloc, panels, agents, rec)?;
+        let agent = AgentRef::of(rec.agent);
+        agents.learn(alloc, &panels.rules, agent)?;
+        let facts = facts_of(alloc, panels, agents, agent, rec)?;
         if facts.is_excluded() {
             return self.add_totals(EXCLUDED);
         }
@@ -128,13 +130,15 @@ fn facts_of<'a>(
     alloc: Global,
     panels: &'a PanelSetup,
     agents: &'a Agents,
+    agent: AgentRef<'a>,
     rec: RecordRef<'a>,
 ) -> Result<RecordFacts<'a>, NoMemory>
     requires bounds { RecordBounds (record_in rec) }
+    requires agent { agent.text.now ≡ rec.agent.now }
     requires known { AreAgents panels.now.rules agents.now }
     ensures { IfOk result (AreFactsOf panels.now (record_in rec.entry)) }
 {
-    let class = agents.class_of(&panels.rules, rec.agent);
+    let class = agents.class_of(&panels.rules, agent);
     let referral = referral_of(alloc, rec.referrer)?;
     Ok(RecordFacts::with(panels, rec, class, referral))
 }

@@ -1,6 +1,6 @@
 ghost use Rattle.ga_tallies.specs.Agents.{AreAgents};
 
-use crate::agents::hash_of;
+use crate::agents::AgentRef;
 use crate::{Agents, Pair, Tally, pairs_of};
 use ga_agents::Rules;
 use ga_base::{FormatFault, NoMemory, PanelSet, Statuses, Sums, Text, Texts, Totals};
@@ -102,8 +102,9 @@ fn is_known_then(
     requires { AreAgents rules.now agents.old }
     ensures { AreAgents rules.now agents.new }
 {
+    let agent = AgentRef::of(agent);
     agents.learn(alloc, rules, agent)?;
-    Ok(agents.known(hash_of(agent), agent).is_some())
+    Ok(agents.known(agent).is_some())
 }
 
 #[test]

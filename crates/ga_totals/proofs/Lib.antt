@@ -8,5 +8,6 @@ pub mod Dates
 pub mod Summing
 pub mod Visiting
 pub mod AnyOrder
+pub mod Sizes
 pub mod ToldRows
 pub mod Told

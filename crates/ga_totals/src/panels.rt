@@ -1,4 +1,5 @@
 ghost use Rattle.std.specs.Prelude.{◌≡◌, IfOk, map};
+ghost use Rattle.ga_totals.specs.Steps.Telling.{AreSizes};
 
 use ga_base::{NoMemory, Panel};
 use ga_numbers::KeyNumbers;
@@ -16,12 +17,12 @@ pub(crate) fn panels_of(alloc: Global, keys: &KeyNumbers) -> Result<Vec<Panel>, 
 }
 
 /// How many of these each panel is, at the panel's number.
-pub(crate) fn sizes_of(panels: &[Panel]) -> [u64; Panel::COUNT] {
+pub(crate) fn sizes_of(panels: &[Panel]) -> [u64; Panel::COUNT]
+    ensures { AreSizes panels.now result }
+{
     let mut sizes = [0u64; Panel::COUNT];
     for panel in panels {
-        if let Some(size) = sizes.get_mut(panel.number()) {
-            *size = size.saturating_add(1);
-        }
+        sizes[panel.number()] += 1;
     }
     sizes
 }

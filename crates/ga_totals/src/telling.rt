@@ -15,7 +15,7 @@ pub struct TotalTold<'a> {
     totals: Totals,
     /// The keys, each at its number.
     keys: &'a KeyNumbers,
-    /// The panel of each key, at its number: a report asks for it twice for each panel.
+    /// The panel of each key, at its number: a report asks for it for each panel anew.
     panels: Vec<Panel>,
     /// How many keys each panel has, at the panel's number.
     sizes: [u64; Panel::COUNT],
@@ -28,13 +28,14 @@ pub struct TotalTold<'a> {
 impl<'a> Model for TotalTold<'a> {
     ghost use Rattle.std.specs.Prelude.{◌≡◌, map};
     ghost use Rattle.ga_report.specs.Told.{ToldValue};
-    ghost use Rattle.ga_totals.specs.Steps.Telling.{CanTell, told_rows};
+    ghost use Rattle.ga_totals.specs.Steps.Telling.{AreSizes, CanTell, told_rows};
 
     ghost Value = { ToldValue };
 
     ghost view = { λ t. record { totals = t.totals; rows = told_rows t.keys.now t.sums.now t.visits.items } };
 
-    ghost invariant = { λ t. CanTell t.keys.now t.sums.now t.visits.items × (t.panels.items ≡ map (λ key. key.panel) t.keys.now) };
+    ghost invariant = { λ t. CanTell t.keys.now t.sums.now t.visits.items × (t.panels.items ≡ map (λ key. key.panel) t.keys.now)
+        × AreSizes t.panels.items t.sizes };
 }
 
 impl<'a> TotalTold<'a> {
@@ -73,11 +74,8 @@ impl<'a> Tells for TotalTold<'a> {
         u64::from(self.keys.len())
     }
 
-    fn about(&self, panel: Panel) -> u64 {
-        match self.sizes.get(panel.number()) {
-            Some(size) => *size,
-            None => 0,
-        }
+    fn at_most(&self, panel: Panel) -> u64 {
+        self.sizes[panel.number()]
     }
 
     fn panel(&self, at: u64) -> Panel {

@@ -1,13 +1,14 @@
 -- Rows that are an item by themselves, told by a mark that no other row has.
-use Rattle.std.specs.Prelude.{◌≡◌, ℕ, Bool, ◌+◌, ◌%◌, ◌<◌, ◌≤◌, ◌==◌, ◌++◌, ◌∷◌, [], if◌then◌else◌, min, not, filter, List, length, set, slice_index_or, count_by}
-use Rattle.std.specs.Hash.FoldHasher as hashes
+use Rattle.std.specs.Prelude.{◌≡◌, ℕ, Bool, ◌+◌, ◌-◌, ◌<◌, ◌≤◌, ◌==◌, ◌++◌, ◌∷◌, [], if◌then◌else◌, min, not, filter, List, length, set, slice_index_or, count_by}
+use Rattle.std.specs.Int.Bits.{bit_and}
 use Rattle.ga_base.specs.declared.key.Key.{Key}
 use Rattle.ga_report.specs.Steps.Summed.{AreSummed, with_row}
 use Rattle.ga_report.specs.Told.{ToldRow}
+use Rattle.ga_shards.specs.Keys.{text_hash}
 
 -- the mark of a key, of so many. It is the same on each day
 abbrev pub mark_at : ℕ → Key → ℕ
-mark_at many key = hashes.finish (hashes.write hashes.initial key.label) % many
+mark_at many key = bit_and (text_hash key.label) (many - 1)
 
 -- whether a row has a mark
 abbrev pub has_mark : ℕ → ℕ → ToldRow → Bool

@@ -1,8 +1,10 @@
 -- What is told of a total's keys: the sums of each, and how many visitors it has.
-use Rattle.std.specs.Prelude.{◌≡◌, ℕ, ◌<◌, ◌==◌, eqb, List, [], ◌∷◌, length, map, filter, slice_index}
+use Rattle.std.specs.Prelude.{◌≡◌, ℕ, ◌<◌, ◌==◌, eqb, List, [], ◌∷◌, count_by, length, map, filter, slice_index, slice_index_or}
 use Rattle.std.specs.Set.{distinct_count}
 use Rattle.ga_base.specs.declared.counts.Sums.{Sums}
 use Rattle.ga_base.specs.declared.key.Key.{Key}
+use Rattle.ga_base.specs.declared.panel.Panel.{Panel}
+use Rattle.ga_base.specs.Panels.{is_same_panel, panel_number}
 use Rattle.ga_report.specs.Sound.{AreSound}
 use Rattle.ga_report.specs.Told.{ToldRow}
 
@@ -25,3 +27,7 @@ pub record CanTell (keys : List Key) (sums : List Sums) (visits : List ℕ) : Ty
   pub summed : length sums ≡ length keys
   pub visited : length visits ≡ length keys
   pub sound : AreSound (told_rows keys sums visits)
+
+-- how many of these each panel is, at the panel's number
+abbrev pub AreSizes : List Panel → List ℕ → Type 0
+AreSizes panels sizes = (panel : Panel) → slice_index_or sizes (panel_number panel) 0 ≡ count_by (λ own. is_same_panel own panel) panels

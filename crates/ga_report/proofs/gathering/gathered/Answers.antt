@@ -1,38 +1,52 @@
-use Rattle.std.proofs.Common.{◌≡◌, ◌∙◌, subst, sym, arith, true, false}
-use Rattle.ga_base.specs.declared.panel.Panel.{Panel}
-use Rattle.ga_base.specs.Panels.{is_same_panel}
-use Rattle.ga_report.proofs.Alone.{fits-more, gathered-all, gathered-more, gathered-pass}
-use Rattle.ga_report.proofs.Lists.{at-some, get-some}
+use Rattle.std.proofs.Common.{◌≡◌, ℕ, List, refl, subst, sym, arith}
+use Rattle.ga_report.specs.Steps.Alone.{AreMarks, alone_with, items_with}
+use Rattle.ga_report.specs.Steps.Places.{AreAt}
+use Rattle.ga_report.specs.Steps.Summed.{panel_rows}
+use Rattle.ga_report.proofs.Alone.{fits-more, gathered-all, gathered-more}
+use Rattle.ga_report.proofs.PanelPlaces.{all-inside, as-many, row-at, row-there}
 use Rattle.ga_report.proofs.gathering.gathered.Goals as goal
-use Rattle.ga_report.proofs.gathering.gathered.Goals.{then-eq+in_ok-put_row, else-eq}
+
+pub of-requires : goal.of-requires
+of-requires g c =
+    let rows = (g.T.Tells.view c.args.told.now).rows in
+    rw c.deref.ensures.value (all-inside rows c.in_ok-places.places.items (panel_rows c.args.panel rows) c.in_ok-places.ensures)
+
+pub row-requires : goal.row-requires
+row-requires g c =
+    let rows = (g.T.Tells.view c.args.told.now).rows in
+    let are = subst (λ (xs : List ℕ). AreAt rows xs (panel_rows c.args.panel rows)) (sym c.deref-place-items.ensures.value) c.in_ok-places.ensures in
+    row-at rows c.deref-place-items.result.now (panel_rows c.args.panel rows) c.loop-place.place-index are c.loop-place-test.true
 
 pub put_row-requires-clause-fit : goal.put_row-requires-clause-fit
 put_row-requires-clause-fit g c =
     let rows = (g.T.Tells.view c.args.told.now).rows in
-    fits-more c.args.panel rows c.in_ok-marks.marks.counts.items c.loop-at.alone.items c.loop-at.items.items c.loop-at.at c.row.result c.row.ensures c.totals.ensures.sound c.loop-at.invariant.1
+    let those = panel_rows c.args.panel rows in
+    let places = c.deref-place-items.result.now in
+    let are = subst (λ (xs : List ℕ). AreAt rows xs those) (sym c.deref-place-items.ensures.value) c.in_ok-places.ensures in
+    let there = row-there rows places those c.loop-place.place-index c.row.result are c.loop-place-test.true c.row.ensures in
+    fits-more those c.marks.inside.counts.items c.loop-place.alone.items c.loop-place.items.items c.loop-place.place-index c.row.result there c.args.panel rows refl c.totals.ensures.sound c.loop-place.invariant.1
 
-pub loop-at-preserved : goal.loop-at-preserved
-loop-at-preserved g c =
+pub loop-place-preserved : goal.loop-place-preserved
+loop-place-preserved g c =
     let rows = (g.T.Tells.view c.args.told.now).rows in
-    let counts = c.in_ok-marks.marks.counts.items in
-    let alone = c.loop-at.alone.items in
-    let items = c.loop-at.items.items in
-    elim c.if-eq.branch [
-      | then-eq+in_ok-put_row w ↦
-          let panel = at-some (λ row. c.panel.result ≡ row.key.panel) _ w.row.result w.row.ensures c.panel.ensures in
-          let own = subst (λ (p : Panel). is_same_panel p c.args.panel ≡ true) panel (sym (c.panel_order.ensures.same _ _) ∙ sym c.eq.ensures ∙ w.if-eq.true) in
-          rw (w.names-is, w.items-is, w.alone-is) (
-            w.in_ok-put_row.ensures.names,
-            gathered-more c.args.panel rows counts alone items c.loop-at.at w.row.result w.row.ensures _ _ own c.loop-at.invariant.1 w.in_ok-put_row.ensures.alone w.in_ok-put_row.ensures.items,
-          )
-      | else-eq w ↦
-          let there = get-some c.loop-at.at rows (omega (arith, c.len-at-end.ensures, c.loop-at-test.true)) in
-          let panel = at-some (λ row. c.panel.result ≡ row.key.panel) _ there.0 there.1 c.panel.ensures in
-          let other = subst (λ (p : Panel). is_same_panel p c.args.panel ≡ false) panel (sym (c.panel_order.ensures.same _ _) ∙ sym c.eq.ensures ∙ w.if-eq.false) in
-          rw (w.names-is, w.items-is, w.alone-is) (c.loop-at.invariant.0, gathered-pass c.args.panel rows counts alone items c.loop-at.at there.0 there.1 other c.loop-at.invariant.1)
-    ]
+    let those = panel_rows c.args.panel rows in
+    let places = c.deref-place-items.result.now in
+    let row = c.row.result in
+    let alone = c.loop-place.alone.items in
+    let items = c.loop-place.items.items in
+    let are = subst (λ (xs : List ℕ). AreAt rows xs those) (sym c.deref-place-items.ensures.value) c.in_ok-places.ensures in
+    let there = row-there rows places those c.loop-place.place-index row are c.loop-place-test.true c.row.ensures in (
+      c.in_ok-put_row.ensures.names,
+      gathered-more those c.marks.inside.counts.items alone items c.loop-place.place-index row there _ _ c.loop-place.invariant.1
+          (subst (λ (counts : List ℕ). c.put_row.new.alone.items ≡ alone_with counts row alone) (sym c.marks.view_is) c.in_ok-put_row.ensures.alone)
+          (subst (λ (counts : List ℕ). c.put_row.new.items.items ≡ items_with counts row items) (sym c.marks.view_is) c.in_ok-put_row.ensures.items),
+    )
 
 pub returns : goal.returns
 returns g c =
-    gathered-all c.args.panel (g.T.Tells.view c.args.told.now).rows c.in_ok-marks.marks.counts.items c.loop-at.alone.items c.loop-at.items.items c.loop-at.at _
-    (omega (arith, c.len-at-end.ensures, c.loop-at-test.false)) c.in_ok-marks.ensures c.loop-at.invariant.1 c.in_ok-append.ensures.items
+    let rows = (g.T.Tells.view c.args.told.now).rows in
+    let those = panel_rows c.args.panel rows in
+    let are = subst (λ (xs : List ℕ). AreAt rows xs those) (sym c.deref.ensures.value) c.in_ok-places.ensures in
+    let marks = subst (λ (counts : List ℕ). AreMarks those counts) (sym c.marks.view_is) (c.in_ok-marks.ensures those are) in
+    gathered-all those c.marks.inside.counts.items c.loop-place.alone.items c.loop-place.items.items _ c.loop-place.place-index
+    (omega (arith, c.loop-place-test.false, c.deref-place-items.ensures.len, c.in_ok-places.places.ok, as-many rows c.in_ok-places.places.items those c.in_ok-places.ensures)) marks c.loop-place.invariant.1 c.in_ok-append.ensures.items

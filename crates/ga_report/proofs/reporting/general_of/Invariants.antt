@@ -2,5 +2,5 @@ use Rattle.std.proofs.Common.{◌≡◌}
 use Rattle.ga_report.proofs.Generals.{so_far}
 use Rattle.ga_report.proofs.reporting.general_of.Given as goal
 
-abbrev pub invariant-loop-at : goal.invariant-loop-at
-invariant-loop-at g l = l.general ≡ so_far (g.T.Tells.view l.told) l.at
+abbrev pub invariant-loop-day : goal.invariant-loop-day
+invariant-loop-day g l = l.general ≡ so_far (g.T.Tells.view l.told) l.day-index

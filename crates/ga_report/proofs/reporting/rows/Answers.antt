@@ -19,19 +19,19 @@ lists-of told set most general panels lists made e f is pairs =
 pub returns-clause-report : goal.returns-clause-report
 returns-clause-report g c =
     let told = g.T.Tells.view c.args.told.now in
-    let general = c.general_of-general.ensures in
+    let general = c.in_ok-general.ensures in
     record {
       general = general;
       panels = elim c.if-jobs-le1.branch [
         | then-jobs-le1+in_ok-panels w ↦
-            lists-of told c.args.panels.now c.args.max_items c.general_of-general.result w.deref.result.now _ c.if-jobs-le1.panels general (w.deref.ensures.value ∙ c.in_ok-shown.ensures) w.panels-is w.in_ok-panels.ensures
+            lists-of told c.args.panels.now c.args.max_items c.in_ok-general.general w.deref.result.now _ c.if-jobs-le1.panels general (w.deref.ensures.value ∙ c.in_ok-shown.ensures) w.panels-is w.in_ok-panels.ensures
         | else-jobs-le1+in_ok-panels-2 w ↦
-            lists-of told c.args.panels.now c.args.max_items c.general_of-general.result w.deref-else-jobs-le1.result.now _ c.if-jobs-le1.panels general
+            lists-of told c.args.panels.now c.args.max_items c.in_ok-general.general w.deref-else-jobs-le1.result.now _ c.if-jobs-le1.panels general
             (w.deref-else-jobs-le1.ensures.value ∙ c.in_ok-shown.ensures) w.panels-is w.in_ok-panels-2.ensures
       ];
     }
 
 pub returns-clause-printable : goal.returns-clause-printable
 returns-clause-printable g c =
-    printable (g.T.Tells.view c.args.told.now) c.args.panels.now c.args.max_items (record { general = c.general_of-general.result; panels = c.if-jobs-le1.panels })
+    printable (g.T.Tells.view c.args.told.now) c.args.panels.now c.args.max_items (record { general = c.in_ok-general.general; panels = c.if-jobs-le1.panels })
     c.totals-totals.ensures.sound (returns-clause-report g c)

@@ -3,7 +3,7 @@ use Rattle.ga_base.specs.Orders.{is_same_visitor}
 use Rattle.ga_base.specs.declared.key.Visitor.{Visitor}
 use Rattle.ga_numbers.specs.Numbers.{AreNoted}
 use Rattle.ga_numbers.specs.Rows.{is_same_row, moved_by}
-use Rattle.ga_numbers.specs.VisitorFrames.{visitors_in}
+use Rattle.ga_numbers.specs.Visitors.{visitors_in}
 use Rattle.ga_numbers.proofs.Agents.{agents-absorbed}
 use Rattle.ga_numbers.proofs.visitor_numbers.VisitorNumbers.absorb.Goals as goal
 

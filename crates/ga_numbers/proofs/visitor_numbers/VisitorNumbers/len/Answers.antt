@@ -3,7 +3,7 @@ use Rattle.std.specs.List.{IsDistinct}
 use Rattle.ga_base.specs.Orders.{is_same_visitor}
 use Rattle.ga_numbers.specs.Kept.{no_row}
 use Rattle.ga_numbers.specs.Rows.{is_same_row}
-use Rattle.ga_numbers.specs.VisitorFrames.{IsAgent, visitor_at}
+use Rattle.ga_numbers.specs.Visitors.{IsAgent, visitor_at}
 use Rattle.ga_numbers.proofs.Framed.{different-items}
 use Rattle.ga_numbers.proofs.Framings.{makes-visitors}
 use Rattle.ga_numbers.proofs.visitor_numbers.VisitorNumbers.len.Goals as goal

@@ -1,6 +1,6 @@
 use Rattle.std.proofs.Common.{[], List, subst, sym}
 use Rattle.ga_numbers.specs.Rows.{AreRowsOf, is_same_row}
-use Rattle.ga_numbers.specs.VisitorFrames.{IsAgent}
+use Rattle.ga_numbers.specs.Visitors.{IsAgent}
 use Rattle.ga_numbers.specs.declared.row.Row.{Row}
 use Rattle.ga_numbers.proofs.Agents.{no-agents}
 use Rattle.ga_numbers.proofs.visitor_numbers.VisitorNumbers.new.Goals as goal

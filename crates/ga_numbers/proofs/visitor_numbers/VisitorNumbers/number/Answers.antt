@@ -3,7 +3,7 @@ use Rattle.std.proofs.lemmas.Result.{IfOk-weaker}
 use Rattle.ga_base.specs.Orders.{is_same_visitor}
 use Rattle.ga_numbers.specs.Kept.{no_row}
 use Rattle.ga_numbers.specs.Rows.{is_same_row}
-use Rattle.ga_numbers.specs.VisitorFrames.{IsAgent, agent_of, visitor_at}
+use Rattle.ga_numbers.specs.Visitors.{IsAgent, agent_of, visitor_at}
 use Rattle.ga_numbers.specs.Numbers.{IsNumbered}
 use Rattle.ga_numbers.specs.declared.row.Row.{Row}
 use Rattle.ga_numbers.proofs.Agents.{agent-noted}

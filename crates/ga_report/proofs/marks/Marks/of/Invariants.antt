@@ -1,7 +1,9 @@
-use Rattle.std.proofs.Common.{take}
+use Rattle.std.proofs.Common.{◌≤◌, List, length, take}
 use Rattle.ga_report.specs.Steps.Alone.{AreMarks}
-use Rattle.ga_report.specs.Steps.Summed.{panel_rows}
+use Rattle.ga_report.specs.Steps.Places.{AreAt}
+use Rattle.ga_report.specs.Told.{ToldRow}
 use Rattle.ga_report.proofs.marks.Marks.of.Given as goal
 
-abbrev pub invariant-loop-at : goal.invariant-loop-at
-invariant-loop-at g l = AreMarks (panel_rows l.panel (take l.at (g.T.Tells.view l.told).rows)) l.counts.items
+abbrev pub invariant-loop-place : goal.invariant-loop-place
+invariant-loop-place g l = (1 ≤ length l.counts.items)
+    × ((those : List ToldRow) → AreAt (g.T.Tells.view l.told).rows l.places those → AreMarks (take l.place-index those) l.counts.items)
