@@ -12,7 +12,6 @@ use Rattle.ga_base.specs.declared.key.Visitor.{Visitor}
 use Rattle.ga_pairs.specs.declared.view.Pair.{Pair as Claim}
 use Rattle.ga_pool.specs.Steps.Filling.{claim_of, claims_of, lists_from, numbers_at}
 use Rattle.ga_pool.specs.Steps.Parts.{AreRowsOf}
-use Rattle.ga_pool.specs.Together.{AreTalliesOf, together}
 use Rattle.ga_pool.specs.declared.parts.Rows.{Rows}
 use Rattle.ga_pool.proofs.AllWorkers.{HaveNumbers, keys_in, visitors_in}
 use Rattle.ga_pool.proofs.DrawnPieces.{together-cons}
@@ -21,7 +20,7 @@ use Rattle.ga_pool.proofs.OneWorker.{HasNumbers}
 use Rattle.ga_shards.specs.Numbers.{item_of}
 use Rattle.ga_summary.specs.Outcomes.{Outcome, has_visit, sums_of}
 use Rattle.ga_summary.proofs.Appends.{has_visit-append, sums_of-append}
-use Rattle.ga_tallies.specs.Tallies.{IsTallyOf, TallySeen, pair_of}
+use Rattle.ga_tallies.specs.Tallies.{AreTalliesOf, IsTallyOf, TallySeen, pair_of, together}
 use Rattle.ga_numbers.proofs.Same.{key-laws, same-key, same-visitor}
 
 pub contains-map : {X Y : Type 0} (f : X → Y) (xs : List X) (x : X) → Contains xs x → Contains (map f xs) (f x)

@@ -6,13 +6,12 @@ use Rattle.ga_base.specs.declared.key.Key.{Key}
 use Rattle.ga_base.specs.declared.key.Visitor.{Visitor}
 use Rattle.ga_pool.specs.Steps.Filling.{added_at, adds, at_place, at_word, max_from, numbers_at, raised_to, raises, sum_from}
 use Rattle.ga_pool.specs.Steps.Parts.{AreRowsOf}
-use Rattle.ga_pool.specs.Together.{AreTalliesOf, together}
 use Rattle.ga_pool.specs.declared.parts.Rows.{Rows}
 use Rattle.ga_pool.proofs.DrawnPieces.{together-cons}
 use Rattle.ga_pool.proofs.OneWorker.{HasNumbers, at-none, at-place-none, at-place-plus, at-plus, worker-adds, worker-raises}
 use Rattle.ga_summary.specs.Outcomes.{Outcome, sums_of}
 use Rattle.ga_summary.proofs.Appends.{sums_of-append}
-use Rattle.ga_tallies.specs.Tallies.{TallySeen}
+use Rattle.ga_tallies.specs.Tallies.{AreTalliesOf, TallySeen, together}
 
 -- each worker, from this one on, has the numbers of its tally's items
 abbrev pub HaveNumbers : {T : Type 0} → (TallySeen → List T) → List T → List (List ℕ) → ℕ → List TallySeen → Type 0

@@ -12,7 +12,7 @@ use Rattle.ga_base.specs.declared.key.Visitor.{Visitor}
 use Rattle.ga_base.specs.Orders.{is_same_key}
 use Rattle.ga_pool.specs.Steps.Filling.{CanAdd, CanClaim, CanPut, numbers_at, weight_of_rows}
 use Rattle.ga_pool.specs.Steps.Parts.{AreRowsOf}
-use Rattle.ga_pool.specs.Together.{AreTalliesOf, totals_in}
+use Rattle.ga_pool.specs.Together.{totals_in}
 use Rattle.ga_pool.specs.declared.parts.Rows.{Rows}
 use Rattle.ga_pool.proofs.AllPairs.{contains-map}
 use Rattle.ga_pool.proofs.AllWorkers.{HaveNumbers, keys_in, visitors_in}
@@ -21,7 +21,7 @@ use Rattle.ga_pool.proofs.OneWorker.{HasNumbers}
 use Rattle.ga_summary.specs.Outcomes.{Counted, Excluded, Failed, Hit, Outcome, has_key, hits_of, sums_of, totals_of}
 use Rattle.ga_summary.specs.Rows.{totals_plus}
 use Rattle.ga_outcomes.specs.Counting.{no_totals}
-use Rattle.ga_tallies.specs.Tallies.{IsTallyOf, TallySeen, pair_of}
+use Rattle.ga_tallies.specs.Tallies.{AreTalliesOf, IsTallyOf, TallySeen, pair_of}
 use Rattle.ga_tallies.specs.declared.pairs.Pair.{Pair}
 use Rattle.ga_numbers.proofs.Same.{key-itself, same-key}
 

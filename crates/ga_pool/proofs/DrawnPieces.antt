@@ -12,11 +12,11 @@ use Rattle.ga_line.specs.Lines.{lines}
 use Rattle.ga_summary.specs.Outcomes.{Outcome}
 use Rattle.ga_summary.specs.Sound.{AllCountable}
 use Rattle.ga_outcomes.specs.Counting.{Come}
-use Rattle.ga_tallies.specs.Tallies.{IsTallyOf, TakesIn, TallySeen}
+use Rattle.ga_tallies.specs.Tallies.{AreTalliesOf, IsTallyOf, TakesIn, TallySeen, together}
 use Rattle.ga_outcomes.specs.declared.setup.Setup.{Setup}
 use Rattle.ga_draws.specs.Draws.{AreAllBelow, once_below, times}
 use Rattle.ga_pool.specs.Steps.Drawing.{AllCount, Came, IsCame, IsDone, TalliesDrawn, all_lines, of_pieces, outcomes_in}
-use Rattle.ga_pool.specs.Together.{AreAlike, AreTalliesOf, CountsOn, together}
+use Rattle.ga_pool.specs.Together.{AreAlike, CountsOn}
 use Rattle.ga_pool.proofs.Alike.{alike-append, alike-refl, alike-same, alike-swap, alike-trans, come-append, countable-append}
 
 -- a number more was drawn

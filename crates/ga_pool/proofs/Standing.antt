@@ -21,7 +21,7 @@ use Rattle.ga_pool.specs.Stands.{IsVisit, Stands, said_of, sums_at_number}
 use Rattle.ga_pool.specs.Steps.Filled.{ClosesOver}
 use Rattle.ga_pool.specs.Steps.Filling.{adds, at_place, at_word, claims_of, lists_from, max_from, raises, sum_from}
 use Rattle.ga_pool.specs.Steps.Parts.{AreRowsOf}
-use Rattle.ga_pool.specs.Together.{AreTalliesOf, together, totals_in}
+use Rattle.ga_pool.specs.Together.{totals_in}
 use Rattle.ga_pool.specs.declared.counted.Counted.{Counted}
 use Rattle.ga_pool.specs.declared.parts.Rows.{Rows}
 use Rattle.ga_pool.proofs.AllPairs.{claims-are, claims-have, key-counted, key-found, visitor-used}
@@ -34,7 +34,7 @@ use Rattle.ga_summary.specs.Outcomes.{Outcome, sums_of, totals_of}
 use Rattle.ga_summary.specs.Rows.{totals_plus}
 use Rattle.ga_summary.proofs.Appends.{totals_of-append}
 use Rattle.ga_outcomes.specs.Counting.{no_totals}
-use Rattle.ga_tallies.specs.Tallies.{TallySeen}
+use Rattle.ga_tallies.specs.Tallies.{AreTalliesOf, TallySeen, together}
 use Rattle.ga_numbers.proofs.Same.{key-laws, same-key}
 
 pub none-plus : (t : Totals) → totals_plus no_totals t ≡ t

@@ -4,7 +4,7 @@ use Rattle.std.proofs.lemmas.List.Elements.{All-head, All-tail}
 use Rattle.ga_base.specs.declared.counts.Totals.{Totals}
 use Rattle.ga_pool.specs.Batches.{CountsBatch, StandsForSum}
 use Rattle.ga_pool.specs.Stands.{Stands, said_by, said_of}
-use Rattle.ga_pool.specs.Together.{AreAlike, AreCounted, AreTalliesOf, together}
+use Rattle.ga_pool.specs.Together.{AreAlike, AreCounted}
 use Rattle.ga_pool.specs.declared.counted.Counted.{Counted as TheCounted}
 use Rattle.ga_pool.proofs.WeighedLines.{over-none}
 use Rattle.ga_summary.specs.OneLine.{line_value}
@@ -18,7 +18,7 @@ use Rattle.ga_summary.proofs.Lines.{IsSumOf-lines}
 use Rattle.ga_summary.proofs.OneLine.{IsSumOf-line}
 use Rattle.ga_summary.proofs.Soundness.{IsMerged-merged_value}
 use Rattle.ga_summary.proofs.SoundSums.{IsSound-sum}
-use Rattle.ga_tallies.specs.Tallies.{TallySeen}
+use Rattle.ga_tallies.specs.Tallies.{AreTalliesOf, TallySeen, together}
 use Rattle.ga_outcomes.specs.Counting.{Come}
 use Rattle.ga_outcomes.specs.declared.setup.Setup.{Setup}
 

@@ -8,7 +8,6 @@ use Rattle.ga_base.specs.declared.key.Visitor.{Visitor}
 use Rattle.ga_base.specs.Orders.{is_same_key, is_same_visitor}
 use Rattle.ga_pool.specs.Steps.Filling.{CanPut}
 use Rattle.ga_pool.specs.Steps.Parts.{AreRowsOf}
-use Rattle.ga_pool.specs.Together.{AreTalliesOf}
 use Rattle.ga_pool.specs.declared.parts.Rows.{Rows}
 use Rattle.ga_pool.proofs.AllWorkers.{keys_in, visitors_in}
 use Rattle.ga_pool.proofs.CanPutRows.{all-can}
@@ -16,7 +15,7 @@ use Rattle.ga_pool.proofs.Numbered.{AreNumbered, are-numbered}
 use Rattle.ga_pool.proofs.Standing.{have-numbers}
 use Rattle.ga_shards.specs.Numbers.{IsNumbering, NumberingSeen}
 use Rattle.ga_summary.specs.Outcomes.{Outcome}
-use Rattle.ga_tallies.specs.Tallies.{TallySeen}
+use Rattle.ga_tallies.specs.Tallies.{AreTalliesOf, TallySeen}
 use Rattle.ga_numbers.proofs.Same.{key-itself, key-test, same-key, same-visitor, visitor-itself, visitor-test}
 
 pub as-long : {A B : Type 0} (R : A → B → Type 0) (xs : List A) (ys : List B) → AllZip R xs ys → length xs ≡ length ys

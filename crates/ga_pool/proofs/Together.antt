@@ -3,7 +3,7 @@ use Rattle.std.proofs.Common.{◌≡◌, List, [], ◌∷◌, refl, sym, ap, ◌
 use Rattle.std.specs.List.{All}
 use Rattle.std.proofs.lemmas.List.Elements.{All-head, All-tail}
 use Rattle.ga_base.specs.declared.counts.Totals.{Totals}
-use Rattle.ga_pool.specs.Together.{AreCounted, AreTalliesOf, together, totals_from, totals_in}
+use Rattle.ga_pool.specs.Together.{AreCounted, totals_in}
 use Rattle.ga_pool.proofs.Alike.{alike-same}
 use Rattle.ga_pool.proofs.DrawnPieces.{together-cons}
 use Rattle.ga_pool.proofs.Standing.{totals-together}
@@ -12,7 +12,7 @@ use Rattle.ga_summary.specs.Outcomes.{Outcome, totals_of}
 use Rattle.ga_summary.specs.Rows.{totals_plus}
 use Rattle.ga_summary.specs.Sound.{TotalsFit}
 use Rattle.ga_outcomes.specs.Counting.{no_totals}
-use Rattle.ga_tallies.specs.Tallies.{IsTallyOf, TallySeen}
+use Rattle.ga_tallies.specs.Tallies.{AreTalliesOf, IsTallyOf, TallySeen, together, totals_from}
 
 -- their totals are those of the outcomes
 pub counted-totals : (os : List Outcome) (ts : List TallySeen) → AreCounted os ts → totals_in ts ≡ totals_of os

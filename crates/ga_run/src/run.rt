@@ -248,7 +248,7 @@ fn text_alone<R: Threads + Sync, G: Gate, F: Files>(
         &mut entries,
         files,
     )?;
-    let told = total.told(alloc)?;
+    let told = total.told(rt, alloc, workers_of(settings).jobs)?;
     let text = text_of(rt, alloc, settings, &told)?;
     drop(told);
     // Behind the report the program ends, and the system takes the total's memory back at once: piece by piece it takes long.

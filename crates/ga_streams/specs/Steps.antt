@@ -1,25 +1,19 @@
 -- What only the contracts of private functions and their proofs say.
-use Rattle.std.specs.Prelude.{◌≡◌, ◌<◌, ℕ, length, List}
+use Rattle.std.specs.Prelude.{◌<◌, ℕ, length, List}
 use Rattle.std.specs.Hash as hash
 use Rattle.std.specs.Hash.DefaultHasher.{finish, initial, write}
 use Rattle.ga_base.specs.declared.counts.Totals.{Totals}
 use Rattle.ga_batches.specs.Batches.{BatcherSeen, held}
-use Rattle.ga_pool.specs.Together.{AreTalliesOf, together, totals_in}
 use Rattle.ga_shards.specs.Keys.{keyed_with}
 use Rattle.ga_shards.specs.declared.keyed.Keyed.{Keyed}
 use Rattle.ga_streams.specs.Counting.{AreTallied}
 use Rattle.ga_summary.specs.Outcomes.{Outcome}
-use Rattle.ga_tallies.specs.Tallies.{IsTallyOf, TallySeen}
+use Rattle.ga_tallies.specs.Tallies.{TallySeen}
 
 -- what the workers have counted are some outcomes
 pub record AreSome (start : Totals) (tallies : List TallySeen) : Type 0 where
   pub outcomes : List Outcome
   pub tallied : AreTallied start outcomes tallies
-
--- whatever parts these tallies are of, the other is of all of them together
-pub record AreAbsorbed (tallies : List TallySeen) (t : TallySeen) : Type 0 where
-  pub totals : t.totals ≡ totals_in tallies
-  pub tally : (parts : List (List Outcome)) → AreTalliesOf parts tallies → IsTallyOf (together parts) t
 
 -- a batcher can take a byte more
 abbrev pub HasRoom : BatcherSeen → Type 0

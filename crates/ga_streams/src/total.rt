@@ -12,7 +12,7 @@ use ga_totals::Total;
 use std::alloc::Global;
 use std::thread::Threads;
 
-/// The total of what each worker has counted: the first takes in what the others have, one behind the other.
+/// The total of what each worker has counted: the first takes in what the others have.
 pub(crate) fn total_of<R: Threads + Sync>(
     rt: &R,
     alloc: Global,
@@ -25,9 +25,6 @@ pub(crate) fn total_of<R: Threads + Sync>(
     if others.is_empty() {
         return Ok(Total::new(alloc));
     }
-    let mut tally = others.remove(0);
-    for other in others {
-        tally.absorb(rt, alloc, other)?;
-    }
-    Ok(Total::of(tally))
+    let first = others.remove(0);
+    Ok(Total::of(first.with(rt, alloc, others)?))
 }

@@ -17,7 +17,7 @@ use Rattle.ga_summary.specs.Sound.{TotalsFit}
 use Rattle.ga_summary.proofs.Appends.{sums_of-append, has_visit-append, totals_of-append}
 use Rattle.ga_numbers.specs.Numbers.{places_of}
 use Rattle.ga_tallies.specs.Steps.Absorbing.{AddsSuch, IsMapped, rows_added}
-use Rattle.ga_tallies.specs.Tallies.{Absorbs, TallySeen, IsTallyOf}
+use Rattle.ga_tallies.specs.Tallies.{TallySeen, IsTallyOf}
 use Rattle.ga_tallies.proofs.AddedRows.{all-added, with_those}
 use Rattle.ga_numbers.proofs.AllNoted.{any-all-noted, has-number, keeps-place, number-cases, placed, places-long}
 use Rattle.ga_numbers.proofs.Noted.{or-true}
@@ -169,5 +169,6 @@ module _ (other old new : TallySeen) (takes : TakesParts other old new) (fit : T
     used = used;
   }
 
-pub absorbed : (other old new : TallySeen) → TakesParts other old new → TotalsFit new.totals → Absorbs other old new
+pub absorbed : (other old new : TallySeen) → TakesParts other old new → TotalsFit new.totals → (before more : List Outcome) → IsTallyOf before old → IsTallyOf more other
+    → IsTallyOf (before ++ more) new
 absorbed = took-in

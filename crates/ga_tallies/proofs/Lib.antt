@@ -13,4 +13,9 @@ pub mod FactsHit
 pub mod Taking
 pub mod AddedRows
 pub mod AddedVisits
+pub mod AllParts
+pub mod InTurn
+pub mod Moves
+pub mod AllTotals
 pub mod Absorbed
+pub mod AllAbsorbed

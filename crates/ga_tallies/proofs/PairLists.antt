@@ -64,7 +64,7 @@ put-there old new pair made places place adds put are = subst (AreThere new) (sy
 
 -- ---- rows
 
-both-numbers : (k j v w : ℕ) → k ≡ j → v ≡ w → ◌≡◌ {A = ℕ × ℕ} (k, v) (j, w)
+pub both-numbers : (k j v w : ℕ) → k ≡ j → v ≡ w → ◌≡◌ {A = ℕ × ℕ} (k, v) (j, w)
 both-numbers k j v w e f = λ i. (e i, f i)
 
 module _ (rows : List (List ℕ)) (k : ℕ) (row : List ℕ) where
@@ -132,10 +132,10 @@ empty-pushed rows = record {
 
 -- ---- rows as they are kept
 
-at-row : (rows : List (SmallVec ℕ)) (k : ℕ) (row : SmallVec ℕ) → k < length rows → row ≡ get_or rows k row → row_at (lists_in rows) k ≡ row.items
+pub at-row : (rows : List (SmallVec ℕ)) (k : ℕ) (row : SmallVec ℕ) → k < length rows → row ≡ get_or rows k row → row_at (lists_in rows) k ≡ row.items
 at-row rows k row within is = get_or-map (λ (r : SmallVec ℕ). r.items) rows k row [] within ∙ ap (λ (r : SmallVec ℕ). r.items) (sym is)
 
-lists-set : (rows : List (SmallVec ℕ)) (k : ℕ) (new : SmallVec ℕ) → lists_in (set rows k new) ≡ set (lists_in rows) k new.items
+pub lists-set : (rows : List (SmallVec ℕ)) (k : ℕ) (new : SmallVec ℕ) → lists_in (set rows k new) ≡ set (lists_in rows) k new.items
 lists-set rows k new = map-set (λ (r : SmallVec ℕ). r.items) rows k new
 
 -- a row was written in the place of another, and keeps what that one had
@@ -156,12 +156,13 @@ written-added rows k v row new within is adds =
 
 -- ---- the pairs of one row more
 
-pushed-from : (s : ℕ) (rows : List (List ℕ)) (row : List ℕ) → pairs_from s (rows ++ row ∷ []) ≡ pairs_from s rows ++ row_pairs (s + length rows) row
-pushed-from s [] row = append-nil (row_pairs s row) ∙ (let is : s ≡ s + 0 = omega arith in ap (λ n. row_pairs n row) is)
-pushed-from s (first ∷ rows) row =
+-- the pairs of some rows, and those of the rows behind them
+pub pairs-append : (s : ℕ) (rows more : List (List ℕ)) → pairs_from s (rows ++ more) ≡ pairs_from s rows ++ pairs_from (s + length rows) more
+pairs-append s [] more = let is : s ≡ s + 0 = omega arith in ap (λ n. pairs_from n more) is
+pairs-append s (row ∷ rows) more =
     let is : (s + 1) + length rows ≡ s + suc (length rows) = omega arith in
-    ap (λ l. row_pairs s first ++ l) (pushed-from (s + 1) rows row ∙ ap (λ n. pairs_from (s + 1) rows ++ row_pairs n row) is)
-    ∙ sym (append_assoc (row_pairs s first) (pairs_from (s + 1) rows) (row_pairs (s + suc (length rows)) row))
+    ap (λ l. row_pairs s row ++ l) (pairs-append (s + 1) rows more ∙ ap (λ n. pairs_from (s + 1) rows ++ pairs_from n more) is)
+    ∙ sym (append_assoc (row_pairs s row) (pairs_from (s + 1) rows) (pairs_from (s + suc (length rows)) more))
 
 -- the pairs of the first rows, and those of the next
 pub next-row : (rows : List (SmallVec ℕ)) (k : ℕ) (d : SmallVec ℕ) → k < length rows
@@ -170,4 +171,5 @@ next-row rows k d within =
     let row = get_or rows k d in
     let more : lists_in (take (k + 1) rows) ≡ lists_in (take k rows) ++ row.items ∷ [] = ap lists_in (take_more rows k d within) ∙ map_push (λ (r : SmallVec ℕ). r.items) (take k rows) row in
     let long : 0 + length (lists_in (take k rows)) ≡ k = omega (arith, length-map (take k rows) (λ (r : SmallVec ℕ). r.items), length-take k rows, within) in
-    ap pairs_in more ∙ pushed-from 0 (lists_in (take k rows)) row.items ∙ ap (λ n. pairs_in (lists_in (take k rows)) ++ row_pairs n row.items) long
+    ap pairs_in more ∙ pairs-append 0 (lists_in (take k rows)) (row.items ∷ [])
+    ∙ (λ i. pairs_in (lists_in (take k rows)) ++ append-nil (row_pairs (long i) row.items) i)

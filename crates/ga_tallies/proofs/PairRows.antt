@@ -22,7 +22,7 @@ row_at rows k = get_or rows k []
 pub nothing-there : {X : Type 0} (x : X) → Contains [] x → ⊥
 nothing-there x (k, lt, e) = omega arith
 
-of-row : (s : ℕ) (rows : List (List ℕ)) (k v : ℕ) → Contains (pairs_from s rows) (k, v) → (i : ℕ) × (k ≡ s + i) × Contains (row_at rows i) v
+pub of-row : (s : ℕ) (rows : List (List ℕ)) (k v : ℕ) → Contains (pairs_from s rows) (k, v) → (i : ℕ) × (k ≡ s + i) × Contains (row_at rows i) v
 of-row s [] k v at = absurd (nothing-there (k, v) at)
 of-row s (row ∷ rows) k v at =
     ⊎_elim
@@ -36,7 +36,7 @@ of-row s (row ∷ rows) k v at =
     (suc from.0, omega (arith, is), from.2))
     (Contains-append_cases (row_pairs s row) (pairs_from (s + 1) rows) (k, v) at)
 
-in-rows : (s i : ℕ) (rows : List (List ℕ)) (v : ℕ) → Contains (row_at rows i) v → Contains (pairs_from s rows) (s + i, v)
+pub in-rows : (s i : ℕ) (rows : List (List ℕ)) (v : ℕ) → Contains (row_at rows i) v → Contains (pairs_from s rows) (s + i, v)
 in-rows s i [] v at = absurd (nothing-there v at)
 in-rows s zero (row ∷ rows) v at =
     let here = Contains-append_left (row_pairs s row) (pairs_from (s + 1) rows) (s, v) (contains-map (λ (visitor : ℕ). (s, visitor)) row v at) in

@@ -1,6 +1,6 @@
 -- What is counted of outcomes, in numbers: keys and visitors by their places in lists of different ones, sums by a key's place.
-use Rattle.std.specs.Prelude.{◌≡◌, ◌<◌, ◌++◌, ◌∷◌, [], ◌+◌, ℕ, true, nat_lt, List, length, map, slice_get, Some}
-use Rattle.std.specs.List.{Contains, IsDistinct, list_any}
+use Rattle.std.specs.Prelude.{◌≡◌, ◌<◌, ◌++◌, ◌∷◌, [], ◌+◌, ℕ, true, nat_lt, List, flat_map, fold, length, map, slice_get, Some}
+use Rattle.std.specs.List.{AllZip, Contains, IsDistinct, list_any}
 use Rattle.smallvec.specs.SmallVec.{SmallVec}
 use Rattle.ga_base.specs.declared.counts.Sums.{Sums}
 use Rattle.ga_base.specs.declared.counts.Totals.{Totals}
@@ -8,6 +8,7 @@ use Rattle.ga_base.specs.declared.key.Key.{Key}
 use Rattle.ga_base.specs.declared.key.Visitor.{Visitor}
 use Rattle.ga_base.specs.Orders.{is_same_key, is_same_visitor}
 use Rattle.ga_summary.specs.Outcomes.{Outcome, sums_of, has_visit, totals_of}
+use Rattle.ga_summary.specs.Rows.{totals_plus}
 use Rattle.ga_summary.specs.Sound.{AllCountable, TotalsFit}
 use Rattle.ga_outcomes.specs.Counting.{Come}
 use Rattle.ga_tallies.specs.declared.pairs.Pair.{Pair}
@@ -94,6 +95,18 @@ pub record PassesLimit (setup : Setup) (before : List Outcome) (all : List (List
 abbrev pub Overfills : Setup → List (List ℕ) → TallySeen → Type 0
 Overfills setup all old = (before : List Outcome) → IsTallyOf before old → PassesLimit setup before all
 
--- a tally took in what another has counted
-abbrev pub Absorbs : TallySeen → TallySeen → TallySeen → Type 0
-Absorbs other old new = (before more : List Outcome) → IsTallyOf before old → IsTallyOf more other → IsTallyOf (before ++ more) new
+-- each tally is of its part of the outcomes, and the parts are together
+abbrev pub AreTalliesOf : List (List Outcome) → List TallySeen → Type 0
+AreTalliesOf parts tallies = AllZip IsTallyOf parts tallies
+
+abbrev pub together : List (List Outcome) → List Outcome
+together parts = flat_map (λ part. part) parts
+
+-- the totals of tallies, added up to others
+abbrev pub totals_from : Totals → List TallySeen → Totals
+totals_from start tallies = fold (λ sum tally. totals_plus sum tally.totals) start tallies
+
+-- a tally took in what others have counted
+abbrev pub AbsorbsAll : List TallySeen → TallySeen → TallySeen → Type 0
+AbsorbsAll others old new = (before : List Outcome) (parts : List (List Outcome)) → IsTallyOf before old → AreTalliesOf parts others
+    → IsTallyOf (before ++ together parts) new

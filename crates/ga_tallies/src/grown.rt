@@ -1,72 +1,74 @@
-ghost use Rattle.std.specs.Prelude.{IfOk};
+ghost use Rattle.std.specs.Prelude.{IfOk, map};
 ghost use Rattle.ga_base.specs.Orders.{is_same_key, is_same_visitor};
-ghost use Rattle.ga_numbers.specs.Numbers.{AreNoted};
+ghost use Rattle.ga_tallies.specs.Steps.Absorbing.{AreNotedInTurn};
 
 use ga_base::NoMemory;
 use ga_numbers::{KeyNumbers, VisitorNumbers};
-use ga_shards::Keyed;
 use std::alloc::Global;
-use std::mem;
 use std::thread::{self, Threads};
 
-/// Items after others were noted among them.
+/// Items after lists of others were noted among them.
 #[derive(Drop)]
-struct Grown<T> {
-    /// The items. After want of memory some of the others are among them.
-    known: T,
-    /// The number that each of the others has.
-    numbers: Result<Vec<u32>, NoMemory>,
+pub(crate) struct Grown<T> {
+    /// The items.
+    pub(crate) known: T,
+    /// The number that each of the others has, list by list.
+    pub(crate) numbers: Vec<Vec<u32>>,
 }
 
-/// Notes other keys and other visitors, side by side, and gives their numbers. Keys and visitors share nothing, and each are
-/// with the thread that notes among them, which has their shards noted side by side too.
+/// Notes other keys and other visitors, side by side. Keys and visitors share nothing, and each are with the thread that notes
+/// among them, which has their shards noted side by side too.
 pub(crate) fn note_both<R: Threads + Sync>(
     rt: &R,
     alloc: Global,
-    keys: &mut KeyNumbers,
-    visitors: &mut VisitorNumbers,
-    more_keys: KeyNumbers,
-    more_visitors: VisitorNumbers,
-) -> Result<(Vec<u32>, Vec<u32>), NoMemory>
-    ensures keys { IfOk result (λ numbers. AreNoted is_same_key more_keys numbers.0.items keys.old keys.new) }
-    ensures visitors { IfOk result (λ numbers. AreNoted is_same_visitor more_visitors numbers.1.items visitors.old visitors.new) }
+    keys: KeyNumbers,
+    visitors: VisitorNumbers,
+    more_keys: Vec<KeyNumbers>,
+    more_visitors: Vec<VisitorNumbers>,
+) -> Result<(Grown<KeyNumbers>, Grown<VisitorNumbers>), NoMemory>
+    ensures keys { IfOk result (λ both. AreNotedInTurn is_same_key more_keys.items (map (λ l. l.items) both.0.numbers.items) keys both.0.known) }
+    ensures visitors { IfOk result (λ both. AreNotedInTurn is_same_visitor more_visitors.items (map (λ l. l.items) both.1.numbers.items) visitors both.1.known) }
 {
-    let known_keys = mem::replace(keys, KeyNumbers::new(alloc, Keyed::new(0, 0)));
-    let known_visitors = mem::replace(visitors, VisitorNumbers::new(alloc, Keyed::new(0, 0)));
-    let note_keys = move || -> Grown<KeyNumbers>
-        ensures { IfOk result.numbers (λ numbers. AreNoted is_same_key more_keys numbers.items known_keys result.known) }
-    { keys_with(rt, alloc, known_keys, more_keys) };
-    let note_visitors = move || -> Grown<VisitorNumbers>
-        ensures { IfOk result.numbers (λ numbers. AreNoted is_same_visitor more_visitors numbers.items known_visitors result.known) }
-    { visitors_with(rt, alloc, known_visitors, more_visitors) };
-    let (grown_keys, grown_visitors) = thread::join(rt, note_keys, note_visitors);
-    *keys = grown_keys.known;
-    *visitors = grown_visitors.known;
-    Ok((grown_keys.numbers?, grown_visitors.numbers?))
+    let note_keys = move || -> Result<Grown<KeyNumbers>, NoMemory>
+        ensures { IfOk result (λ grown. AreNotedInTurn is_same_key more_keys.items (map (λ l. l.items) grown.numbers.items) keys grown.known) }
+    { keys_with(rt, alloc, keys, more_keys) };
+    let note_visitors = move || -> Result<Grown<VisitorNumbers>, NoMemory>
+        ensures { IfOk result (λ grown. AreNotedInTurn is_same_visitor more_visitors.items (map (λ l. l.items) grown.numbers.items) visitors grown.known) }
+    { visitors_with(rt, alloc, visitors, more_visitors) };
+    let (keys, visitors) = thread::join(rt, note_keys, note_visitors);
+    Ok((keys?, visitors?))
 }
 
-/// Keys after others were noted among them.
+/// Keys after lists of others were noted among them, one list after the other.
 fn keys_with<R: Threads + Sync>(
     rt: &R,
     alloc: Global,
-    mut known: KeyNumbers,
-    more: KeyNumbers,
-) -> Grown<KeyNumbers>
-    ensures { IfOk result.numbers (λ numbers. AreNoted is_same_key more numbers.items known result.known) }
+    keys: KeyNumbers,
+    others: Vec<KeyNumbers>,
+) -> Result<Grown<KeyNumbers>, NoMemory>
+    ensures { IfOk result (λ grown. AreNotedInTurn is_same_key others.items (map (λ l. l.items) grown.numbers.items) keys grown.known) }
 {
-    let numbers = known.absorb(rt, alloc, more);
-    Grown { known, numbers }
+    let mut known = keys;
+    let mut numbers = Vec::with_capacity(alloc, others.len())?;
+    for more in others {
+        numbers.push(known.absorb(rt, alloc, more)?)?;
+    }
+    Ok(Grown { known, numbers })
 }
 
-/// Visitors after others were noted among them.
+/// Visitors after lists of others were noted among them, one list after the other.
 fn visitors_with<R: Threads + Sync>(
     rt: &R,
     alloc: Global,
-    mut known: VisitorNumbers,
-    more: VisitorNumbers,
-) -> Grown<VisitorNumbers>
-    ensures { IfOk result.numbers (λ numbers. AreNoted is_same_visitor more numbers.items known result.known) }
+    visitors: VisitorNumbers,
+    others: Vec<VisitorNumbers>,
+) -> Result<Grown<VisitorNumbers>, NoMemory>
+    ensures { IfOk result (λ grown. AreNotedInTurn is_same_visitor others.items (map (λ l. l.items) grown.numbers.items) visitors grown.known) }
 {
-    let numbers = known.absorb(rt, alloc, more);
-    Grown { known, numbers }
+    let mut known = visitors;
+    let mut numbers = Vec::with_capacity(alloc, others.len())?;
+    for more in others {
+        numbers.push(known.absorb(rt, alloc, more)?)?;
+    }
+    Ok(Grown { known, numbers })
 }

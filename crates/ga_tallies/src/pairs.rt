@@ -1,13 +1,17 @@
-ghost use Rattle.std.specs.Prelude.{◌≡◌, ◌<◌, ◌++◌, [], IfOk, IsTrue, OnOk, Some, map, vec_len};
+ghost use Rattle.std.specs.Prelude.{◌≡◌, ◌<◌, ◌≤◌, ◌++◌, [], ℕ, IfOk, IsTrue, OnOk, Some, map, vec_len};
 ghost use Rattle.std.specs.List.{Contains};
 ghost use Rattle.ga_tallies.specs.Adding.{AddsOne, HoldTheSame, KeepsAll};
+ghost use Rattle.ga_tallies.specs.Steps.Absorbing.{AddsSuch, IsMoved, move_of};
 ghost use Rattle.ga_tallies.specs.Tallies.{lists_in, pair_of, pairs_in, row_pairs};
 
+use crate::moved::Moved;
 use crate::places::{make_places, put_at};
+use crate::visiting::add_in_parts;
 use ga_base::NoMemory;
 use smallvec::SmallVec;
 use std::alloc::Global;
 use std::marker::Model;
+use std::thread::Threads;
 
 /// A key and a visitor of it, by their numbers in a tally.
 #[derive(Clone, Copy, Debug, PartialEq, Eq, PartialOrd, Ord)]
@@ -27,6 +31,9 @@ pub type Row = SmallVec<u32, IN_PLACE>;
 
 /// From so many visitors on a row is looked over for those that stand there twice, each time before it grows.
 const FEW: usize = 64;
+
+/// In so many parts the pairs of others are added to rows.
+const PARTS: u32 = 8;
 
 /// So many places there are for pairs that came lately, once the first came.
 const PLACES: usize = 1 << PLACE_BITS;
@@ -98,11 +105,25 @@ impl PairList {
         Ok(())
     }
 
-    /// Puts a pair behind the others of its key, also where it is there. It costs less than `add`, and may take more memory.
-    pub(crate) fn push(&mut self, pair: Pair) -> Result<(), NoMemory>
-        ensures { OnOk result (AddsOne (pair_of pair) self.old self.new) }
+    /// These pairs and those of moves, which are added to the rows of keys in parts, side by side. There are `keys` keys. None
+    /// is among those that came lately then.
+    pub(crate) fn with<R: Threads + Sync>(
+        self,
+        rt: &R,
+        keys: usize,
+        moves: &[Moved],
+    ) -> Result<PairList, NoMemory>
+        requires { (pair : ℕ × ℕ) → IsMoved (map move_of moves.now) pair → pair.0 < keys }
+        ensures { IfOk result (AddsSuch (IsMoved (map move_of moves.now)) self) }
     {
-        push_pair(&mut self.rows, pair)
+        let mut rows = self.rows;
+        let alloc = *rows.allocator();
+        make_rows(&mut rows, keys)?;
+        add_in_parts(rt, PARTS, moves, 0, &mut rows)?;
+        Ok(PairList {
+            rows,
+            recent: Vec::new(alloc),
+        })
     }
 
     /// Gives the visitors of each key back, at its number.
@@ -119,27 +140,17 @@ fn put_pair(rows: &mut Vec<Row>, pair: Pair) -> Result<(), NoMemory>
     ensures added { OnOk result (AddsOne (pair_of pair) (pairs_in (lists_in rows.old.items)) (pairs_in (lists_in rows.new.items))) }
 {
     let key = pair.key as usize;
-    make_rows(rows, key)?;
+    make_rows(rows, key + 1)?;
     add_visitor(&mut rows[key], pair.visitor)
 }
 
-/// Puts a pair behind the row of its key, as it is.
-fn push_pair(rows: &mut Vec<Row>, pair: Pair) -> Result<(), NoMemory>
-    ensures kept { KeepsAll (pairs_in (lists_in rows.old.items)) (pairs_in (lists_in rows.new.items)) }
-    ensures added { OnOk result (AddsOne (pair_of pair) (pairs_in (lists_in rows.old.items)) (pairs_in (lists_in rows.new.items))) }
-{
-    let key = pair.key as usize;
-    make_rows(rows, key)?;
-    push_visitor(&mut rows[key], pair.visitor)
-}
-
-/// Makes rows with nothing in them up to that of a key, where they aren't there.
-fn make_rows(rows: &mut Vec<Row>, key: usize) -> Result<(), NoMemory>
-    ensures there { OnOk result (key < vec_len rows.new) }
+/// Makes rows with nothing in them, until there are so many.
+fn make_rows(rows: &mut Vec<Row>, many: usize) -> Result<(), NoMemory>
+    ensures there { OnOk result (many ≤ vec_len rows.new) }
     ensures same { HoldTheSame (pairs_in (lists_in rows.old.items)) (pairs_in (lists_in rows.new.items)) }
 {
     let alloc = *rows.allocator();
-    while rows.len() <= key {
+    while rows.len() < many {
         rows.push(Row::new(alloc))?;
     }
     Ok(())

@@ -7,6 +7,7 @@ pub mod KeyOrder
 pub mod Dates
 pub mod Summing
 pub mod Visiting
+pub mod Parts
 pub mod AnyOrder
 pub mod Sizes
 pub mod ToldRows

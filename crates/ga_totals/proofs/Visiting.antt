@@ -74,6 +74,18 @@ one-behind (w ∷ row) v =
     ∙ turned a (eqb w v) (list_any (eqb v) row) n m (λ e. list_any_congr nat_eq_equiv w v row e) (one-behind row v)
     ∙ (λ i. cond (nat_eq_equiv.symm w v i || list_any (eqb v) row) (sym (counted a w (unique_keys eqb row)) i) (sym (counted a w (unique_keys eqb row)) i + 1))
 
+-- a visitor that is compared with those in front of it is a different one, or isn't
+either-way : (v : ℕ) (row : List ℕ) → list_any (λ w. eqb w v) row ≡ list_any (eqb v) row
+either-way v [] = refl
+either-way v (w ∷ row) = λ i. nat_eq_equiv.symm w v i || either-way v row i
+
+module _ (row : List ℕ) (place : ℕ) (less : place < length row) where
+  pub compared : distinct_count eqb (take (place + 1) row)
+      ≡ cond (list_any (λ w. eqb w (get_or row place 0)) (take place row)) (distinct_count eqb (take place row)) (distinct_count eqb (take place row) + 1)
+  compared =
+      ap (λ (l : List ℕ). distinct_count eqb l) (take_more row place 0 less) ∙ one-behind (take place row) (get_or row place 0)
+      ∙ ap (λ b. cond b (distinct_count eqb (take place row)) (distinct_count eqb (take place row) + 1)) (sym (either-way (get_or row place 0) (take place row)))
+
 -- the visitors of a row have the mark, and none of the others has it or a higher one
 pub record AreMarked (mark : ℕ) (row marks : List ℕ) : Type 0 where
   pub low : All (λ m. m ≤ mark) marks

@@ -2,3 +2,4 @@
 pub mod Rows
 pub mod Ranks
 pub mod Telling
+pub mod Visits

@@ -1,20 +1,27 @@
-ghost use Rattle.std.specs.Prelude.{◌≡◌, [], IfOk, List};
+ghost use Rattle.std.specs.Prelude.{◌≡◌, [], IfOk, List, length, map};
 ghost use Rattle.ga_summary.specs.Outcomes.{Outcome};
 ghost use Rattle.ga_summary.specs.Sound.{AllCountable, TotalsFit};
 ghost use Rattle.ga_summary.specs.Sums.{IsSumOf};
-ghost use Rattle.ga_tallies.specs.Tallies.{IsTallyOf};
+ghost use Rattle.ga_tallies.specs.Tallies.{IsTallyOf, lists_in, pairs_in};
+ghost use Rattle.ga_totals.specs.Steps.Rows.{AreWithin};
+ghost use Rattle.ga_totals.specs.Steps.Telling.{AreVisits};
 ghost use Rattle.ga_totals.specs.Totals.{IsOfCountable, TellsSumOf};
 
 use crate::panels::panels_of;
 use crate::rows::rows_of;
 use crate::telling::TotalTold;
-use crate::visits::visits_of;
-use ga_base::{NoMemory, Totals};
+use crate::visits::{visits_in_parts, visits_of};
+use ga_base::{NoMemory, Panel, Totals};
+use ga_numbers::KeyNumbers;
 use ga_shards::Keyed;
 use ga_summary::{PartRows, Summary, SummaryParts};
-use ga_tallies::{Tally, TallyParts};
+use ga_tallies::{Row, Tally, TallyParts};
 use std::alloc::Global;
 use std::marker::Model;
+use std::thread::{self, Threads};
+
+/// Of fewer keys than these no parts are made, and no thread is started.
+const MANY: u32 = 4096;
 
 /// What a run has counted, in numbers: each different key and each different visitor has one. Contracts see the parts as
 /// lists, as those of a tally.
@@ -85,9 +92,15 @@ impl Total {
     }
 
     /// What the total tells to a report: what the summary would tell, without its names, and of the keys as they stand. It
-    /// takes the time of one look at each visitor of each row, and the memory of a mark for each visitor, and of a number and a
-    /// panel for each key.
-    pub fn told(&self, alloc: Global) -> Result<TotalTold<'_>, NoMemory>
+    /// takes the time of a few looks at each visitor of each row, which with more jobs than one threads share; and the memory
+    /// of two numbers and a panel for each key, and, for each of eight parts of the keys that has a long row, of a mark for each
+    /// visitor.
+    pub fn told<R: Threads + Sync>(
+        &self,
+        rt: &R,
+        alloc: Global,
+        jobs: u32,
+    ) -> Result<TotalTold<'_>, NoMemory>
         requires { IsOfCountable self.now }
         ensures { IfOk result (λ told. (xs : List Outcome) → IsTallyOf xs self.now → AllCountable xs
             → TellsSumOf xs told) }
@@ -99,8 +112,37 @@ impl Total {
             sums,
             visits,
         } = &self.parts;
-        let visits = visits_of(alloc, keys.len() as usize, visitors.len() as usize, visits)?;
-        let panels = panels_of(alloc, keys)?;
+        let many = visitors.len() as usize;
+        let (visits, panels) = visits_and_panels(rt, alloc, jobs, keys, many, visits)?;
         Ok(TotalTold::of(*totals, keys, panels, sums, visits))
     }
+}
+
+/// How many visitors each key has, and the panel of each. With more jobs than one those of many keys are found side by side.
+fn visits_and_panels<R: Threads + Sync>(
+    rt: &R,
+    alloc: Global,
+    jobs: u32,
+    keys: &KeyNumbers,
+    visitors: usize,
+    rows: &[Row],
+) -> Result<(Vec<u64>, Vec<Panel>), NoMemory>
+    requires { AreWithin visitors (lists_in rows.now) }
+    ensures visits { IfOk result (λ found. AreVisits (length keys.now) (pairs_in (lists_in rows.now)) found.0.items) }
+    ensures panels { IfOk result (λ found. found.1.items ≡ map (λ key. key.panel) keys.now) }
+{
+    let many = keys.len();
+    if jobs <= 1 || many < MANY {
+        let visits = visits_of(alloc, many, visitors, rows)?;
+        return Ok((visits, panels_of(alloc, keys)?));
+    }
+    let count = move || -> Result<Vec<u64>, NoMemory>
+        requires { AreWithin visitors (lists_in rows.now) }
+        ensures { IfOk result (λ visits. AreVisits many (pairs_in (lists_in rows.entry.now)) visits.items) }
+    { visits_in_parts(rt, alloc, many, visitors, rows) };
+    let list = move || -> Result<Vec<Panel>, NoMemory>
+        ensures { IfOk result (λ panels. panels.items ≡ map (λ key. key.panel) keys.entry.now) }
+    { panels_of(alloc, keys) };
+    let (visits, panels) = thread::join(rt, count, list);
+    Ok((visits?, panels?))
 }

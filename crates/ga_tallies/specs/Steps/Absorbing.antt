@@ -1,8 +1,58 @@
--- What a tally takes in of another: items, rows of sums and pairs, by the numbers that they get.
-use Rattle.std.specs.Prelude.{◌≡◌, ℕ, ◌⊎◌, List, [], ◌∷◌, Some, slice_get}
+-- What a tally takes in of others: items, rows of sums and pairs, by the numbers that they get.
+use Rattle.std.specs.Prelude.{◌≡◌, ◌≤◌, ◌<◌, ◌+◌, Bool, ℕ, ◌⊎◌, List, [], ◌∷◌, Some, slice_get}
 use Rattle.std.specs.List.{Contains}
 use Rattle.ga_base.specs.declared.counts.Sums.{Sums}
+use Rattle.ga_numbers.specs.Numbers.{places_of}
+use Rattle.ga_shards.specs.Steps.{all_noted}
 use Rattle.ga_tallies.specs.Adding.{KeepsAll, added_at}
+use Rattle.ga_tallies.specs.Tallies.{TallySeen, lists_in, pairs_in}
+use Rattle.ga_tallies.specs.declared.apart.Counts.{Counts}
+use Rattle.ga_tallies.specs.declared.moved.Moved.{Moved}
+
+-- ---- items
+
+-- items after those of other lists came to them, list by list
+abbrev pub all_in_turn : {T : Type 0} → (T → T → Bool) → List T → List (List T) → List T
+all_in_turn same known [] = known
+all_in_turn same known (more ∷ others) = all_in_turn same (all_noted same known more) others
+
+-- the numbers that the items of each list get then
+abbrev pub numbers_in_turn : {T : Type 0} → (T → T → Bool) → List T → List (List T) → List (List ℕ)
+numbers_in_turn same known [] = []
+numbers_in_turn same known (more ∷ others) = places_of same known more ∷ numbers_in_turn same (all_noted same known more) others
+
+-- the items of other lists were noted, list by list, and have these numbers
+pub record AreNotedInTurn {T : Type 0} (same : T → T → Bool) (others : List (List T)) (numbers : List (List ℕ)) (old new : List T) : Type 0 where
+  pub places : numbers ≡ numbers_in_turn same old others
+  pub known : new ≡ all_in_turn same old others
+
+-- ---- what moves
+
+-- what a tally has counted of its keys: sums at their numbers, and pairs
+pub record CountsSeen : Type 0 where
+  pub sums : List Sums
+  pub pairs : List (ℕ × ℕ)
+
+abbrev pub counts_seen : TallySeen → CountsSeen
+counts_seen tally = record { sums = tally.sums; pairs = tally.pairs }
+
+abbrev pub counts_in : Counts → CountsSeen
+counts_in counts = record { sums = counts.sums.items; pairs = pairs_in (lists_in counts.visits.items) }
+
+-- the same, and the new numbers of its keys and visitors
+pub record MoveSeen : Type 0 where
+  pub keys : List ℕ
+  pub visitors : List ℕ
+  pub counts : CountsSeen
+
+abbrev pub move_of : Moved → MoveSeen
+move_of moved = record { keys = moved.keys.items; visitors = moved.visitors.items; counts = counts_in moved.counts }
+
+abbrev pub moves_with : List (List ℕ) → List (List ℕ) → List CountsSeen → List MoveSeen
+moves_with (numbers ∷ keys) (places ∷ visitors) (counts ∷ more) = record { keys = numbers; visitors = places; counts = counts } ∷ moves_with keys visitors more
+moves_with keys visitors counts = []
+
+-- ---- sums
 
 -- rows of sums after others were added, each to the row of its number
 abbrev pub rows_added : List ℕ → List Sums → List Sums → List Sums
@@ -10,17 +60,32 @@ rows_added [] more rows = rows
 rows_added (number ∷ numbers) [] rows = rows
 rows_added (number ∷ numbers) (line ∷ more) rows = rows_added numbers more (added_at number line rows)
 
+abbrev pub sums_moved : List MoveSeen → List Sums → List Sums
+sums_moved [] rows = rows
+sums_moved (moved ∷ moves) rows = sums_moved moves (rows_added moved.keys moved.counts.sums rows)
+
+-- ---- pairs
+
 -- just the items of which this holds came to the others
 pub record AddsSuch {T : Type 0} (Comes : T → Type 0) (old new : List T) : Type 0 where
   pub kept : KeepsAll old new
   pub there : (item : T) → Comes item → Contains new item
   pub only : (item : T) → Contains new item → Contains old item ⊎ Comes item
 
--- a pair of this key and the number of a visitor of the row
-abbrev pub IsMappedRow : ℕ → List ℕ → List ℕ → ℕ × ℕ → Type 0
-IsMappedRow key visitors row pair = (v : ℕ) × (number : ℕ) × Contains row v × (slice_get visitors v ≡ Some number) × (pair ≡ (key, number))
+-- the number of a visitor of the row
+abbrev pub IsMappedItem : List ℕ → List ℕ → ℕ → Type 0
+IsMappedItem visitors row number = (v : ℕ) × Contains row v × (slice_get visitors v ≡ Some number)
 
 -- a pair of the numbers of a key and a visitor that are a pair among these
 abbrev pub IsMapped : List ℕ → List ℕ → List (ℕ × ℕ) → ℕ × ℕ → Type 0
 IsMapped keys visitors pairs pair = (k : ℕ) × (v : ℕ) × (key : ℕ) × (visitor : ℕ) × Contains pairs (k, v)
     × (slice_get keys k ≡ Some key) × (slice_get visitors v ≡ Some visitor) × (pair ≡ (key, visitor))
+
+-- a pair that comes by one of these moves
+abbrev pub IsMoved : List MoveSeen → ℕ × ℕ → Type 0
+IsMoved [] pair = ⊥
+IsMoved (moved ∷ moves) pair = IsMapped moved.keys moved.visitors moved.counts.pairs pair ⊎ IsMoved moves pair
+
+-- of those pairs one with a key of so many, of which the first has this number
+abbrev pub IsAmong : ℕ → ℕ → (ℕ × ℕ → Type 0) → ℕ × ℕ → Type 0
+IsAmong first many Comes pair = Comes pair × (first ≤ pair.0) × (pair.0 < first + many)

@@ -1,11 +1,11 @@
 use Rattle.std.proofs.Common.{◌≡◌, ◌+◌, ◌∷◌, drop, sym, ap, ◌∙◌, subst}
 use Rattle.std.proofs.lemmas.List.{drop_more}
 use Rattle.ga_base.specs.declared.counts.Totals.{Totals}
-use Rattle.ga_pool.specs.Together.{totals_from, totals_in}
+use Rattle.ga_pool.specs.Together.{totals_in}
 use Rattle.ga_pool.proofs.Together.{fit-before, from-alone}
 use Rattle.ga_summary.specs.Rows.{totals_plus}
 use Rattle.ga_summary.specs.Sound.{TotalsFit}
-use Rattle.ga_tallies.specs.Tallies.{TallySeen}
+use Rattle.ga_tallies.specs.Tallies.{TallySeen, totals_from}
 use Rattle.ga_pool.proofs.limits.counters.Goals as goal
 
 pub loop-tally-init : goal.loop-tally-init

@@ -1,5 +1,6 @@
 use Rattle.std.proofs.Common.{◌≡◌, drop}
-use Rattle.ga_pool.specs.Together.{totals_from, totals_in}
+use Rattle.ga_pool.specs.Together.{totals_in}
+use Rattle.ga_tallies.specs.Tallies.{totals_from}
 use Rattle.ga_summary.specs.Limits.{LinesAdd}
 use Rattle.ga_summary.specs.Rows.{totals_plus}
 use Rattle.ga_pool.proofs.limits.counters.Given as goal

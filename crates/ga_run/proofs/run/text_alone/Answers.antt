@@ -39,7 +39,7 @@ returns-in_err-total-clause-stops g c =
     rw (p.1, p.2) (inl (record { entries = entries; begin = c.in_ok-entries.ensures; fault = fault; status_is = refl; stops = stops }))
 
 pub told-requires : goal.told-requires
-told-requires g c = countable-total _ _ _ _ c.in_ok-total.ensures.ok.counts
+told-requires g c = (c.type_bounds.sync-R, countable-total _ _ _ _ c.in_ok-total.ensures.ok.counts)
 
 pub returns-in_err-told-clause-stops : goal.returns-in_err-told-clause-stops
 returns-in_err-told-clause-stops g c =

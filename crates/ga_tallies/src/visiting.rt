@@ -1,0 +1,130 @@
+ghost use Rattle.std.specs.Prelude.{◌≡◌, ◌<◌, ◌≤◌, ◌+◌, ◌^◌, ℕ, Some, OnOk, IfSome, IfNone, length, map, slice_get};
+ghost use Rattle.std.specs.Thread.{IsSync};
+ghost use Rattle.ga_tallies.specs.Steps.Absorbing.{AddsSuch, IsAmong, IsMapped, IsMappedItem, IsMoved, move_of};
+ghost use Rattle.ga_tallies.specs.Tallies.{lists_in, pairs_from, pairs_in};
+
+use crate::Row;
+use crate::moved::Moved;
+use crate::weighing::middle_of;
+use ga_base::NoMemory;
+use std::thread::{Threads, join_mut};
+
+/// Of fewer keys no parts are made.
+const FEW: usize = 256;
+
+/// Adds the pairs of moves to the rows of keys, of which the first has the number `first`, in so many parts, side by side.
+/// The parts are halves of halves by what the rows hold before.
+#[cycle(parts)]
+pub(crate) fn add_in_parts<R: Threads + Sync>(
+    rt: &R,
+    parts: u32,
+    moves: &[Moved],
+    first: usize,
+    rows: &mut [Row],
+) -> Result<(), NoMemory>
+    requires { first + length rows.old < 2 ^ 64 }
+    ensures { OnOk result (AddsSuch (IsAmong first (length rows.old) (IsMoved (map move_of moves.now)))
+        (pairs_from first (lists_in rows.old)) (pairs_from first (lists_in rows.new))) }
+{
+    if parts < 2 || rows.len() < FEW {
+        return add_moves(moves, first, rows);
+    }
+    let middle = middle_of(rows);
+    let (low, high) = rows.split_at_mut(middle);
+    add_halves(rt, parts / 2, moves, first, low, first + middle, high)
+}
+
+/// Adds the pairs of moves to the rows of some keys, and beside them to those of the keys behind these.
+#[cycle(parts)]
+fn add_halves<R: Threads + Sync>(
+    rt: &R,
+    parts: u32,
+    moves: &[Moved],
+    first: usize,
+    low: &mut [Row],
+    next: usize,
+    high: &mut [Row],
+) -> Result<(), NoMemory>
+    requires low { first + length low.old < 2 ^ 64 }
+    requires high { next + length high.old < 2 ^ 64 }
+    ensures low { OnOk result (AddsSuch (IsAmong first (length low.old) (IsMoved (map move_of moves.now)))
+        (pairs_from first (lists_in low.old)) (pairs_from first (lists_in low.new))) }
+    ensures high { OnOk result (AddsSuch (IsAmong next (length high.old) (IsMoved (map move_of moves.now)))
+        (pairs_from next (lists_in high.old)) (pairs_from next (lists_in high.new))) }
+{
+    let mut front = || -> Result<(), NoMemory>
+        requires { IsSync R.row × (first + length low.now < 2 ^ 64) }
+        ensures { OnOk result (AddsSuch (IsAmong first (length low.entry.now) (IsMoved (map move_of moves.entry.now)))
+            (pairs_from first (lists_in low.entry.now)) (pairs_from first (lists_in low.exit.now))) }
+    { add_in_parts(rt, parts, moves, first, low) };
+    let mut back = || -> Result<(), NoMemory>
+        requires { IsSync R.row × (next + length high.now < 2 ^ 64) }
+        ensures { OnOk result (AddsSuch (IsAmong next (length high.entry.now) (IsMoved (map move_of moves.entry.now)))
+            (pairs_from next (lists_in high.entry.now)) (pairs_from next (lists_in high.exit.now))) }
+    { add_in_parts(rt, parts, moves, next, high) };
+    let (front, back) = join_mut(rt, &mut front, &mut back);
+    front.and(back)
+}
+
+/// Adds the pairs of moves to the rows of these keys.
+fn add_moves(moves: &[Moved], first: usize, rows: &mut [Row]) -> Result<(), NoMemory>
+    ensures { OnOk result (AddsSuch (IsAmong first (length rows.old) (IsMoved (map move_of moves.now)))
+        (pairs_from first (lists_in rows.old)) (pairs_from first (lists_in rows.new))) }
+{
+    for moved in moves {
+        add_move(
+            &moved.keys,
+            &moved.visitors,
+            &moved.counts.visits,
+            first,
+            rows,
+        )?;
+    }
+    Ok(())
+}
+
+/// Adds the pairs of other rows to the rows of these keys, each key and visitor by the number that it has here.
+fn add_move(
+    keys: &[u32],
+    visitors: &[u32],
+    others: &[Row],
+    first: usize,
+    rows: &mut [Row],
+) -> Result<(), NoMemory>
+    ensures many { length rows.new ≡ length rows.old }
+    ensures added { OnOk result (AddsSuch (IsAmong first (length rows.old) (IsMapped keys.now visitors.now (pairs_in (lists_in others.now))))
+        (pairs_from first (lists_in rows.old)) (pairs_from first (lists_in rows.new))) }
+{
+    for (key, row) in others.iter().enumerate() {
+        if let Some(place) = place_among(keys, key, first, rows.len()) {
+            add_row(&mut rows[place], visitors, row)?;
+        }
+    }
+    Ok(())
+}
+
+/// The place of a key's row among so many, of which the first is that of the number `first`. There is none where the row is
+/// another part's.
+fn place_among(keys: &[u32], key: usize, first: usize, many: usize) -> Option<usize>
+    ensures some { IfSome result (λ place. (place < many) × (slice_get keys.now key ≡ Some (first + place))) }
+    ensures none { IfNone result ((number : ℕ) → slice_get keys.now key ≡ Some number → first ≤ number → number < first + many → ⊥) }
+{
+    let number = *keys.get(key)? as usize;
+    if number < first || number - first >= many {
+        return None;
+    }
+    Some(number - first)
+}
+
+/// Adds other visitors to a row, each by the number that it has here.
+fn add_row(row: &mut Row, visitors: &[u32], more: &[u32]) -> Result<(), NoMemory>
+    ensures { OnOk result (AddsSuch (IsMappedItem visitors.now more.now) row.old.items row.new.items) }
+{
+    row.reserve(more.len())?;
+    for visitor in more {
+        if let Some(number) = visitors.get(*visitor as usize) {
+            row.push(*number)?;
+        }
+    }
+    Ok(())
+}
