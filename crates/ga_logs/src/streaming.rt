@@ -188,6 +188,7 @@ fn side_by_side<R: Threads + Sync, G: Gate, F: Files>(
     ensures counts { OnOk result.0 (CountsTaken setup.now taken.now counting.old counting.new) }
     ensures fills { FillsOrStops from to (F.view files.old) (F.view files.new) batcher.old batcher.new result.1 }
 {
+    let is_alone = taken.is_empty();
     let mut count = || -> Result<(), NoMemory>
         requires { IsSync R.row × (length taken.now ≤ 2 ^ 24) }
         ensures { OnOk result (CountsTaken setup.entry.now taken.entry.now counting.entry.now counting.exit.now) }
@@ -195,7 +196,7 @@ fn side_by_side<R: Threads + Sync, G: Gate, F: Files>(
     let mut read = || -> Result<u64, PlaceFault>
         requires { CanFill from to buffer.now (F.view files.now) batcher.now }
         ensures { FillsOrStops from to (F.view files.entry.now) (F.view files.exit.now) batcher.entry.now batcher.exit.now result }
-    { fill(from, to, buffer, files, batcher) };
+    { fill(from, to, is_alone, buffer, files, batcher) };
     if jobs > 1 {
         join_mut(rt, &mut count, &mut read)
     } else {
@@ -204,10 +205,12 @@ fn side_by_side<R: Threads + Sync, G: Gate, F: Files>(
 }
 
 /// Reads the open file from one place on, until the batcher is full or up to another place, by slices of at most the
-/// buffer's length. It answers up to where it read: behind the first place, where the batcher has room.
+/// buffer's length. Where it is alone, as no batch is counted meanwhile, it reads as much as one job takes, so that the
+/// workers begin soon. It answers up to where it read: behind the first place, where the batcher has room.
 fn fill<F: Files>(
     from: u64,
     to: u64,
+    is_alone: bool,
     buffer: &mut [u8],
     files: &mut F,
     batcher: &mut Batcher,
@@ -218,7 +221,7 @@ fn fill<F: Files>(
     // That the number of calls doesn't fall, for the proof alone.
     files_stay();
     let mut at = from;
-    while at < to && batcher.room() > 0 {
+    while at < to && batcher.room() > 0 && !(is_alone && at - from >= JOB) {
         at += fill_slice(at, to, buffer, files, batcher)? as u64;
     }
     Ok(at)

@@ -1,21 +1,21 @@
 -- Visitors are made of agents and rows, and agents share nothing with others.
-use Rattle.std.proofs.Common.{◌≡◌, ℕ, ◌<◌, List, [], ◌∷◌, Result, Ok, Err, IfOk, OnErr, length, map, refl, sym, ap, ◌∙◌, subst, arith}
+use Rattle.std.proofs.Common.{◌≡◌, ℕ, ◌<◌, List, [], ◌∷◌, Result, Ok, Err, IfOk, OnErr, length, map, refl, sym, ap, subst, arith}
 use Rattle.std.specs.List.{All, IsDistinct}
 use Rattle.std.proofs.lemmas.List.Elements.{All-head, All-nil, All-tail}
 use Rattle.std.proofs.lemmas.Map.Keys.{IsDistinct-from_apart}
 use Rattle.std.proofs.lemmas.Option.{slice_get_within}
 use Rattle.ga_base.specs.Orders.{is_same_visitor}
+use Rattle.ga_base.specs.declared.key.Visitor.{Visitor}
 use Rattle.ga_numbers.specs.Kept.{no_row}
-use Rattle.ga_numbers.specs.Numbers.{AreNoted, IsNumbered, places_of}
-use Rattle.ga_numbers.specs.Rows.{AreFramed, AreRowsOf, is_same_row, moved_by}
+use Rattle.ga_numbers.specs.Numbers.{AreNotedInTurn, IsNumbered}
+use Rattle.ga_numbers.specs.Rows.{AreFramed, AreMade, AreRowsOf, is_same_row, moved_by, moved_each}
+use Rattle.ga_numbers.specs.Three.{AllThree}
 use Rattle.ga_numbers.specs.Visitors.{IsAgent, visitor_at, visitors_in}
 use Rattle.ga_numbers.specs.declared.row.Row.{Row}
-use Rattle.ga_numbers.proofs.Framed.{absorbed}
+use Rattle.ga_numbers.proofs.FramedInTurn.{items-in-turn}
 use Rattle.ga_numbers.proofs.Framings.{makes-visitors}
 use Rattle.ga_numbers.proofs.Noted.{grows, noted-all, noted-distinct}
 use Rattle.ga_numbers.proofs.Same.{row-laws}
-use Rattle.ga_shards.proofs.Noting.{from-all, stays-distinct}
-use Rattle.ga_shards.specs.Steps.{all_noted}
 
 pub no-agents : AreRowsOf is_same_row IsAgent [] []
 no-agents = record {
@@ -53,20 +53,21 @@ unmoved (agent ∷ agents) plain =
     let rest = unmoved agents (All-tail IsAgent agent agents plain) in
     λ i. record { frame = sym own.0 i; date = agent.date; text = agent.text } ∷ rest i
 
--- other agents were noted, and then rows of them: so were the visitors
-pub agents-absorbed : (agents more agents-new rows more-rows rows-new : List Row) (places numbers : List ℕ) → AreRowsOf is_same_row IsAgent agents rows → AreRowsOf is_same_row IsAgent more more-rows
-    → AreNoted is_same_row (map (moved_by []) more) places agents agents-new → AreNoted is_same_row (map (moved_by places) more-rows) numbers rows rows-new
-    → AreNoted is_same_visitor (visitors_in more more-rows) numbers (visitors_in agents rows) (visitors_in agents-new rows-new) × AreRowsOf is_same_row IsAgent agents-new rows-new
-agents-absorbed agents more agents-new rows more-rows rows-new places numbers are others told noted-rows =
-    let both = absorbed no_row is_same_row is_same_visitor IsAgent visitor_at makes-visitors agents more agents-new rows more-rows rows-new places numbers are.framed others.framed different plain
-    (told.places ∙ ap (places_of is_same_row agents) (unmoved more others.plain)) known noted-rows in
-    (both.0, record { different = different; plain = plain; framed = both.1 })
+pub unmoved-each : (agents : List (List Row)) → All (All IsAgent) agents → moved_each [] agents ≡ agents
+unmoved-each [] plain = refl
+unmoved-each (list ∷ agents) plain =
+    let own = unmoved list (All-head (All IsAgent) list agents plain) in
+    let rest = unmoved-each agents (All-tail (All IsAgent) list agents plain) in
+    λ i. own i ∷ rest i
+
+-- other agents were noted, list by list, and then rows of them: so were the visitors
+pub visitors-in-turn : (visitors : List (List Visitor)) (more more-rows : List (List Row)) (agents agents-new rows rows-new : List Row) (places numbers : List (List ℕ))
+    → AllThree (AreMade is_same_row IsAgent visitors_in) visitors more more-rows → AreRowsOf is_same_row IsAgent agents rows
+    → AreNotedInTurn is_same_row (moved_each [] more) places agents agents-new → AreNotedInTurn is_same_row (moved_each places more-rows) numbers rows rows-new
+    → AreNotedInTurn is_same_visitor visitors numbers (visitors_in agents rows) (visitors_in agents-new rows-new) × AreRowsOf is_same_row IsAgent agents-new rows-new
+visitors-in-turn visitors more more-rows agents agents-new rows rows-new places numbers all are noted-agents noted-rows =
+    items-in-turn no_row is_same_row is_same_visitor IsAgent visitor_at makes-visitors visitors more more-rows agents agents-new rows rows-new places numbers all are
+    (subst (λ (l : List (List Row)). AreNotedInTurn is_same_row l places agents agents-new) (unmoved-each more plain) noted-agents) noted-rows
   where
-    known : agents-new ≡ all_noted is_same_row agents more
-    known = told.known ∙ ap (all_noted is_same_row agents) (unmoved more others.plain)
-
-    different : IsDistinct is_same_row agents-new
-    different = subst (IsDistinct is_same_row) (sym known) (stays-distinct is_same_row row-laws more agents are.different)
-
-    plain : All IsAgent agents-new
-    plain = subst (All IsAgent) (sym known) (from-all is_same_row row-laws IsAgent more agents are.plain others.plain)
+    plain : All (All IsAgent) more
+    plain k d within = (all.each k [] d [] (omega (arith, within, all.second))).parts.plain

@@ -10,4 +10,8 @@ pub mod Setting
 pub mod Giving
 pub mod HaveMet
 pub mod Meetings
+pub mod InTurn
+pub mod Three
+pub mod Moving
+pub mod FramedInTurn
 pub mod Agents

@@ -1,7 +1,9 @@
 -- What is so place by place, of lists that are put together of groups.
 use Rattle.std.proofs.Common.{◌≡◌, ℕ, zero, suc, ◌<◌, List, [], ◌∷◌, ◌++◌, ◌∙◌, length, get_or, map, Result, Ok, IfOk, refl, ap, sym, subst, arith}
 use Rattle.std.proofs.lemmas.List.{append_assoc, append-nil, get_or-map, length-map}
-use Rattle.std.specs.List.{AllZip, flat_map}
+use Rattle.std.specs.List.{All, AllZip, flat_map}
+use Rattle.ga_numbers.specs.Meetings.{joined_by}
+use Rattle.ga_numbers.specs.declared.row.Row.{Row}
 
 module _ {A B : Type 0} (R : A → B → Type 0) where
   pub zip-more : (xs : List A) (ys : List B) (x : A) (y : B) → AllZip R xs ys → R x y → AllZip R (xs ++ x ∷ []) (ys ++ y ∷ [])
@@ -63,15 +65,14 @@ zip-jobs {M} {G} {E} P jobs results parts are long each =
     subst (λ (x : M). P x (get_or parts i g)) (sym (job.1 m))
     (subst (λ (r : Result G E). IfOk r (P job.0)) (ap (λ (rs : List (Result G E)). get_or rs i (Ok g)) are ∙ get_or-map Ok parts i g (Ok g) inside) job.2))
 
--- and the same as what calls give
-pub met-jobs : {M G E : Type 0} (P : M → G → Type 0) (jobs : List M) (parts : List G) → AllZip P jobs parts
-    → (i : ℕ) (r : Result G E) → i < length jobs → (m : M) × ((d : M) → get_or jobs i d ≡ m) × IfOk (get_or (map Ok parts) i r) (P m)
-met-jobs {M} {G} {E} P jobs parts all i r within =
-    let inside : i < length parts = omega (arith, within, zip-long P jobs parts all) in
-    let m = element jobs i within in
-    let g = element parts i inside in (
-      m.0,
-      m.1,
-      subst (λ (x : Result G E). IfOk x (P m.0)) (sym (get_or-map Ok parts i g.0 r inside ∙ ap Ok (g.1 g.0)))
-          (subst (λ (x : M). P x g.0) (m.1 m.0) (subst (P (get_or jobs i m.0)) (g.1 g.0) (at-zip P jobs parts all i m.0 g.0 within))),
-    )
+-- the shards of others that meet each shard, after one more joined them
+pub joined-at : (meetings : List (List (List Row))) (shards : List (List Row)) (s : ℕ) → s < length meetings → s < length shards → get_or (joined_by meetings shards) s [] ≡ get_or meetings s [] ++ get_or shards s [] ∷ []
+joined-at [] shards s within inside = absurd (omega (arith, within))
+joined-at (m ∷ meetings) [] s within inside = absurd (omega (arith, inside))
+joined-at (m ∷ meetings) (x ∷ shards) zero within inside = refl
+joined-at (m ∷ meetings) (x ∷ shards) (suc s) within inside = joined-at meetings shards s (omega (arith, within)) (omega (arith, inside))
+
+-- what holds of all that elements are mapped to
+module _ {A B : Type 0} (f : A → B) (P : B → Type 0) where
+  pub all-read : (xs : List A) → All P (map f xs) → All (λ x. P (f x)) xs
+  all-read xs all k d within = subst P (get_or-map f xs k d (f d) within) (all k (f d) (omega (arith, within, length-map xs f)))

@@ -1,9 +1,9 @@
 -- How rows are kept: each in the shard of its day and its text, beside the place where the row of each number stands.
-use Rattle.std.specs.Prelude.{◌≡◌, ◌<◌, ◌^◌, ℕ, List, [], Some, length, map, slice_get, slice_index_or}
+use Rattle.std.specs.Prelude.{◌≡◌, ◌<◌, ◌+◌, ◌^◌, ℕ, List, [], ◌∷◌, Some, length, map, slice_get, slice_index_or}
 use Rattle.std.specs.List.{All, IsDistinct}
 use Rattle.ga_shards.specs.Numbers.{item_of}
-use Rattle.ga_numbers.specs.Numbers.{AreNoted}
-use Rattle.ga_numbers.specs.Rows.{is_same_row, moved_by, shard_at}
+use Rattle.ga_numbers.specs.Numbers.{AreNotedInTurn}
+use Rattle.ga_numbers.specs.Rows.{is_same_row, moved_each, shard_at}
 use Rattle.ga_numbers.specs.declared.place.Place.{Place}
 use Rattle.ga_numbers.specs.declared.row.Row.{Row}
 
@@ -51,12 +51,32 @@ pub record Grows (old new : List (List Row)) : Type 0 where
   pub many : length new ≡ length old
   pub kept : (s l : ℕ) (row : Row) → item_of old s l ≡ Some row → item_of new s l ≡ Some row
 
--- the rows of other shards were noted, each in the shard at its place, and stand there
-pub record HaveMet (frames : List ℕ) (shards others new : List (List Row)) (locals : List (List ℕ)) : Type 0 where
+-- all the shards, in which the rows stand at these places, in their order
+pub record AreOpened (rows : List Row) (shards : List (List Row)) (order : List Place) : Type 0 where
+  pub whole : length shards ≡ 64
+  pub sharded : AreShards shards
+  pub stand : (n : ℕ) (p : Place) → slice_get order n ≡ Some p → IsRowAt shards p
+  pub are : rows_in shards order ≡ rows
+
+-- the shard at this place of each of the others
+abbrev pub shards_at : ℕ → List (List (List Row)) → List (List Row)
+shards_at s others = map (λ shards. slice_index_or shards s []) others
+
+-- the rows of the shards of others were noted, other by other, each in the shard at its place, and stand there
+pub record HaveMet (frames : List (List ℕ)) (shards : List (List Row)) (others : List (List (List Row))) (new : List (List Row)) (locals : List (List (List ℕ))) : Type 0 where
   pub many : length new ≡ length shards
   pub each : (s : ℕ) → s < length shards
-      → AreNoted is_same_row (map (moved_by frames) (slice_index_or others s [])) (slice_index_or locals s []) (slice_index_or shards s []) (slice_index_or new s [])
+      → AreNotedInTurn is_same_row (moved_each frames (shards_at s others)) (slice_index_or locals s []) (slice_index_or shards s []) (slice_index_or new s [])
 
--- where the row at a place of the others stands then
-abbrev pub met_at : List (List ℕ) → Place → Place
-met_at locals p = record { shard = p.shard; local = slice_index_or (slice_index_or locals p.shard []) p.local 0 }
+-- where the row at a place of one of the others stands then
+abbrev pub met_at : List (List (List ℕ)) → ℕ → Place → Place
+met_at locals which p = record { shard = p.shard; local = slice_index_or (slice_index_or (slice_index_or locals p.shard []) which []) p.local 0 }
+
+-- the same of the places of each of the others, of which the first is this one
+abbrev pub met_each : List (List (List ℕ)) → ℕ → List (List Place) → List (List Place)
+met_each locals first [] = []
+met_each locals first (order ∷ orders) = map (met_at locals first) order ∷ met_each locals (first + 1) orders
+
+-- rows stand at all of those
+abbrev pub StandEach : List (List Row) → List (List (List ℕ)) → List (List Place) → Type 0
+StandEach shards locals orders = All (All (IsRowAt shards)) (met_each locals 0 orders)

@@ -2,6 +2,7 @@
 pub mod Numbers
 pub mod Refs
 pub mod Rows
+pub mod Three
 pub mod Kept
 pub mod Meetings
 pub mod KeyFrames

@@ -18,3 +18,20 @@ places_of eq known (item ∷ items) = place_of eq known item ∷ places_of eq (n
 pub record AreNoted {T : Type 0} (eq : T → T → Bool) (items : List T) (numbers : List ℕ) (old new : List T) : Type 0 where
   pub places : numbers ≡ places_of eq old items
   pub known : new ≡ all_noted eq old items
+
+-- ---- items of others, list by list
+
+-- items after those of other lists came to them, list by list
+abbrev pub all_in_turn : {T : Type 0} → (T → T → Bool) → List T → List (List T) → List T
+all_in_turn same known [] = known
+all_in_turn same known (more ∷ others) = all_in_turn same (all_noted same known more) others
+
+-- the numbers that the items of each list get then
+abbrev pub numbers_in_turn : {T : Type 0} → (T → T → Bool) → List T → List (List T) → List (List ℕ)
+numbers_in_turn same known [] = []
+numbers_in_turn same known (more ∷ others) = places_of same known more ∷ numbers_in_turn same (all_noted same known more) others
+
+-- the items of other lists were noted, list by list, and have these numbers
+pub record AreNotedInTurn {T : Type 0} (same : T → T → Bool) (others : List (List T)) (numbers : List (List ℕ)) (old new : List T) : Type 0 where
+  pub places : numbers ≡ numbers_in_turn same old others
+  pub known : new ≡ all_in_turn same old others

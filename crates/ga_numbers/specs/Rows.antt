@@ -1,5 +1,5 @@
 -- Items but for what they share with others, which are called rows, and what they share, which is called their frame.
-use Rattle.std.specs.Prelude.{ℕ, ◌<◌, ◌+◌, ◌*◌, ◌%◌, ◌^◌, ◌++◌, Bool, List, length, All, slice_index_or}
+use Rattle.std.specs.Prelude.{◌≡◌, ℕ, ◌<◌, ◌+◌, ◌*◌, ◌%◌, ◌^◌, ◌++◌, Bool, List, [], ◌∷◌, length, map, All, slice_index_or}
 use Rattle.std.specs.Hash.{HashWrites, str, u64}
 use Rattle.std.specs.List.{IsDistinct}
 use Rattle.ga_numbers.specs.contracts.row.RowPartialEq.TheImpl.{ghosts as rows}
@@ -36,3 +36,14 @@ pub record AreRowsOf {F : Type 0} (eq : F → F → Bool) (IsPlain : F → Type 
 -- a row whose frame has the number that stands in this list
 abbrev pub moved_by : List ℕ → Row → Row
 moved_by numbers row = record { frame = slice_index_or numbers row.frame 0; date = row.date; text = row.text }
+
+-- rows of others, list by list, whose frames have the numbers that stand in the list of theirs, or in none where it is missing
+abbrev pub moved_each : List (List ℕ) → List (List Row) → List (List Row)
+moved_each frames [] = []
+moved_each [] (rows ∷ others) = map (moved_by []) rows ∷ moved_each [] others
+moved_each (numbers ∷ frames) (rows ∷ others) = map (moved_by numbers) rows ∷ moved_each frames others
+
+-- items that are made of these frames and rows
+pub record AreMade {F T : Type 0} (eq : F → F → Bool) (IsPlain : F → Type 0) (made : List F → List Row → List T) (items : List T) (frames : List F) (rows : List Row) : Type 0 where
+  pub whole : made frames rows ≡ items
+  pub parts : AreRowsOf eq IsPlain frames rows

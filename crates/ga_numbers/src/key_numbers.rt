@@ -1,13 +1,17 @@
-ghost use Rattle.std.specs.Prelude.{◌≡◌, ◌<◌, [], Some, IfOk, OnErr, length, slice_get};
+ghost use Rattle.std.specs.Prelude.{◌≡◌, ◌<◌, [], Some, IfOk, OnErr, length, map, slice_get};
 ghost use Rattle.std.specs.List.{IsDistinct};
 ghost use Rattle.ga_base.specs.Orders.{is_same_key};
-ghost use Rattle.ga_numbers.specs.Numbers.{AreNoted, IsNumbered};
+ghost use Rattle.ga_numbers.specs.KeyFrames.{IsKeyFrame, is_same_frame, keys_in};
+ghost use Rattle.ga_numbers.specs.Numbers.{AreNotedInTurn, IsNumbered};
 ghost use Rattle.ga_numbers.specs.Refs.{key_lent};
+ghost use Rattle.ga_numbers.specs.Rows.{AreMade};
+ghost use Rattle.ga_numbers.specs.Three.{AllThree};
 ghost use Rattle.ga_panels.specs.Refs.{key_of};
 
+use crate::grown::Grown;
 use crate::key_frame::{FrameHints, frame_number};
 use crate::lent_key::LentKey;
-use crate::noting::note_all;
+use crate::noting::{note_all, note_each};
 use crate::row::RowRef;
 use crate::rows::Rows;
 use ga_base::{Key, NoMemory};
@@ -15,7 +19,6 @@ use ga_panels::KeyRef;
 use ga_shards::{Dictionary, Keyed};
 use std::alloc::Global;
 use std::marker::Model;
-use std::mem;
 use std::thread::Threads;
 
 /// Different keys, in the order in which they were first noted. Contracts see the list of them.
@@ -78,33 +81,31 @@ impl KeyNumbers {
         self.rows.number(alloc, row)
     }
 
-    /// Notes other keys, and gives the number of each. Their rows are noted side by side. After an `Err`
-    /// none are known any more.
-    pub fn absorb<R: Threads + Sync>(
-        &mut self,
+    /// These keys after those of others were noted among them, one list after the other. Their rows are noted side by side.
+    pub fn with<R: Threads + Sync>(
+        self,
         rt: &R,
         alloc: Global,
-        more: KeyNumbers,
-    ) -> Result<Vec<u32>, NoMemory>
-        ensures { IfOk result (λ numbers. AreNoted is_same_key more numbers.items self.old self.new) }
+        others: Vec<KeyNumbers>,
+    ) -> Result<Grown<KeyNumbers>, NoMemory>
+        ensures { IfOk result (λ grown. AreNotedInTurn is_same_key others.items (map (λ l. l.items) grown.numbers.items) self grown.known) }
     {
-        let keyed = self.keyed;
-        let known = mem::replace(self, KeyNumbers::new(alloc, keyed));
         let KeyNumbers {
-            frames: mut shared,
+            mut frames,
             rows,
             frame_hints,
-            ..
-        } = known;
-        let frames = note_all(alloc, &mut shared, more.frames.into_items(alloc)?)?;
-        let (rows, numbers) = rows.absorb(rt, alloc, more.rows, &frames)?;
-        *self = KeyNumbers {
-            frames: shared,
+            keyed,
+        } = self;
+        let (more_frames, more_rows) = apart(alloc, others)?;
+        let places = note_each(alloc, &mut frames, more_frames)?;
+        let (rows, numbers) = rows.with(rt, alloc, more_rows, &places)?;
+        let known = KeyNumbers {
+            frames,
             rows,
             frame_hints,
             keyed,
         };
-        Ok(numbers)
+        Ok(Grown { known, numbers })
     }
 
     /// Lends the key of this number.
@@ -141,4 +142,20 @@ impl KeyNumbers {
         note_all(alloc, &mut keys, self.items(alloc)?)?;
         Ok(keys)
     }
+}
+
+/// The frames of each of these, and the rows.
+fn apart(
+    alloc: Global,
+    others: Vec<KeyNumbers>,
+) -> Result<(Vec<Dictionary<Key>>, Vec<Rows>), NoMemory>
+    ensures { IfOk result (λ parts. AllThree (AreMade is_same_frame IsKeyFrame keys_in) others.items parts.0.items parts.1.items) }
+{
+    let mut frames = Vec::with_capacity(alloc, others.len())?;
+    let mut rows = Vec::with_capacity(alloc, others.len())?;
+    for keys in others {
+        frames.push(keys.frames)?;
+        rows.push(keys.rows)?;
+    }
+    Ok((frames, rows))
 }

@@ -6,10 +6,13 @@
 //! `specs/Numbers.antt` says what a number is.
 #![tactic(auto)]
 
+mod assigning;
+mod grown;
 mod hints;
 mod key_frame;
 mod key_numbers;
 mod lent_key;
+mod lists;
 mod meeting;
 mod noting;
 mod place;
@@ -18,6 +21,7 @@ mod rows;
 mod visitor_numbers;
 mod visitor_ref;
 
+pub use grown::Grown;
 pub use key_numbers::KeyNumbers;
 pub use lent_key::LentKey;
 pub use visitor_numbers::VisitorNumbers;

@@ -1,14 +1,13 @@
-ghost use Rattle.std.specs.Prelude.{◌≡◌, ◌<◌, ◌++◌, List, Ok, IfOk, All, map, slice_index_or, vec_len};
+ghost use Rattle.std.specs.Prelude.{◌≡◌, ◌<◌, [], ℕ, List, Ok, IfOk, All, map, slice_index_or, vec_len};
 ghost use Rattle.std.specs.List.{AllZip, flat_map};
 ghost use Rattle.std.specs.Global.{Vec as TheVec};
-ghost use Rattle.ga_numbers.specs.Kept.{AreNamed, AreShards, HaveMet, IsRowAt, met_at, rows_in};
-ghost use Rattle.ga_numbers.specs.Meetings.{HasMet};
+ghost use Rattle.ga_numbers.specs.Kept.{HaveMet, shards_at};
+ghost use Rattle.ga_numbers.specs.Meetings.{HasMet, joined_by};
 ghost use Rattle.ga_numbers.specs.Numbers.{AreNoted};
 ghost use Rattle.ga_numbers.specs.Rows.{is_same_row, moved_by};
-ghost use Rattle.ga_numbers.specs.declared.row.Row.{Row};
 
+use crate::lists::{list_at, number_at};
 use crate::noting::note;
-use crate::place::{Place, assign};
 use crate::row::Row;
 use ga_base::NoMemory;
 use ga_shards::Dictionary;
@@ -16,42 +15,42 @@ use std::alloc::Global;
 use std::mem;
 use std::thread::{self, Threads};
 
-/// A shard, and that of others whose rows are noted in it.
+/// A shard, and those of others whose rows are noted in it.
 #[derive(Drop)]
 struct Meeting {
     /// The shard.
     known: Dictionary<Row>,
-    /// That of the others.
-    more: Dictionary<Row>,
+    /// That of each of the others, in their order.
+    more: Vec<Dictionary<Row>>,
 }
 
 /// A shard after the rows of others were noted in it.
 #[derive(Drop)]
-pub(crate) struct Grown {
+pub(crate) struct Met {
     /// The shard.
     known: Dictionary<Row>,
-    /// Where each row of the others stands in it.
-    locals: Vec<u32>,
+    /// Where each row of each of the others stands in it.
+    locals: Vec<Vec<u32>>,
 }
 
 /// So many shards are put together by one thread.
 const GROUP: usize = 8;
 
-/// Notes the rows of other shards, whose frames have these numbers here, each in the shard at its place, and tells where each
-/// stands. The shards are noted in groups, side by side.
+/// Notes the rows of the shards of others, whose frames have these numbers here, other by other, each in the shard at its place,
+/// and tells where each stands. The shards are noted in groups, side by side.
 pub(crate) fn meet_all<R: Threads + Sync>(
     rt: &R,
     alloc: Global,
     shards: Vec<Dictionary<Row>>,
-    others: Vec<Dictionary<Row>>,
-    frames: &[u32],
-) -> Result<(Vec<Dictionary<Row>>, Vec<Vec<u32>>), NoMemory>
-    requires { vec_len shards ≡ vec_len others }
-    ensures { IfOk result (λ met. HaveMet frames.now shards.items others.items met.0.items (map (λ l. l.items) met.1.items)) }
+    others: Vec<Vec<Dictionary<Row>>>,
+    frames: &[Vec<u32>],
+) -> Result<(Vec<Dictionary<Row>>, Vec<Vec<Vec<u32>>>), NoMemory>
+    requires { All (λ other. vec_len other ≡ vec_len shards) others.items }
+    ensures { IfOk result (λ met. HaveMet (map (λ l. l.items) frames.now) shards.items (map (λ o. o.items) others.items) met.0.items (map (λ shard. map (λ l. l.items) shard.items) met.1.items)) }
 {
     let groups = groups_of(alloc, meetings_of(alloc, shards, others)?)?;
-    let work = move |group: Vec<Meeting>| -> Result<Vec<Grown>, NoMemory>
-        ensures { IfOk result (λ met. AllZip (HasMet frames.entry.now) group.items met.items) }
+    let work = move |group: Vec<Meeting>| -> Result<Vec<Met>, NoMemory>
+        ensures { IfOk result (λ met. AllZip (HasMet (map (λ l. l.items) frames.entry.now)) group.items met.items) }
     { met_in_turn(alloc, group, frames) };
     parted(alloc, gathered(alloc, thread::map_vec(rt, groups, &work)?)?)
 }
@@ -71,8 +70,12 @@ fn groups_of(alloc: Global, meetings: Vec<Meeting>) -> Result<Vec<Vec<Meeting>>,
 }
 
 /// The shards of a group after their meetings, one after the other.
-fn met_in_turn(alloc: Global, group: Vec<Meeting>, frames: &[u32]) -> Result<Vec<Grown>, NoMemory>
-    ensures { IfOk result (λ met. AllZip (HasMet frames.now) group.items met.items) }
+fn met_in_turn(
+    alloc: Global,
+    group: Vec<Meeting>,
+    frames: &[Vec<u32>],
+) -> Result<Vec<Met>, NoMemory>
+    ensures { IfOk result (λ met. AllZip (HasMet (map (λ l. l.items) frames.now)) group.items met.items) }
 {
     let mut all = Vec::with_capacity(alloc, group.len())?;
     for meeting in group {
@@ -81,42 +84,78 @@ fn met_in_turn(alloc: Global, group: Vec<Meeting>, frames: &[u32]) -> Result<Vec
     Ok(all)
 }
 
-/// A meeting for each shard with that of the others at its place.
+/// A meeting for each shard with those of the others at its place.
 fn meetings_of(
     alloc: Global,
     shards: Vec<Dictionary<Row>>,
-    others: Vec<Dictionary<Row>>,
+    others: Vec<Vec<Dictionary<Row>>>,
 ) -> Result<Vec<Meeting>, NoMemory>
-    requires { vec_len shards ≡ vec_len others }
+    requires { All (λ other. vec_len other ≡ vec_len shards) others.items }
     ensures known { IfOk result (λ meetings. map (λ m. m.known) meetings.items ≡ shards.items) }
-    ensures more { IfOk result (λ meetings. (rest : List (List Row)) × (map (λ m. m.more) meetings.items ++ rest ≡ others.items)) }
+    ensures more { IfOk result (λ meetings. (s : ℕ) → s < vec_len shards
+        → slice_index_or (map (λ m. m.more.items) meetings.items) s [] ≡ shards_at s (map (λ o. o.items) others.items)) }
 {
-    let mut meetings = Vec::with_capacity(alloc, shards.len())?;
-    let mut others = others.into_iter();
-    for known in shards {
-        let Some(more) = others.next() else {
-            unreachable!()
-        };
-        meetings.push(Meeting { known, more })?;
+    let mut meetings = lone_shards(alloc, shards)?;
+    for other in others {
+        meetings = joined(alloc, meetings, other)?;
     }
     Ok(meetings)
 }
 
+/// Shards that meet no other yet.
+fn lone_shards(alloc: Global, shards: Vec<Dictionary<Row>>) -> Result<Vec<Meeting>, NoMemory>
+    ensures known { IfOk result (λ meetings. map (λ m. m.known) meetings.items ≡ shards.items) }
+    ensures more { IfOk result (λ meetings. (s : ℕ) → slice_index_or (map (λ m. m.more.items) meetings.items) s [] ≡ []) }
+{
+    let mut meetings = Vec::with_capacity(alloc, shards.len())?;
+    for known in shards {
+        meetings.push(Meeting {
+            known,
+            more: Vec::new(alloc),
+        })?;
+    }
+    Ok(meetings)
+}
+
+/// Meetings that one other has joined, each with its shard at that place.
+fn joined(
+    alloc: Global,
+    meetings: Vec<Meeting>,
+    other: Vec<Dictionary<Row>>,
+) -> Result<Vec<Meeting>, NoMemory>
+    requires { vec_len meetings ≡ vec_len other }
+    ensures known { IfOk result (λ all. map (λ m. m.known) all.items ≡ map (λ m. m.known) meetings.items) }
+    ensures more { IfOk result (λ all. map (λ m. m.more.items) all.items ≡ joined_by (map (λ m. m.more.items) meetings.items) other.items) }
+{
+    let mut all = Vec::with_capacity(alloc, meetings.len())?;
+    let mut shards = other.into_iter();
+    for meeting in meetings {
+        let Some(shard) = shards.next() else {
+            unreachable!()
+        };
+        let Meeting { known, mut more } = meeting;
+        more.push(shard)?;
+        all.push(Meeting { known, more })?;
+    }
+    Ok(all)
+}
+
 /// One shard after the meeting.
-fn met_of(alloc: Global, meeting: Meeting, frames: &[u32]) -> Result<Grown, NoMemory>
-    ensures { IfOk result (HasMet frames.now meeting) }
+fn met_of(alloc: Global, meeting: Meeting, frames: &[Vec<u32>]) -> Result<Met, NoMemory>
+    ensures { IfOk result (HasMet (map (λ l. l.items) frames.now) meeting) }
 {
     let Meeting { mut known, more } = meeting;
-    let locals = note_rows(alloc, &mut known, more.into_items(alloc)?, frames)?;
-    Ok(Grown { known, locals })
+    let mut locals = Vec::with_capacity(alloc, more.len())?;
+    for rows in more {
+        let own = list_at(frames, locals.len());
+        locals.push(note_rows(alloc, &mut known, rows.into_items(alloc)?, own)?)?;
+    }
+    Ok(Met { known, locals })
 }
 
 /// The shards of all groups, where none of the results is want of memory.
-fn gathered(
-    alloc: Global,
-    results: Vec<Result<Vec<Grown>, NoMemory>>,
-) -> Result<Vec<Grown>, NoMemory>
-    ensures { IfOk result (λ all. (parts : List (TheVec Grown)) × (results.items ≡ map Ok parts) × (all.items ≡ flat_map (λ part. part.items) parts)) }
+fn gathered(alloc: Global, results: Vec<Result<Vec<Met>, NoMemory>>) -> Result<Vec<Met>, NoMemory>
+    ensures { IfOk result (λ all. (parts : List (TheVec Met)) × (results.items ≡ map Ok parts) × (all.items ≡ flat_map (λ part. part.items) parts)) }
 {
     let mut all = Vec::new(alloc);
     for result in results {
@@ -126,9 +165,12 @@ fn gathered(
 }
 
 /// The shards, and apart from them where the rows of the others stand in each.
-fn parted(alloc: Global, all: Vec<Grown>) -> Result<(Vec<Dictionary<Row>>, Vec<Vec<u32>>), NoMemory>
+fn parted(
+    alloc: Global,
+    all: Vec<Met>,
+) -> Result<(Vec<Dictionary<Row>>, Vec<Vec<Vec<u32>>>), NoMemory>
     ensures shards { IfOk result (λ parts. parts.0.items ≡ map (λ met. met.known) all.items) }
-    ensures locals { IfOk result (λ parts. map (λ l. l.items) parts.1.items ≡ map (λ met. met.locals.items) all.items) }
+    ensures locals { IfOk result (λ parts. map (λ shard. map (λ l. l.items) shard.items) parts.1.items ≡ map (λ met. map (λ l. l.items) met.locals.items) all.items) }
 {
     let mut shards = Vec::with_capacity(alloc, all.len())?;
     let mut locals = Vec::with_capacity(alloc, all.len())?;
@@ -163,52 +205,5 @@ fn moved(row: Row, frames: &[u32]) -> Row
         frame: number_at(frames, row.frame),
         date: row.date,
         text: row.text,
-    }
-}
-
-/// The numbers of the rows of others, in their order, which is that of these places.
-pub(crate) fn assign_all(
-    alloc: Global,
-    numbers: &mut Vec<Vec<u32>>,
-    places: &mut Vec<Place>,
-    order: &[Place],
-    locals: &[Vec<u32>],
-) -> Result<Vec<u32>, NoMemory>
-    requires { All (λ place. place.shard < vec_len numbers.old) order.now }
-    ensures noted { (shards : List (List Row)) → AreShards shards → AreNamed shards (map (λ l. l.items) numbers.old.items) places.old.items
-        → All (IsRowAt shards) (map (met_at (map (λ l. l.items) locals.now)) order.now)
-        → IfOk result (λ given. AreNoted is_same_row (rows_in shards (map (met_at (map (λ l. l.items) locals.now)) order.now)) given.items (rows_in shards places.old.items) (rows_in shards places.new.items)) }
-    ensures named { (shards : List (List Row)) → AreShards shards → AreNamed shards (map (λ l. l.items) numbers.old.items) places.old.items
-        → All (IsRowAt shards) (map (met_at (map (λ l. l.items) locals.now)) order.now)
-        → AreNamed shards (map (λ l. l.items) numbers.new.items) places.new.items }
-{
-    let mut given = Vec::with_capacity(alloc, order.len())?;
-    for place in order {
-        given.push(assign(numbers, places, moved_place(locals, *place))?)?;
-    }
-    Ok(given)
-}
-
-/// Where the row at a place of the others stands now.
-fn moved_place(locals: &[Vec<u32>], place: Place) -> Place
-    ensures { result ≡ met_at (map (λ l. l.items) locals.now) place }
-{
-    let local = match locals.get(place.shard as usize) {
-        Some(locals) => number_at(locals, place.local),
-        None => 0,
-    };
-    Place {
-        shard: place.shard,
-        local,
-    }
-}
-
-/// The number at this place, or 0 where there is none.
-fn number_at(numbers: &[u32], at: u32) -> u32
-    ensures { result ≡ slice_index_or numbers.now at 0 }
-{
-    match numbers.get(at as usize) {
-        Some(number) => *number,
-        None => 0,
     }
 }

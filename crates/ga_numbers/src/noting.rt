@@ -1,6 +1,6 @@
-ghost use Rattle.std.specs.Prelude.{◌≡◌, Some, true, IfOk, OnErr, OnOk, slice_get};
+ghost use Rattle.std.specs.Prelude.{◌≡◌, Some, true, IfOk, OnErr, OnOk, map, slice_get};
 ghost use Rattle.std.specs.List.{IsDistinct};
-ghost use Rattle.ga_numbers.specs.Numbers.{places_of};
+ghost use Rattle.ga_numbers.specs.Numbers.{AreNotedInTurn, places_of};
 ghost use Rattle.ga_shards.specs.Numbers.{noted, place_of};
 ghost use Rattle.ga_shards.specs.Steps.{all_noted};
 
@@ -24,6 +24,21 @@ pub(crate) fn note_all<T: Noted + Drop>(
     let mut numbers = Vec::with_capacity(alloc, items.len())?;
     for item in items {
         numbers.push(note(known, item)?)?;
+    }
+    Ok(numbers)
+}
+
+/// Notes the items of others, list by list, and gives the number of each.
+pub(crate) fn note_each<T: Noted + Drop>(
+    alloc: Global,
+    known: &mut Dictionary<T>,
+    others: Vec<Dictionary<T>>,
+) -> Result<Vec<Vec<u32>>, NoMemory>
+    ensures { IfOk result (λ numbers. AreNotedInTurn T.eq others.items (map (λ l. l.items) numbers.items) known.old known.new) }
+{
+    let mut numbers = Vec::with_capacity(alloc, others.len())?;
+    for items in others {
+        numbers.push(note_all(alloc, known, items.into_items(alloc)?)?)?;
     }
     Ok(numbers)
 }

@@ -1,13 +1,15 @@
-ghost use Rattle.std.specs.Prelude.{◌≡◌, ◌<◌, [], ℕ, List, Some, IfOk, IsTrue, OnErr, OnOk, length, map, slice_get, slice_index_or, vec_len};
+ghost use Rattle.std.specs.Prelude.{◌≡◌, ◌<◌, [], ℕ, List, Some, All, IfOk, IsTrue, OnErr, OnOk, length, map, slice_get, slice_index_or, vec_len};
 ghost use Rattle.std.specs.List.{IsDistinct};
-ghost use Rattle.ga_numbers.specs.Kept.{AreKept, AreShards, Grows, StandsAt, rows_in};
-ghost use Rattle.ga_numbers.specs.Numbers.{AreNoted, IsNumbered};
-ghost use Rattle.ga_numbers.specs.Rows.{is_same_row, moved_by, row_in};
+ghost use Rattle.ga_numbers.specs.Kept.{AreKept, AreOpened, AreShards, Grows, StandsAt, rows_in};
+ghost use Rattle.ga_numbers.specs.Numbers.{AreNotedInTurn, IsNumbered};
+ghost use Rattle.ga_numbers.specs.Rows.{is_same_row, moved_each, row_in};
+ghost use Rattle.ga_numbers.specs.Three.{AllThree};
 ghost use Rattle.ga_numbers.specs.declared.place.Place.{Place};
 ghost use Rattle.ga_shards.specs.Keys.{text_hash};
 
+use crate::assigning::assign_each;
 use crate::hints::Hints;
-use crate::meeting::{assign_all, meet_all};
+use crate::meeting::meet_all;
 use crate::noting::note;
 use crate::place::{Place, assign};
 use crate::row::{Row, RowRef};
@@ -101,19 +103,19 @@ impl Rows {
         Ok(number)
     }
 
-    /// Notes other rows, whose frames have these numbers here, and gives the number of each. The shards are noted side by side.
-    /// Where there are no other rows no thread is started.
-    pub(crate) fn absorb<R: Threads + Sync>(
+    /// These rows after those of others, whose frames have these numbers here, were noted among them, one list after the other,
+    /// and the number of each. The shards are noted side by side. Where none of the others has a row no thread is started.
+    pub(crate) fn with<R: Threads + Sync>(
         self,
         rt: &R,
         alloc: Global,
-        more: Rows,
-        frames: &[u32],
-    ) -> Result<(Rows, Vec<u32>), NoMemory>
-        ensures { IfOk result (λ grown. AreNoted is_same_row (map (moved_by frames.now) more) grown.1.items self grown.0) }
+        others: Vec<Rows>,
+        frames: &[Vec<u32>],
+    ) -> Result<(Rows, Vec<Vec<u32>>), NoMemory>
+        ensures { IfOk result (λ grown. AreNotedInTurn is_same_row (moved_each (map (λ l. l.items) frames.now) others.items) (map (λ l. l.items) grown.1.items) self grown.0) }
     {
-        if more.len() == 0 {
-            return Ok((self, Vec::new(alloc)));
+        if are_empty(&others) {
+            return Ok((self, no_numbers(alloc, others.len())?));
         }
         let Rows {
             mut shards,
@@ -122,16 +124,10 @@ impl Rows {
             hints,
             keyed,
         } = self;
-        let Rows {
-            shards: mut others,
-            numbers: mut other_numbers,
-            places: order,
-            ..
-        } = more;
         open(alloc, keyed, &mut shards, &mut numbers)?;
-        open(alloc, keyed, &mut others, &mut other_numbers)?;
-        let (shards, locals) = meet_all(rt, alloc, shards, others, frames)?;
-        let given = assign_all(alloc, &mut numbers, &mut places, &order, &locals)?;
+        let (more, orders) = opened_each(alloc, others)?;
+        let (shards, locals) = meet_all(rt, alloc, shards, more, frames)?;
+        let given = assign_each(alloc, &mut numbers, &mut places, orders, &locals)?;
         let rows = Rows {
             shards,
             numbers,
@@ -142,12 +138,56 @@ impl Rows {
         Ok((rows, given))
     }
 
+    /// The shards, made where there is none, and where the row of each number stands in them.
+    fn opened(self, alloc: Global) -> Result<(Vec<Dictionary<Row>>, Vec<Place>), NoMemory>
+        ensures { IfOk result (λ parts. AreOpened self parts.0.items parts.1.items) }
+    {
+        let Rows {
+            mut shards,
+            mut numbers,
+            places,
+            keyed,
+            ..
+        } = self;
+        open(alloc, keyed, &mut shards, &mut numbers)?;
+        Ok((shards, places))
+    }
+
     /// Whether a row stands at this number.
     fn stands(&self, number: u32, row: &RowRef<'_>) -> bool
         ensures { IsTrue result → IsNumbered is_same_row (row_in row.now) number self.now self.now }
     {
         number < self.len() && row.is(self.row(number))
     }
+}
+
+/// Whether there are no rows in any of these.
+fn are_empty(others: &[Rows]) -> bool
+    ensures { IsTrue result → All (λ rows. rows ≡ []) others.now }
+{
+    for rows in others {
+        if rows.len() != 0 {
+            return false;
+        }
+    }
+    true
+}
+
+/// The shards of each of these, and where its rows stand in them, in their order.
+fn opened_each(
+    alloc: Global,
+    others: Vec<Rows>,
+) -> Result<(Vec<Vec<Dictionary<Row>>>, Vec<Vec<Place>>), NoMemory>
+    ensures { IfOk result (λ parts. AllThree AreOpened others.items (map (λ s. s.items) parts.0.items) (map (λ o. o.items) parts.1.items)) }
+{
+    let mut shards = Vec::with_capacity(alloc, others.len())?;
+    let mut orders = Vec::with_capacity(alloc, others.len())?;
+    for rows in others {
+        let (own, order) = rows.opened(alloc)?;
+        shards.push(own)?;
+        orders.push(order)?;
+    }
+    Ok((shards, orders))
 }
 
 /// Makes the shards, where there is none.
@@ -166,7 +206,7 @@ fn open(
 {
     if shards.len() == 0 {
         let vacant = vacant_shards(alloc, keyed)?;
-        *numbers = no_numbers(alloc)?;
+        *numbers = no_numbers(alloc, SHARDS)?;
         *shards = vacant;
     }
     Ok(())
@@ -184,12 +224,13 @@ fn vacant_shards(alloc: Global, keyed: Keyed) -> Result<Vec<Dictionary<Row>>, No
     Ok(shards)
 }
 
-/// No numbers for each shard.
-fn no_numbers(alloc: Global) -> Result<Vec<Vec<u32>>, NoMemory>
-    ensures { IfOk result (λ numbers. vec_len numbers ≡ 64) }
+/// So many lists with no numbers.
+fn no_numbers(alloc: Global, many: usize) -> Result<Vec<Vec<u32>>, NoMemory>
+    ensures many { IfOk result (λ numbers. vec_len numbers ≡ many) }
+    ensures none { IfOk result (λ numbers. All (λ l. l.items ≡ []) numbers.items) }
 {
-    let mut numbers = Vec::with_capacity(alloc, SHARDS)?;
-    for _ in 0..SHARDS {
+    let mut numbers = Vec::with_capacity(alloc, many)?;
+    for _ in 0..many {
         numbers.push(Vec::new(alloc))?;
     }
     Ok(numbers)

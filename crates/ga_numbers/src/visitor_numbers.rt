@@ -1,9 +1,13 @@
-ghost use Rattle.std.specs.Prelude.{◌≡◌, ◌<◌, [], Some, IfOk, OnErr, length, slice_get};
+ghost use Rattle.std.specs.Prelude.{◌≡◌, ◌<◌, [], Some, IfOk, OnErr, length, map, slice_get};
 ghost use Rattle.std.specs.List.{IsDistinct};
 ghost use Rattle.ga_base.specs.Orders.{is_same_visitor};
-ghost use Rattle.ga_numbers.specs.Numbers.{AreNoted, IsNumbered};
+ghost use Rattle.ga_numbers.specs.Numbers.{AreNotedInTurn, IsNumbered};
 ghost use Rattle.ga_numbers.specs.Refs.{visitor_of};
+ghost use Rattle.ga_numbers.specs.Rows.{AreMade, is_same_row};
+ghost use Rattle.ga_numbers.specs.Three.{AllThree};
+ghost use Rattle.ga_numbers.specs.Visitors.{IsAgent, visitors_in};
 
+use crate::grown::Grown;
 use crate::noting::note_all;
 use crate::row::RowRef;
 use crate::rows::Rows;
@@ -12,7 +16,6 @@ use ga_base::{NoMemory, Visitor};
 use ga_shards::{Dictionary, Keyed};
 use std::alloc::Global;
 use std::marker::Model;
-use std::mem;
 use std::thread::Threads;
 
 /// Different visitors, in the order in which they were first noted. Contracts see the list of them.
@@ -77,27 +80,30 @@ impl VisitorNumbers {
         self.rows.number(alloc, row)
     }
 
-    /// Notes other visitors, and gives the number of each. Their agents are noted side by side, and then their rows. After an
-    /// `Err` none are known any more.
-    pub fn absorb<R: Threads + Sync>(
-        &mut self,
+    /// These visitors after those of others were noted among them, one list after the other. Their agents are noted side by side,
+    /// and then their rows.
+    pub fn with<R: Threads + Sync>(
+        self,
         rt: &R,
         alloc: Global,
-        more: VisitorNumbers,
-    ) -> Result<Vec<u32>, NoMemory>
-        ensures { IfOk result (λ numbers. AreNoted is_same_visitor more numbers.items self.old self.new) }
+        others: Vec<VisitorNumbers>,
+    ) -> Result<Grown<VisitorNumbers>, NoMemory>
+        ensures { IfOk result (λ grown. AreNotedInTurn is_same_visitor others.items (map (λ l. l.items) grown.numbers.items) self grown.known) }
     {
-        let keyed = self.keyed;
-        let known = mem::replace(self, VisitorNumbers::new(alloc, keyed));
-        let VisitorNumbers { agents, rows, .. } = known;
-        let (agents, places) = agents.absorb(rt, alloc, more.agents, &[])?;
-        let (rows, numbers) = rows.absorb(rt, alloc, more.rows, &places)?;
-        *self = VisitorNumbers {
+        let VisitorNumbers {
+            agents,
+            rows,
+            keyed,
+        } = self;
+        let (more_agents, more_rows) = apart(alloc, others)?;
+        let (agents, places) = agents.with(rt, alloc, more_agents, &[])?;
+        let (rows, numbers) = rows.with(rt, alloc, more_rows, &places)?;
+        let known = VisitorNumbers {
             agents,
             rows,
             keyed,
         };
-        Ok(numbers)
+        Ok(Grown { known, numbers })
     }
 
     /// The visitors in texts of their own, in their order.
@@ -134,4 +140,17 @@ impl VisitorNumbers {
             agent: self.agents.row(row.frame).text.clone()?,
         })
     }
+}
+
+/// The agents of each of these, and the rows.
+fn apart(alloc: Global, others: Vec<VisitorNumbers>) -> Result<(Vec<Rows>, Vec<Rows>), NoMemory>
+    ensures { IfOk result (λ parts. AllThree (AreMade is_same_row IsAgent visitors_in) others.items parts.0.items parts.1.items) }
+{
+    let mut agents = Vec::with_capacity(alloc, others.len())?;
+    let mut rows = Vec::with_capacity(alloc, others.len())?;
+    for visitors in others {
+        agents.push(visitors.agents)?;
+        rows.push(visitors.rows)?;
+    }
+    Ok((agents, rows))
 }

@@ -10,7 +10,14 @@ use std::alloc::Global;
 /// The byte that ends a line.
 const LINE_FEED: u8 = 10;
 
-/// The lines of a batch in pieces of so many lines each; the last piece has what is left.
+/// So many bytes at the end of a batch are cut finer.
+const LAST: usize = 1 << 20;
+
+/// There a piece has one of so many lines.
+const FINER: u32 = 8;
+
+/// The lines of a batch in pieces of `chunk` lines each, and of fewer in its last megabyte, so that those who draw them are done
+/// with the batch at about the same time.
 pub(crate) fn pieces_of(alloc: Global, batch: &[u8], chunk: u32) -> Result<Vec<&[u8]>, NoMemory>
     requires { 1 ≤ chunk }
     ensures lines { IfOk result (λ pieces. all_lines (map (λ piece. piece.now) pieces.items) ≡ lines batch.now true) }
@@ -19,11 +26,23 @@ pub(crate) fn pieces_of(alloc: Global, batch: &[u8], chunk: u32) -> Result<Vec<&
     let mut pieces = Vec::new(alloc);
     let mut rest = batch;
     while !rest.is_empty() {
-        let end = piece_end(rest, chunk);
+        let end = piece_end(rest, piece_lines(rest.len(), chunk));
         pieces.push(&rest[..end])?;
         rest = &rest[end..];
     }
     Ok(pieces)
+}
+
+/// How many lines the next piece has, where so many bytes are left of the batch.
+fn piece_lines(left: usize, chunk: u32) -> u32
+    requires { 1 ≤ chunk }
+    ensures some { 1 ≤ result }
+    ensures most { result ≤ chunk }
+{
+    if left > LAST {
+        return chunk;
+    }
+    chunk / FINER + 1
 }
 
 /// Where a piece of so many lines ends: behind the last line's line feed, or at the end of the bytes.

@@ -10,14 +10,14 @@ use Rattle.ga_shards.specs.Steps.{all_noted}
 use Rattle.ga_summary.specs.Outcomes.{Outcome}
 use Rattle.ga_summary.specs.Rows.{totals_plus}
 use Rattle.ga_summary.specs.Sound.{TotalsFit}
-use Rattle.ga_numbers.specs.Numbers.{places_of}
+use Rattle.ga_numbers.specs.Numbers.{AreNotedInTurn, all_in_turn, numbers_in_turn, places_of}
 use Rattle.ga_tallies.specs.Adding.{HoldTheSame}
-use Rattle.ga_tallies.specs.Steps.Absorbing.{AddsSuch, AreNotedInTurn, CountsSeen, IsMapped, IsMoved, MoveSeen, all_in_turn, counts_seen, moves_with, numbers_in_turn, rows_added, sums_moved}
+use Rattle.ga_tallies.specs.Steps.Absorbing.{AddsSuch, CountsSeen, IsMapped, IsMoved, MoveSeen, counts_seen, moves_with, rows_added, sums_moved}
 use Rattle.ga_tallies.specs.Tallies.{AbsorbsAll, IsTallyOf, TallySeen, together, totals_from}
 use Rattle.ga_tallies.proofs.Absorbed.{TakesParts, absorbed}
 use Rattle.ga_numbers.proofs.Same.{same-key}
 use Rattle.ga_tallies.proofs.AllTotals.{first-fits}
-use Rattle.ga_tallies.proofs.InTurn.{numbered-within}
+use Rattle.ga_numbers.proofs.InTurn.{numbered-within}
 use Rattle.ga_tallies.proofs.PairRows.{nothing-there}
 
 -- what others have counted, with the numbers that their keys and visitors get among these

@@ -14,7 +14,6 @@ pub mod Taking
 pub mod AddedRows
 pub mod AddedVisits
 pub mod AllParts
-pub mod InTurn
 pub mod Moves
 pub mod AllTotals
 pub mod Absorbed

@@ -1,15 +1,17 @@
 ghost use Rattle.std.specs.Prelude.{◌≡◌, ◌<◌, ℕ, IfOk, OnOk, map};
+ghost use Rattle.ga_base.specs.Orders.{is_same_key, is_same_visitor};
+ghost use Rattle.ga_numbers.specs.Numbers.{AreNotedInTurn};
 ghost use Rattle.ga_summary.specs.Sound.{TotalsFit};
-ghost use Rattle.ga_tallies.specs.Steps.Absorbing.{AddsSuch, IsMoved, move_of, rows_added, sums_moved};
+ghost use Rattle.ga_tallies.specs.Steps.Absorbing.{AddsSuch, IsBrought, IsMoved, move_of, rows_added, sums_moved};
 ghost use Rattle.ga_tallies.specs.Tallies.{AbsorbsAll, totals_from};
 
 use crate::Tally;
 use crate::apart::{take_apart, totals_with};
-use crate::grown::note_both;
 use crate::moved::{Moved, moves_of};
 use crate::noting::add_line;
 use crate::pairs::PairList;
 use ga_base::{NoMemory, Sums};
+use ga_numbers::{Grown, KeyNumbers, VisitorNumbers};
 use std::alloc::Global;
 use std::thread::{self, Threads};
 
@@ -38,7 +40,7 @@ impl Tally {
         )?;
         let moves = moves_of(alloc, keys.numbers, visitors.numbers, others.counts)?;
         let many = keys.known.len() as usize;
-        let (sums, pairs) = add_both(rt, many, self.sums, self.pairs, &moves)?;
+        let (sums, pairs) = add_moves(rt, many, self.sums, self.pairs, moves)?;
         Ok(Tally {
             totals,
             keys: keys.known,
@@ -49,48 +51,82 @@ impl Tally {
     }
 }
 
-/// Adds sums and pairs, side by side, to those of so many keys.
+/// Notes other keys and other visitors, side by side. Keys and visitors share nothing, and each are with the thread that notes
+/// among them, which has their shards noted side by side too.
+fn note_both<R: Threads + Sync>(
+    rt: &R,
+    alloc: Global,
+    keys: KeyNumbers,
+    visitors: VisitorNumbers,
+    more_keys: Vec<KeyNumbers>,
+    more_visitors: Vec<VisitorNumbers>,
+) -> Result<(Grown<KeyNumbers>, Grown<VisitorNumbers>), NoMemory>
+    ensures keys { IfOk result (λ both. AreNotedInTurn is_same_key more_keys.items (map (λ l. l.items) both.0.numbers.items) keys both.0.known) }
+    ensures visitors { IfOk result (λ both. AreNotedInTurn is_same_visitor more_visitors.items (map (λ l. l.items) both.1.numbers.items) visitors both.1.known) }
+{
+    let note_keys = move || -> Result<Grown<KeyNumbers>, NoMemory>
+        ensures { IfOk result (λ grown. AreNotedInTurn is_same_key more_keys.items (map (λ l. l.items) grown.numbers.items) keys grown.known) }
+    { keys.with(rt, alloc, more_keys) };
+    let note_visitors = move || -> Result<Grown<VisitorNumbers>, NoMemory>
+        ensures { IfOk result (λ grown. AreNotedInTurn is_same_visitor more_visitors.items (map (λ l. l.items) grown.numbers.items) visitors grown.known) }
+    { visitors.with(rt, alloc, more_visitors) };
+    let (keys, visitors) = thread::join(rt, note_keys, note_visitors);
+    Ok((keys?, visitors?))
+}
+
+/// Adds what others have counted to the sums and pairs of so many keys, one after the other. What one of them has counted takes
+/// no memory any more when the next is added.
+fn add_moves<R: Threads + Sync>(
+    rt: &R,
+    keys: usize,
+    sums: Vec<Sums>,
+    pairs: PairList,
+    moves: Vec<Moved>,
+) -> Result<(Vec<Sums>, PairList), NoMemory>
+    requires { (pair : ℕ × ℕ) → IsMoved (map move_of moves.items) pair → pair.0 < keys }
+    ensures sums { IfOk result (λ both. both.0.items ≡ sums_moved (map move_of moves.items) sums.items) }
+    ensures pairs { IfOk result (λ both. AddsSuch (IsMoved (map move_of moves.items)) pairs both.1) }
+{
+    let mut sums = sums;
+    let mut pairs = pairs;
+    for moved in moves {
+        (sums, pairs) = add_both(rt, keys, sums, pairs, &moved)?;
+    }
+    Ok((sums, pairs))
+}
+
+/// Adds what another has counted to sums and to pairs, side by side.
 fn add_both<R: Threads + Sync>(
     rt: &R,
     keys: usize,
     sums: Vec<Sums>,
     pairs: PairList,
-    moves: &[Moved],
+    moved: &Moved,
 ) -> Result<(Vec<Sums>, PairList), NoMemory>
-    requires { (pair : ℕ × ℕ) → IsMoved (map move_of moves.now) pair → pair.0 < keys }
-    ensures sums { IfOk result (λ both. both.0.items ≡ sums_moved (map move_of moves.now) sums.items) }
-    ensures pairs { IfOk result (λ both. AddsSuch (IsMoved (map move_of moves.now)) pairs both.1) }
+    requires { (pair : ℕ × ℕ) → IsBrought (move_of moved.now) pair → pair.0 < keys }
+    ensures sums { IfOk result (λ both. both.0.items ≡ rows_added moved.now.keys.items moved.now.counts.sums.items sums.items) }
+    ensures pairs { IfOk result (λ both. AddsSuch (IsBrought (move_of moved.now)) pairs both.1) }
 {
     let add_sums = move || -> Result<Vec<Sums>, NoMemory>
-        ensures { IfOk result (λ added. added.items ≡ sums_moved (map move_of moves.entry.now) sums.items) }
-    { sums_with(sums, moves) };
+        ensures { IfOk result (λ added. added.items ≡ rows_added moved.entry.now.keys.items moved.entry.now.counts.sums.items sums.items) }
+    { sums_with(sums, &moved.keys, &moved.counts.sums) };
     let add_pairs = move || -> Result<PairList, NoMemory>
-        requires { (pair : ℕ × ℕ) → IsMoved (map move_of moves.now) pair → pair.0 < keys }
-        ensures { IfOk result (AddsSuch (IsMoved (map move_of moves.entry.now)) pairs) }
-    { pairs.with(rt, keys, moves) };
+        requires { (pair : ℕ × ℕ) → IsBrought (move_of moved.now) pair → pair.0 < keys }
+        ensures { IfOk result (AddsSuch (IsBrought (move_of moved.entry.now)) pairs) }
+    { pairs.with(rt, keys, moved) };
     let (sums, pairs) = thread::join(rt, add_sums, add_pairs);
     Ok((sums?, pairs?))
 }
 
-/// The rows of sums after those of moves were added, one move after the other.
-fn sums_with(rows: Vec<Sums>, moves: &[Moved]) -> Result<Vec<Sums>, NoMemory>
-    ensures { IfOk result (λ added. added.items ≡ sums_moved (map move_of moves.now) rows.items) }
+/// Rows of sums after each of these was added to the row that has its number.
+fn sums_with(rows: Vec<Sums>, numbers: &[u32], more: &[Sums]) -> Result<Vec<Sums>, NoMemory>
+    ensures { IfOk result (λ added. added.items ≡ rows_added numbers.now more.now rows.items) }
 {
     let mut rows = rows;
-    for moved in moves {
-        add_rows(&mut rows, &moved.keys, &moved.counts.sums)?;
-    }
-    Ok(rows)
-}
-
-/// Adds each of these rows of sums to the row that has its number.
-fn add_rows(rows: &mut Vec<Sums>, numbers: &[u32], more: &[Sums]) -> Result<(), NoMemory>
-    ensures { OnOk result (rows.new.items ≡ rows_added numbers.now more.now rows.old.items) }
-{
     for (place, number) in numbers.iter().enumerate() {
         if let Some(line) = more.get(place) {
-            add_line(rows, *number, *line)?;
+            add_line(&mut rows, *number, *line)?;
         }
     }
-    Ok(())
+    Ok(rows)
 }

@@ -10,7 +10,6 @@ mod agents;
 mod apart;
 mod counting;
 mod fault;
-mod grown;
 mod moved;
 mod noting;
 mod pairs;

@@ -1,7 +1,7 @@
 ghost use Rattle.std.specs.Prelude.{◌≡◌, ◌<◌, ◌≤◌, ◌++◌, [], ℕ, IfOk, IsTrue, OnOk, Some, map, vec_len};
 ghost use Rattle.std.specs.List.{Contains};
 ghost use Rattle.ga_tallies.specs.Adding.{AddsOne, HoldTheSame, KeepsAll};
-ghost use Rattle.ga_tallies.specs.Steps.Absorbing.{AddsSuch, IsMoved, move_of};
+ghost use Rattle.ga_tallies.specs.Steps.Absorbing.{AddsSuch, IsBrought, move_of};
 ghost use Rattle.ga_tallies.specs.Tallies.{lists_in, pair_of, pairs_in, row_pairs};
 
 use crate::moved::Moved;
@@ -32,7 +32,7 @@ pub type Row = SmallVec<u32, IN_PLACE>;
 /// From so many visitors on a row is looked over for those that stand there twice, each time before it grows.
 const FEW: usize = 64;
 
-/// In so many parts the pairs of others are added to rows.
+/// In so many parts the pairs of another are added to rows.
 const PARTS: u32 = 8;
 
 /// So many places there are for pairs that came lately, once the first came.
@@ -105,21 +105,21 @@ impl PairList {
         Ok(())
     }
 
-    /// These pairs and those of moves, which are added to the rows of keys in parts, side by side. There are `keys` keys. None
-    /// is among those that came lately then.
+    /// These pairs and those that another brings, which are added to the rows of keys in parts, side by side. There are `keys`
+    /// keys. None is among those that came lately then.
     pub(crate) fn with<R: Threads + Sync>(
         self,
         rt: &R,
         keys: usize,
-        moves: &[Moved],
+        moved: &Moved,
     ) -> Result<PairList, NoMemory>
-        requires { (pair : ℕ × ℕ) → IsMoved (map move_of moves.now) pair → pair.0 < keys }
-        ensures { IfOk result (AddsSuch (IsMoved (map move_of moves.now)) self) }
+        requires { (pair : ℕ × ℕ) → IsBrought (move_of moved.now) pair → pair.0 < keys }
+        ensures { IfOk result (AddsSuch (IsBrought (move_of moved.now)) self) }
     {
         let mut rows = self.rows;
         let alloc = *rows.allocator();
         make_rows(&mut rows, keys)?;
-        add_in_parts(rt, PARTS, moves, 0, &mut rows)?;
+        add_in_parts(rt, PARTS, moved, 0, &mut rows)?;
         Ok(PairList {
             rows,
             recent: Vec::new(alloc),

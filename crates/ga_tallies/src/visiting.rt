@@ -1,6 +1,6 @@
 ghost use Rattle.std.specs.Prelude.{◌≡◌, ◌<◌, ◌≤◌, ◌+◌, ◌^◌, ℕ, Some, OnOk, IfSome, IfNone, length, map, slice_get};
 ghost use Rattle.std.specs.Thread.{IsSync};
-ghost use Rattle.ga_tallies.specs.Steps.Absorbing.{AddsSuch, IsAmong, IsMapped, IsMappedItem, IsMoved, move_of};
+ghost use Rattle.ga_tallies.specs.Steps.Absorbing.{AddsSuch, IsAmong, IsBrought, IsMapped, IsMappedItem, move_of};
 ghost use Rattle.ga_tallies.specs.Tallies.{lists_in, pairs_from, pairs_in};
 
 use crate::Row;
@@ -12,34 +12,40 @@ use std::thread::{Threads, join_mut};
 /// Of fewer keys no parts are made.
 const FEW: usize = 256;
 
-/// Adds the pairs of moves to the rows of keys, of which the first has the number `first`, in so many parts, side by side.
-/// The parts are halves of halves by what the rows hold before.
+/// Adds the pairs that another brings to the rows of keys, of which the first has the number `first`, in so many parts, side by
+/// side. The parts are halves of halves by what the rows hold before.
 #[cycle(parts)]
 pub(crate) fn add_in_parts<R: Threads + Sync>(
     rt: &R,
     parts: u32,
-    moves: &[Moved],
+    moved: &Moved,
     first: usize,
     rows: &mut [Row],
 ) -> Result<(), NoMemory>
     requires { first + length rows.old < 2 ^ 64 }
-    ensures { OnOk result (AddsSuch (IsAmong first (length rows.old) (IsMoved (map move_of moves.now)))
+    ensures { OnOk result (AddsSuch (IsAmong first (length rows.old) (IsBrought (move_of moved.now)))
         (pairs_from first (lists_in rows.old)) (pairs_from first (lists_in rows.new))) }
 {
     if parts < 2 || rows.len() < FEW {
-        return add_moves(moves, first, rows);
+        return add_rows(
+            &moved.keys,
+            &moved.visitors,
+            &moved.counts.visits,
+            first,
+            rows,
+        );
     }
     let middle = middle_of(rows);
     let (low, high) = rows.split_at_mut(middle);
-    add_halves(rt, parts / 2, moves, first, low, first + middle, high)
+    add_halves(rt, parts / 2, moved, first, low, first + middle, high)
 }
 
-/// Adds the pairs of moves to the rows of some keys, and beside them to those of the keys behind these.
+/// Adds the pairs that another brings to the rows of some keys, and beside them to those of the keys behind these.
 #[cycle(parts)]
 fn add_halves<R: Threads + Sync>(
     rt: &R,
     parts: u32,
-    moves: &[Moved],
+    moved: &Moved,
     first: usize,
     low: &mut [Row],
     next: usize,
@@ -47,44 +53,27 @@ fn add_halves<R: Threads + Sync>(
 ) -> Result<(), NoMemory>
     requires low { first + length low.old < 2 ^ 64 }
     requires high { next + length high.old < 2 ^ 64 }
-    ensures low { OnOk result (AddsSuch (IsAmong first (length low.old) (IsMoved (map move_of moves.now)))
+    ensures low { OnOk result (AddsSuch (IsAmong first (length low.old) (IsBrought (move_of moved.now)))
         (pairs_from first (lists_in low.old)) (pairs_from first (lists_in low.new))) }
-    ensures high { OnOk result (AddsSuch (IsAmong next (length high.old) (IsMoved (map move_of moves.now)))
+    ensures high { OnOk result (AddsSuch (IsAmong next (length high.old) (IsBrought (move_of moved.now)))
         (pairs_from next (lists_in high.old)) (pairs_from next (lists_in high.new))) }
 {
     let mut front = || -> Result<(), NoMemory>
         requires { IsSync R.row × (first + length low.now < 2 ^ 64) }
-        ensures { OnOk result (AddsSuch (IsAmong first (length low.entry.now) (IsMoved (map move_of moves.entry.now)))
+        ensures { OnOk result (AddsSuch (IsAmong first (length low.entry.now) (IsBrought (move_of moved.entry.now)))
             (pairs_from first (lists_in low.entry.now)) (pairs_from first (lists_in low.exit.now))) }
-    { add_in_parts(rt, parts, moves, first, low) };
+    { add_in_parts(rt, parts, moved, first, low) };
     let mut back = || -> Result<(), NoMemory>
         requires { IsSync R.row × (next + length high.now < 2 ^ 64) }
-        ensures { OnOk result (AddsSuch (IsAmong next (length high.entry.now) (IsMoved (map move_of moves.entry.now)))
+        ensures { OnOk result (AddsSuch (IsAmong next (length high.entry.now) (IsBrought (move_of moved.entry.now)))
             (pairs_from next (lists_in high.entry.now)) (pairs_from next (lists_in high.exit.now))) }
-    { add_in_parts(rt, parts, moves, next, high) };
+    { add_in_parts(rt, parts, moved, next, high) };
     let (front, back) = join_mut(rt, &mut front, &mut back);
     front.and(back)
 }
 
-/// Adds the pairs of moves to the rows of these keys.
-fn add_moves(moves: &[Moved], first: usize, rows: &mut [Row]) -> Result<(), NoMemory>
-    ensures { OnOk result (AddsSuch (IsAmong first (length rows.old) (IsMoved (map move_of moves.now)))
-        (pairs_from first (lists_in rows.old)) (pairs_from first (lists_in rows.new))) }
-{
-    for moved in moves {
-        add_move(
-            &moved.keys,
-            &moved.visitors,
-            &moved.counts.visits,
-            first,
-            rows,
-        )?;
-    }
-    Ok(())
-}
-
 /// Adds the pairs of other rows to the rows of these keys, each key and visitor by the number that it has here.
-fn add_move(
+fn add_rows(
     keys: &[u32],
     visitors: &[u32],
     others: &[Row],

@@ -1,30 +1,11 @@
--- What a tally takes in of others: items, rows of sums and pairs, by the numbers that they get.
-use Rattle.std.specs.Prelude.{◌≡◌, ◌≤◌, ◌<◌, ◌+◌, Bool, ℕ, ◌⊎◌, List, [], ◌∷◌, Some, slice_get}
+-- What a tally takes in of others: rows of sums and pairs, by the numbers that they get.
+use Rattle.std.specs.Prelude.{◌≡◌, ◌≤◌, ◌<◌, ◌+◌, ℕ, ◌⊎◌, List, [], ◌∷◌, Some, slice_get}
 use Rattle.std.specs.List.{Contains}
 use Rattle.ga_base.specs.declared.counts.Sums.{Sums}
-use Rattle.ga_numbers.specs.Numbers.{places_of}
-use Rattle.ga_shards.specs.Steps.{all_noted}
 use Rattle.ga_tallies.specs.Adding.{KeepsAll, added_at}
 use Rattle.ga_tallies.specs.Tallies.{TallySeen, lists_in, pairs_in}
 use Rattle.ga_tallies.specs.declared.apart.Counts.{Counts}
 use Rattle.ga_tallies.specs.declared.moved.Moved.{Moved}
-
--- ---- items
-
--- items after those of other lists came to them, list by list
-abbrev pub all_in_turn : {T : Type 0} → (T → T → Bool) → List T → List (List T) → List T
-all_in_turn same known [] = known
-all_in_turn same known (more ∷ others) = all_in_turn same (all_noted same known more) others
-
--- the numbers that the items of each list get then
-abbrev pub numbers_in_turn : {T : Type 0} → (T → T → Bool) → List T → List (List T) → List (List ℕ)
-numbers_in_turn same known [] = []
-numbers_in_turn same known (more ∷ others) = places_of same known more ∷ numbers_in_turn same (all_noted same known more) others
-
--- the items of other lists were noted, list by list, and have these numbers
-pub record AreNotedInTurn {T : Type 0} (same : T → T → Bool) (others : List (List T)) (numbers : List (List ℕ)) (old new : List T) : Type 0 where
-  pub places : numbers ≡ numbers_in_turn same old others
-  pub known : new ≡ all_in_turn same old others
 
 -- ---- what moves
 
@@ -81,10 +62,13 @@ abbrev pub IsMapped : List ℕ → List ℕ → List (ℕ × ℕ) → ℕ × ℕ
 IsMapped keys visitors pairs pair = (k : ℕ) × (v : ℕ) × (key : ℕ) × (visitor : ℕ) × Contains pairs (k, v)
     × (slice_get keys k ≡ Some key) × (slice_get visitors v ≡ Some visitor) × (pair ≡ (key, visitor))
 
--- a pair that comes by one of these moves
+-- a pair that comes by a move, and one that comes by one of these moves
+abbrev pub IsBrought : MoveSeen → ℕ × ℕ → Type 0
+IsBrought moved pair = IsMapped moved.keys moved.visitors moved.counts.pairs pair
+
 abbrev pub IsMoved : List MoveSeen → ℕ × ℕ → Type 0
 IsMoved [] pair = ⊥
-IsMoved (moved ∷ moves) pair = IsMapped moved.keys moved.visitors moved.counts.pairs pair ⊎ IsMoved moves pair
+IsMoved (moved ∷ moves) pair = IsBrought moved pair ⊎ IsMoved moves pair
 
 -- of those pairs one with a key of so many, of which the first has this number
 abbrev pub IsAmong : ℕ → ℕ → (ℕ × ℕ → Type 0) → ℕ × ℕ → Type 0

@@ -1,6 +1,6 @@
 use Rattle.std.proofs.Common.{◌∷◌, ◌++◌, ◌∙◌, [], Ok, List, map, ap, sym}
 use Rattle.std.proofs.lemmas.List.{map_push}
-use Rattle.ga_numbers.specs.declared.meeting.Grown.{Grown}
+use Rattle.ga_numbers.specs.declared.meeting.Met.{Met}
 use Rattle.ga_numbers.proofs.Meetings.{flat-more}
 use Rattle.ga_numbers.proofs.meeting.gathered.Goals as goal
 
@@ -10,5 +10,5 @@ loop-result-preserved c =
     let part = c.in_ok-result.field-0 in (
       so_far.0 ++ part ∷ [],
       ap (λ ys. ys ++ c.in-Some.result ∷ []) so_far.1 ∙ ap (λ r. map Ok so_far.0 ++ r ∷ []) c.in_ok-result.was ∙ sym (map_push Ok so_far.0 part),
-      c.in_ok-append.ensures.items ∙ ap (λ (all : List Grown). all ++ part.items) so_far.2 ∙ sym (flat-more (λ p. p.items) so_far.0 part),
+      c.in_ok-append.ensures.items ∙ ap (λ (all : List Met). all ++ part.items) so_far.2 ∙ sym (flat-more (λ p. p.items) so_far.0 part),
     )

@@ -1,10 +1,13 @@
-use Rattle.std.proofs.Common.{◌≡◌, ◌++◌, map}
+use Rattle.std.proofs.Common.{◌≡◌, ◌<◌, ℕ, [], get_or, length, map}
+use Rattle.std.specs.List.{All}
 use Rattle.std.specs.Vec.Iter.{into_iter_items}
+use Rattle.ga_numbers.specs.Kept.{shards_at}
 use Rattle.ga_numbers.proofs.meeting.meetings_of.Given as goal
 
-abbrev pub invariant-loop-known : goal.invariant-loop-known
-invariant-loop-known l = record {
-  known : map (λ m. m.known) l.meetings.items ≡ l.yielded;
-  rest : l.yielded ++ into_iter_items l.known-iterator ≡ l.fn.shards.items;
-  more : map (λ m. m.more) l.meetings.items ++ into_iter_items l.others ≡ l.fn.others.items;
+-- each shard meets those of the others so far
+abbrev pub invariant-loop-other : goal.invariant-loop-other
+invariant-loop-other l = record {
+  known : map (λ m. m.known) l.meetings.items ≡ l.fn.shards.items;
+  more : (s : ℕ) → s < length l.fn.shards.items → get_or (map (λ m. m.more.items) l.meetings.items) s [] ≡ shards_at s (map (λ o. o.items) l.yielded);
+  long : All (λ o. length o.items ≡ length l.fn.shards.items) (into_iter_items l.other-iterator);
 }

@@ -1,7 +1,7 @@
-use Rattle.std.proofs.Common.{◌≡◌, map, take}
-use Rattle.ga_tallies.specs.Steps.Absorbing.{move_of, sums_moved}
+use Rattle.std.proofs.Common.{◌≡◌, take}
+use Rattle.ga_tallies.specs.Steps.Absorbing.{rows_added}
 use Rattle.ga_tallies.proofs.absorbing.sums_with.Given as goal
 
--- the sums of the moves so far were added
-abbrev pub invariant-loop-moved : goal.invariant-loop-moved
-invariant-loop-moved l = l.rows.items ≡ sums_moved (map move_of (take l.moved-index l.moves)) l.fn.rows.items
+-- the rows of the numbers so far were added
+abbrev pub invariant-loop-place : goal.invariant-loop-place
+invariant-loop-place l = l.rows.items ≡ rows_added (take l.place l.numbers) l.more l.fn.rows.items

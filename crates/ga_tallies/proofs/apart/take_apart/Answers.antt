@@ -3,7 +3,7 @@ use Rattle.std.proofs.lemmas.List.{map_push}
 use Rattle.ga_tallies.specs.Steps.Absorbing.{counts_in, counts_seen}
 use Rattle.ga_tallies.specs.Tallies.{TallySeen}
 use Rattle.ga_tallies.specs.declared.apart.Counts.{Counts}
-use Rattle.ga_tallies.proofs.InTurn.{no-lists}
+use Rattle.ga_numbers.proofs.InTurn.{no-lists}
 use Rattle.ga_tallies.proofs.apart.take_apart.Goals as goal
 
 pub loop-tally-preserved : goal.loop-tally-preserved

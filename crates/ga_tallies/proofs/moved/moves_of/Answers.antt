@@ -2,7 +2,7 @@ use Rattle.std.proofs.Common.{◌++◌, List, Vec, Global, ℕ, ap, sym, ◌∙�
 use Rattle.std.specs.Vec.Iter.{into_iter_items}
 use Rattle.ga_tallies.specs.Steps.Absorbing.{counts_in, move_of, moves_with}
 use Rattle.ga_tallies.specs.declared.apart.Counts.{Counts}
-use Rattle.ga_tallies.proofs.InTurn.{no-lists}
+use Rattle.ga_numbers.proofs.InTurn.{no-lists}
 use Rattle.ga_tallies.proofs.moved.moves_of.Goals as goal
 
 pub returns : goal.returns

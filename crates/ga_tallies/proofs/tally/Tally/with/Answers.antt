@@ -2,10 +2,11 @@ use Rattle.std.proofs.Common.{◌≡◌, ◌∙◌, List, ℕ, Vec, Global, ap, 
 use Rattle.std.proofs.lemmas.List.{length-map}
 use Rattle.ga_base.specs.Orders.{is_same_key, is_same_visitor}
 use Rattle.ga_summary.specs.Sound.{TotalsFit}
-use Rattle.ga_tallies.specs.Steps.Absorbing.{AddsSuch, IsMoved, MoveSeen, all_in_turn, counts_in, counts_seen, move_of, sums_moved}
+use Rattle.ga_tallies.specs.Steps.Absorbing.{AddsSuch, IsMoved, MoveSeen, counts_in, counts_seen, move_of, sums_moved}
 use Rattle.ga_tallies.specs.Tallies.{AbsorbsAll, TallySeen, totals_from}
 use Rattle.ga_tallies.proofs.AllAbsorbed.{TakesAll, absorbed-all, moved-within, moves-are, moves_among}
-use Rattle.ga_tallies.proofs.InTurn.{numbers-many}
+use Rattle.ga_numbers.proofs.InTurn.{numbers-many}
+use Rattle.ga_numbers.specs.Numbers.{all_in_turn}
 use Rattle.ga_tallies.proofs.tally.Tally.with.Goals as goal
 
 pub moves_of-requires-clause-keys : goal.moves_of-requires-clause-keys
@@ -32,14 +33,14 @@ moves_of-requires-clause-visitors g c =
     let counted : length counts.items ≡ length others = sym (length-map counts.items counts_in) ∙ ap (λ (l : List _). length l) apart.counts ∙ length-map others counts_seen in
     omega (arith, numbers, counted, visitors.ok, counts.ok)
 
-pub add_both-requires : goal.add_both-requires
-add_both-requires g c =
+pub add_moves-requires : goal.add_moves-requires
+add_moves-requires g c =
     let others = c.args.others.items in
     let apart = c.in_ok-others.ensures in
     let keys = c.in_ok-keys.ensures.keys in
     let visitors = c.in_ok-keys.ensures.visitors in
-    let are : map move_of c.deref-2.result.now ≡ moves_among c.self.inside.keys c.self.inside.visitors others =
-    ap (map move_of) c.deref-2.ensures.value ∙ c.in_ok-moves.ensures
+    let are : map move_of c.in_ok-moves.moves.items ≡ moves_among c.self.inside.keys c.self.inside.visitors others =
+    c.in_ok-moves.ensures
     ∙ moves-are c.self.inside.keys c.self.inside.visitors others _ _ _ _ _ _ _ apart.keys keys apart.visitors visitors apart.counts in
     let known : c.in_ok-keys.keys.known ≡ all_in_turn is_same_key c.self.inside.keys (map (λ (t : TallySeen). t.keys) others) = keys.known ∙ ap (all_in_turn is_same_key c.self.inside.keys) apart.keys in (
       c.type_bounds.sync-R,
@@ -63,8 +64,8 @@ returns-clause-absorbed g c =
       sums = c.in_ok-sums.sums.items;
       pairs = c.in_ok-sums.pairs;
     } in
-    let are : map move_of c.deref-2.result.now ≡ moves_among old.keys old.visitors others =
-    ap (map move_of) c.deref-2.ensures.value ∙ c.in_ok-moves.ensures ∙ moves-are old.keys old.visitors others _ _ _ _ _ _ _ apart.keys keys apart.visitors visitors apart.counts in
+    let are : map move_of c.in_ok-moves.moves.items ≡ moves_among old.keys old.visitors others =
+    c.in_ok-moves.ensures ∙ moves-are old.keys old.visitors others _ _ _ _ _ _ _ apart.keys keys apart.visitors visitors apart.counts in
     let totals : c.totals_with-totals.result ≡ totals_from old.totals others = c.totals_with-totals.ensures.value ∙ ap (totals_from old.totals) c.deref.ensures.value in
     let takes : TakesAll others seen new = record {
       totals = totals;
