@@ -5,6 +5,7 @@ ghost use Rattle.ga_numbers.specs.Rows.{is_same_row};
 ghost use Rattle.ga_numbers.specs.declared.row.Row.{Row};
 
 use crate::lists::{list_at, number_at};
+use crate::meeting::Locals;
 use crate::place::{Place, assign};
 use ga_base::NoMemory;
 use std::alloc::Global;
@@ -15,7 +16,7 @@ pub(crate) fn assign_each(
     numbers: &mut Vec<Vec<u32>>,
     places: &mut Vec<Place>,
     orders: Vec<Vec<Place>>,
-    locals: &[Vec<Vec<u32>>],
+    locals: &[Locals],
 ) -> Result<Vec<Vec<u32>>, NoMemory>
     requires { All (λ order. All (λ place. place.shard < vec_len numbers.old) order.items) orders.items }
     ensures noted { (shards : List (List Row)) → AreShards shards → AreNamed shards (map (λ l. l.items) numbers.old.items) places.old.items
@@ -41,7 +42,7 @@ fn assign_all(
     places: &mut Vec<Place>,
     which: usize,
     order: &[Place],
-    locals: &[Vec<Vec<u32>>],
+    locals: &[Locals],
 ) -> Result<Vec<u32>, NoMemory>
     requires { All (λ place. place.shard < vec_len numbers.old) order.now }
     ensures noted { (shards : List (List Row)) → AreShards shards → AreNamed shards (map (λ l. l.items) numbers.old.items) places.old.items
@@ -61,7 +62,7 @@ fn assign_all(
 }
 
 /// Where the row at a place of one of the others stands now.
-fn moved_place(locals: &[Vec<Vec<u32>>], which: usize, place: Place) -> Place
+fn moved_place(locals: &[Locals], which: usize, place: Place) -> Place
     ensures { result ≡ met_at (map (λ shard. map (λ l. l.items) shard.items) locals.now) which place }
 {
     let local = match locals.get(place.shard as usize) {

@@ -24,13 +24,16 @@ struct Meeting {
     more: Vec<Dictionary<Row>>,
 }
 
+/// Where the rows of others stand in a shard: a list for each of them, with the place of each row.
+pub(crate) type Locals = Vec<Vec<u32>>;
+
 /// A shard after the rows of others were noted in it.
 #[derive(Drop)]
 pub(crate) struct Met {
     /// The shard.
     known: Dictionary<Row>,
-    /// Where each row of each of the others stands in it.
-    locals: Vec<Vec<u32>>,
+    /// Where the rows of the others stand in it.
+    locals: Locals,
 }
 
 /// So many shards are put together by one thread.
@@ -44,7 +47,7 @@ pub(crate) fn meet_all<R: Threads + Sync>(
     shards: Vec<Dictionary<Row>>,
     others: Vec<Vec<Dictionary<Row>>>,
     frames: &[Vec<u32>],
-) -> Result<(Vec<Dictionary<Row>>, Vec<Vec<Vec<u32>>>), NoMemory>
+) -> Result<(Vec<Dictionary<Row>>, Vec<Locals>), NoMemory>
     requires { All (λ other. vec_len other ≡ vec_len shards) others.items }
     ensures { IfOk result (λ met. HaveMet (map (λ l. l.items) frames.now) shards.items (map (λ o. o.items) others.items) met.0.items (map (λ shard. map (λ l. l.items) shard.items) met.1.items)) }
 {
@@ -165,10 +168,7 @@ fn gathered(alloc: Global, results: Vec<Result<Vec<Met>, NoMemory>>) -> Result<V
 }
 
 /// The shards, and apart from them where the rows of the others stand in each.
-fn parted(
-    alloc: Global,
-    all: Vec<Met>,
-) -> Result<(Vec<Dictionary<Row>>, Vec<Vec<Vec<u32>>>), NoMemory>
+fn parted(alloc: Global, all: Vec<Met>) -> Result<(Vec<Dictionary<Row>>, Vec<Locals>), NoMemory>
     ensures shards { IfOk result (λ parts. parts.0.items ≡ map (λ met. met.known) all.items) }
     ensures locals { IfOk result (λ parts. map (λ shard. map (λ l. l.items) shard.items) parts.1.items ≡ map (λ met. map (λ l. l.items) met.locals.items) all.items) }
 {
