@@ -1,4 +1,4 @@
-use super::{World, words_of};
+use super::{WORKERS, World, words_of};
 use crate::{Status, goaccess_run};
 use ga_base::{NoMemory, Text};
 use ga_disk::MemDisk;
@@ -146,13 +146,8 @@ fn lines_are_as_long_as_they_come(rt: HostRuntime) -> Result<(), Fail> {
         for length in lengths {
             files.files.grow(&name, &line_of(alloc, *length)?)?;
         }
-        for workers in [
-            "--jobs=1|--chunk-size=1",
-            "--jobs=1|--chunk-size=32768",
-            "--jobs=16|--chunk-size=1",
-            "--jobs=16|--chunk-size=32768",
-        ] {
-            let words = format!(in alloc; "{workers}|--log-format=COMMON|a.log")?;
+        for workers in WORKERS {
+            let words = format!(in alloc; "{workers}--log-format=COMMON|a.log")?;
             let words = words_of(alloc, &words)?;
             let mut outs = MemOuts::new(alloc);
             let mut disk = MemDisk::new(alloc);
