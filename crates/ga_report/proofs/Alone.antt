@@ -1,5 +1,5 @@
 -- Rows that are an item by themselves, beside the items of the others.
-use Rattle.std.proofs.Common.{◌≡◌, ℕ, ◌+◌, ◌-◌, ◌<◌, ◌≤◌, ◌&&◌, Bool, true, false, cond, List, [], ◌∷◌, ◌++◌, Some, length, get_or, filter, sum_by, take, take_all, inl, inr, refl, sym, ap, ◌∙◌, subst, arith, All}
+use Rattle.std.proofs.Common.{◌≡◌, ℕ, ◌+◌, ◌-◌, ◌<◌, ◌≤◌, ◌&&◌, ◌==◌, Bool, true, false, cond, List, [], ◌∷◌, ◌++◌, Some, length, get_or, map, filter, sum_by, take, inl, inr, refl, sym, ap, ◌∙◌, subst, arith, All}
 use Rattle.std.specs.Hash.FoldHasher as hashes
 use Rattle.std.specs.Prelude.{count_by, not, slice_get}
 use Rattle.std.proofs.lemmas.Bool.{false≢true}
@@ -13,14 +13,18 @@ use Rattle.ga_base.specs.declared.panel.Panel.{Panel}
 use Rattle.ga_base.specs.Panels.{is_same_panel}
 use Rattle.ga_report.specs.Items.{has_item, is_of, item_of, of_item, together, undated}
 use Rattle.ga_report.specs.Sound.{AreSound}
-use Rattle.ga_report.specs.Steps.Alone.{AreGathered, AreMarks, alone_with, has_mark, is_alone, items_with, mark_at}
-use Rattle.ga_report.specs.Steps.Summed.{AreSummed, FitTogether, panel_rows, undate, with_row}
+use Rattle.ga_report.specs.declared.spots.Spot.{Spot}
+use Rattle.ga_report.specs.Steps.Alone.{AreApart, AreMarks, AreParted, is_alone, mark_at}
+use Rattle.ga_report.specs.Steps.Places.{AreSpots, label_hash, rows_at}
+use Rattle.ga_report.specs.Steps.Summed.{AreAddable, AreSummed, CanAddUp, FitTogether, panel_rows, undate, with_row}
 use Rattle.ga_report.specs.Told.{ToldRow}
 use Rattle.ga_report.proofs.ItemSums.{count-cons, onto-nothing, own-item, same-item, together-cons}
-use Rattle.ga_report.proofs.Lists.{In, all-in, at-all, all-weaker, filter-pass, filter-push, in-filter, sum-room, sum_by-filter, take-more}
+use Rattle.ga_report.proofs.Lists.{In, all-in, at-all, all-weaker, in-filter, sum-room, sum_by-filter, take-more}
+use Rattle.ga_shards.specs.Keys.{text_hash}
 use Rattle.ga_report.proofs.OneArrangement.{in-count}
 use Rattle.ga_report.proofs.RowsAdded.{counted, not-counted, summed-behind}
 use Rattle.ga_report.proofs.Shares.{item-fits}
+use Rattle.ga_report.proofs.PanelSpots.{spots-rows}
 
 -- ---- items of some rows and of the others are items of all, where rows of one item are among the same
 
@@ -125,61 +129,75 @@ only q x (y ∷ ys) pass one (inr there) = elim (q y) as (λ b. q y ≡ b → co
   | false ↦ λ other. only q x ys pass (omega (arith, one, count-cons q y ys)) there
 ] refl
 
-module _ (rows : List ToldRow) (counts : List ℕ) (are : AreMarks rows counts) where
+count-mapped : (p : ℕ → Bool) (f : ToldRow → ℕ) (xs : List ToldRow) → count_by p (map f xs) ≡ count_by (λ x. p (f x)) xs
+count-mapped p f [] = refl
+count-mapped p f (x ∷ xs) = omega (arith, sum_by-cons (λ (n : ℕ). cond (p n) 1 0) (f x) (map f xs), count-cons (λ y. p (f y)) x xs, count-mapped p f xs)
+
+module _ (rows : List ToldRow) (counts : List ℕ) (are : AreMarks (map label_hash rows) counts) where
+  -- whether rows of a key's item are alone at their mark
+  abbrev is_key_alone : Key → Bool
+  is_key_alone key = is_alone counts (text_hash key.label)
+
   abbrev alone : List ToldRow
-  alone = those (is_alone counts) rows
+  alone = those is_key_alone rows
 
-  same-mark : (key : Key) (x : ToldRow) → is_of key x ≡ true → has_mark (length counts) (mark_at (length counts) key) x ≡ true
-  same-mark key x e = (Decides-eqb _ _).1 (ap (mark_at (length counts)) (same-item key x e))
+  abbrev mark_of : Key → ℕ
+  mark_of key = mark_at (length counts) (text_hash key.label)
 
-  mark-within : (key : Key) → mark_at (length counts) key < length counts
+  abbrev has_mark : ℕ → ToldRow → Bool
+  has_mark mark row = mark_of row.key == mark
+
+  same-mark : (key : Key) (x : ToldRow) → is_of key x ≡ true → has_mark (mark_of key) x ≡ true
+  same-mark key x e = (Decides-eqb _ _).1 (ap mark_of (same-item key x e))
+
+  mark-within : (key : Key) → mark_of key < length counts
   mark-within key = omega (arith, are.some, and_le_r (hashes.finish (hashes.write hashes.initial key.label)) (length counts - 1))
 
   -- an item of the rows that are alone has one
-  one-row : (key : Key) → is_alone counts key ≡ true → count_by (is_of key) alone ≤ 1
+  one-row : (key : Key) → is_key_alone key ≡ true → count_by (is_of key) alone ≤ 1
   one-row key e =
-      let mark = mark_at (length counts) key in
+      let mark = mark_of key in
       let count : get_or counts mark 0 ≡ 1 = (Decides-eqb _ _).0 e in
-      omega (arith, count, are.each mark (mark-within key), fewer (is_of key) (has_mark (length counts) mark) (same-mark key) rows, fewer-among (is_of key) (λ row. is_alone counts row.key) rows)
+      let marked = count-mapped (λ hash. mark_at (length counts) hash == mark) label_hash rows in
+      omega (arith, count, are.each mark (mark-within key), marked, fewer (is_of key) (has_mark mark) (same-mark key) rows, fewer-among (is_of key) (λ row. is_key_alone row.key) rows)
 
-  once-alone : (key : Key) (b : Bool) → is_alone counts key ≡ b → (c : Bool) → has_item key alone ≡ c → count_by (is_of key) alone ≡ cond c 1 0
+  once-alone : (key : Key) (b : Bool) → is_key_alone key ≡ b → (c : Bool) → has_item key alone ≡ c → count_by (is_of key) alone ≡ cond c 1 0
   once-alone key b e false f = not-counted key alone f
   once-alone key true e true f = omega (arith, one-row key e, counted key alone f)
-  once-alone key false e true f = absurd (false≢true (sym (has-there (is_alone counts) (λ _. refl) rows key false e) ∙ f))
+  once-alone key false e true f = absurd (false≢true (sym (has-there is_key_alone (λ _. refl) rows key false e) ∙ f))
 
   sum-alone : (x : ToldRow) → In x alone → undate x ≡ item_of x.key alone
   sum-alone x there =
-      let mine = (in-filter (λ row. is_alone counts row.key) x rows there).0 in
+      let mine = (in-filter (λ row. is_key_alone row.key) x rows there).0 in
       sym (ap (together x.key) (only (is_of x.key) x alone (own-item x) (one-row x.key mine) there) ∙ together-cons x.key x [] ∙ onto-nothing x)
 
-  pub summed-alone : AreSummed alone alone
+  summed-alone : AreSummed alone alone
   summed-alone = record {
-    once = λ key. once-alone key (is_alone counts key) refl (has_item key alone) refl;
+    once = λ key. once-alone key (is_key_alone key) refl (has_item key alone) refl;
     sums = All-from_recursion (λ item. undate item ≡ item_of item.key alone) alone (all-in (λ item. undate item ≡ item_of item.key alone) alone sum-alone);
   }
 
   -- with the items of the others they are the items
-  pub summed-beside : (own items : List ToldRow) → AreGathered rows counts own items → AreSummed rows (own ++ items)
-  summed-beside own items h =
-      subst (λ (xs : List ToldRow). AreSummed rows (xs ++ items)) (sym h.by_themselves) (summed-both (is_alone counts) (λ _. refl) rows alone items summed-alone h.others)
+  summed-beside : (items : List ToldRow) → AreSummed (filter (λ row. not (is_alone counts (label_hash row))) rows) items → AreSummed rows (alone ++ items)
+  summed-beside items others = summed-both is_key_alone (λ _. refl) rows alone items summed-alone others
 
--- ---- a row at a time
+-- the items are the rows of which each item has one, and the items of the others
+pub summed-apart : (rows those : List ToldRow) (alone others : List Spot) (items more all : List ToldRow) → AreApart rows those alone others
+    → items ≡ rows_at rows alone → AreSummed (rows_at rows others) more → all ≡ items ++ more → AreSummed those all
+summed-apart rows those alone others items more all apart is are e =
+    let own = is ∙ spots-rows rows alone _ apart.parted.passing in
+    let rest = subst (λ (xs : List ToldRow). AreSummed xs more) (spots-rows rows others _ apart.parted.failing) are in
+    subst (λ (xs : List ToldRow). AreSummed those xs) (sym (e ∙ ap (λ (xs : List ToldRow). xs ++ more) own)) (summed-beside those apart.counts apart.are_marks more rest)
 
--- a row more
-gathered-behind : (counts : List ℕ) (seen alone items : List ToldRow) (row : ToldRow) → AreGathered seen counts alone items
-    → AreGathered (seen ++ row ∷ []) counts (alone_with counts row alone) (items_with counts row items)
-gathered-behind counts seen alone items row h = elim (is_alone counts row.key) as (λ b. is_alone counts row.key ≡ b
-    → AreGathered (seen ++ row ∷ []) counts (cond b (alone ++ row ∷ []) alone) (cond b items (with_row row items))) [
-      | true ↦ λ e. record {
-        by_themselves = ap (λ (xs : List ToldRow). xs ++ row ∷ []) h.by_themselves ∙ sym (filter-push (λ r. is_alone counts r.key) seen row e);
-        others = subst (λ (xs : List ToldRow). AreSummed xs items) (sym (filter-pass (λ r. not (is_alone counts r.key)) seen row (ap not e))) h.others;
-      }
-      | false ↦ λ e. record {
-        by_themselves = h.by_themselves ∙ sym (filter-pass (λ r. is_alone counts r.key) seen row e);
-        others = subst (λ (xs : List ToldRow). AreSummed xs (with_row row items)) (sym (filter-push (λ r. not (is_alone counts r.key)) seen row (ap not e)))
-            (summed-behind (filter (λ r. not (is_alone counts r.key)) seen) row items h.others);
-      }
-    ] refl
+-- items of halves of the rows by their hashes are items of all
+pub summed-halves : (rows those : List ToldRow) (passes : ℕ → Bool) (some others : List Spot) (items more all : List ToldRow) → AreParted rows passes those some others
+    → AreSummed (rows_at rows some) items → AreSummed (rows_at rows others) more → all ≡ items ++ more → AreSummed those all
+summed-halves rows those passes some others items more all parted are are' e =
+    let first = subst (λ (xs : List ToldRow). AreSummed xs items) (spots-rows rows some _ parted.passing) are in
+    let rest = subst (λ (xs : List ToldRow). AreSummed xs more) (spots-rows rows others _ parted.failing) are' in
+    subst (λ (xs : List ToldRow). AreSummed those xs) (sym e) (summed-both (λ key. passes (text_hash key.label)) (λ _. refl) those items more first rest)
+
+-- ---- rows of an item fit together
 
 -- fewer rows sum to less
 sum-among : (f : ToldRow → ℕ) (p t : ToldRow → Bool) (xs : List ToldRow) → sum_by f (filter p (filter t xs)) ≤ sum_by f (filter p xs)
@@ -195,49 +213,57 @@ sum-among f p t xs = omega (arith, sum_by-filter f p (filter t xs), sum_by-filte
       | false ↦ omega (arith, sum_by-cons w y ys, within ys)
     ]
 
--- all of them together are the items
-pub gathered-all : (those : List ToldRow) (counts : List ℕ) (alone items all : List ToldRow) (n : ℕ) → length those ≤ n → AreMarks those counts → AreGathered (take n those) counts alone items
-    → all ≡ alone ++ items → AreSummed those all
-gathered-all those counts alone items all n long are h e =
-    let gathered = subst (λ (xs : List ToldRow). AreGathered xs counts alone items) (take_all n those long) h in
-    subst (λ (xs : List ToldRow). AreSummed those xs) (sym e) (summed-beside those counts are alone items gathered)
+addable-among : (t : ToldRow → Bool) (rows : List ToldRow) → AreAddable rows → AreAddable (filter t rows)
+addable-among t rows fit key =
+    let all = fit key in
+    record {
+      hits = omega (arith, all.hits, sum-among (λ r. r.sums.hits) (is_of key) t rows);
+      visitors = omega (arith, all.visitors, sum-among (λ r. r.visitors) (is_of key) t rows);
+      bytes = omega (arith, all.bytes, sum-among (λ r. r.sums.bytes) (is_of key) t rows);
+      micros = omega (arith, all.micros, sum-among (λ r. r.sums.micros) (is_of key) t rows);
+    }
 
-module _ (those : List ToldRow) (counts : List ℕ) (alone items : List ToldRow) (n : ℕ) (row : ToldRow) (at : slice_get those n ≡ Some row) where
-  -- a row more
-  pub gathered-more : (alone' items' : List ToldRow) → AreGathered (take n those) counts alone items
-      → alone' ≡ alone_with counts row alone → items' ≡ items_with counts row items → AreGathered (take (n + 1) those) counts alone' items'
-  gathered-more alone' items' h e f =
-      let behind = gathered-behind counts (take n those) alone items row h in
-      subst (λ (xs : List ToldRow). AreGathered xs counts alone' items') (sym (take-more n those row at)) (record {
-        by_themselves = e ∙ behind.by_themselves;
-        others = subst (λ (xs : List ToldRow). AreSummed (filter (λ r. not (is_alone counts r.key)) (take n those ++ row ∷ [])) xs) (sym f) behind.others;
-      })
+-- those of a part can be added
+can-add-part : (rows those : List ToldRow) (t : ToldRow → Bool) (spots : List Spot) → AreSpots rows spots (filter t those) → AreAddable those → CanAddUp rows spots
+can-add-part rows those t spots are fit =
+    let same = sym (spots-rows rows spots (filter t those) are) in
+    record {
+      there = subst (AreSpots rows spots) same are;
+      fit = subst AreAddable same (addable-among t those fit);
+    }
 
-  -- a row of a panel and its item fit together
-  pub fits-more : (panel : Panel) (rows : List ToldRow) → those ≡ panel_rows panel rows → AreSound rows → AreGathered (take n those) counts alone items
-      → All (λ item. is_of item.key row ≡ true → FitTogether item row) items
-  fits-more panel rows e sound h =
+pub can-add-some : (rows those : List ToldRow) (passes : ℕ → Bool) (some others : List Spot) → AreParted rows passes those some others → AreAddable those → CanAddUp rows some
+can-add-some rows those passes some others parted fit = can-add-part rows those (λ row. passes (label_hash row)) some parted.passing fit
+
+pub can-add-others : (rows those : List ToldRow) (passes : ℕ → Bool) (some others : List Spot) → AreParted rows passes those some others → AreAddable those → CanAddUp rows others
+can-add-others rows those passes some others parted fit = can-add-part rows those (λ row. not (passes (label_hash row))) others parted.failing fit
+
+-- those of a panel can be added
+pub addable-panel : (panel : Panel) (rows : List ToldRow) → AreSound rows → AreAddable (panel_rows panel rows)
+addable-panel panel rows sound = addable-among (λ row. is_same_panel row.key.panel panel) rows (item-fits rows sound)
+
+module _ (those items : List ToldRow) (n : ℕ) (row : ToldRow) (at : slice_get those n ≡ Some row) (are : AreSummed (take n those) items) where
+  -- a row and its item fit together
+  pub fits-more : AreAddable those → All (λ item. is_of item.key row ≡ true → FitTogether item row) items
+  fits-more addable =
       All-from_recursion (λ item. is_of item.key row ≡ true → FitTogether item row) items
-      (all-weaker (λ item. undate item ≡ item_of item.key seen) (λ item. is_of item.key row ≡ true → FitTogether item row) fit items (recursion_from_All _ items h.others.sums))
+      (all-weaker (λ item. undate item ≡ item_of item.key (take n those)) (λ item. is_of item.key row ≡ true → FitTogether item row) fit items (recursion_from_All _ items are.sums))
     where
-      seen : List ToldRow
-      seen = filter (λ r. not (is_alone counts r.key)) (take n those)
+      room : (f : ToldRow → ℕ) (key : Key) → is_of key row ≡ true → sum_by f (of_item key (take n those)) + f row ≤ sum_by f (of_item key those)
+      room f key own = sum-room f (is_of key) those n row at own
 
-      room : (f : ToldRow → ℕ) (key : Key) → is_of key row ≡ true → sum_by f (of_item key seen) + f row ≤ sum_by f (of_item key rows)
-      room f key own = omega (
-        arith,
-        sum-among f (is_of key) (λ r. not (is_alone counts r.key)) (take n those),
-        sum-room f (is_of key) those n row at own,
-        ap (λ (xs : List ToldRow). sum_by f (of_item key xs)) e,
-        sum-among f (is_of key) (λ r. is_same_panel r.key.panel panel) rows,
-      )
-
-      fit : (item : ToldRow) → undate item ≡ item_of item.key seen → is_of item.key row ≡ true → FitTogether item row
+      fit : (item : ToldRow) → undate item ≡ item_of item.key (take n those) → is_of item.key row ≡ true → FitTogether item row
       fit item sums own =
-          let fits = item-fits rows sound item.key in
+          let fits = addable item.key in
           record {
             hits = omega (arith, ap (λ (r : ToldRow). r.sums.hits) sums, room (λ r. r.sums.hits) item.key own, fits.hits);
             bytes = omega (arith, ap (λ (r : ToldRow). r.sums.bytes) sums, room (λ r. r.sums.bytes) item.key own, fits.bytes);
             micros = omega (arith, ap (λ (r : ToldRow). r.sums.micros) sums, room (λ r. r.sums.micros) item.key own, fits.micros);
             visitors = omega (arith, ap (λ (r : ToldRow). r.visitors) sums, room (λ r. r.visitors) item.key own, fits.visitors);
           }
+
+  -- a row more
+  pub summed-more : (items' : List ToldRow) → items' ≡ with_row row items → AreSummed (take (n + 1) those) items'
+  summed-more items' e =
+      subst (λ (xs : List ToldRow). AreSummed xs items') (sym (take-more n those row at))
+      (subst (λ (xs : List ToldRow). AreSummed (take n those ++ row ∷ []) xs) (sym e) (summed-behind (take n those) row items are))

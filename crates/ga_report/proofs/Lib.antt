@@ -14,6 +14,8 @@ pub mod OneArrangement
 pub mod Printables
 pub mod Stretches
 pub mod PanelItems
+pub mod Found
 pub mod PanelPlaces
+pub mod PanelSpots
 pub mod Marked
 pub mod Alone

@@ -1,8 +1,7 @@
 -- Where the rows of a panel stand.
-use Rattle.std.proofs.Common.{◌≡◌, ◌⊎◌, ℕ, zero, suc, ◌+◌, ◌<◌, ◌≤◌, Bool, true, false, cond, List, [], ◌∷◌, ◌++◌, inl, inr, Some, length, get_or, map, filter, take, take_all, refl, sym, ap, ◌∙◌, subst, arith, All}
+use Rattle.std.proofs.Common.{◌≡◌, ◌⊎◌, ℕ, zero, suc, ◌+◌, ◌<◌, ◌≤◌, Bool, true, false, cond, List, [], ◌∷◌, ◌++◌, inl, inr, Some, length, get_or, filter, take, take_all, refl, sym, ap, ◌∙◌, subst, arith, All}
 use Rattle.std.specs.Prelude.{count_by, slice_get}
 use Rattle.std.specs.List.{AllByRecursion}
-use Rattle.std.proofs.lemmas.List.{length-map, map-append}
 use Rattle.std.proofs.lemmas.List.Elements.{All-from_recursion, All-get_or}
 use Rattle.std.proofs.lemmas.List.Sums.{length-filter}
 use Rattle.std.proofs.lemmas.Option.{slice_get_within}
@@ -11,11 +10,12 @@ use Rattle.ga_base.specs.Panels.{is_same_panel}
 use Rattle.ga_report.specs.Steps.Places.{AreAt}
 use Rattle.ga_report.specs.Steps.Summed.{panel_rows}
 use Rattle.ga_report.specs.Told.{ToldRow}
+use Rattle.ga_report.proofs.Found.{found-behind, found-long, found-there}
 use Rattle.ga_report.proofs.Lists.{filter-pass, filter-push, take-more}
 
 module _ (rows : List ToldRow) where
   pub as-many : (places : List ℕ) (those : List ToldRow) → AreAt rows places those → length places ≡ length those
-  as-many places those e = sym (length-map places (slice_get rows)) ∙ ap length e ∙ length-map those Some
+  as-many places those e = found-long (slice_get rows) places those e
 
   inside : (places : List ℕ) (those : List ToldRow) → AreAt rows places those → AllByRecursion (λ place. place < length rows) places
   inside [] those e = tt
@@ -34,21 +34,7 @@ module _ (rows : List ToldRow) where
   -- the row at a place
   pub row-there : (places : List ℕ) (those : List ToldRow) (i : ℕ) (row : ToldRow) → AreAt rows places those → i < length places → slice_get rows (get_or places i 0) ≡ Some row
       → slice_get those i ≡ Some row
-  row-there [] those i row e less there = absurd (omega (arith, less))
-  row-there (p ∷ ps) [] i row e less there = cc
-  row-there (p ∷ ps) (x ∷ xs) zero row e less there =
-      let first : slice_get rows p ≡ Some x = cc e in
-      sym first ∙ there
-  row-there (p ∷ ps) (x ∷ xs) (suc i) row e less there =
-      let rest : AreAt rows ps xs = cc e in
-      row-there ps xs i row rest (omega (arith, less)) there
-
-  -- a place more
-  pub place-behind : (places places' : List ℕ) (those : List ToldRow) (place : ℕ) (row : ToldRow) → AreAt rows places those → slice_get rows place ≡ Some row → places' ≡ places ++ place ∷ []
-      → AreAt rows places' (those ++ row ∷ [])
-  place-behind places places' those place row are at e =
-      ap (map (slice_get rows)) e ∙ map-append (slice_get rows) places (place ∷ [])
-      ∙ (λ i. are i ++ at i ∷ []) ∙ sym (map-append Some those (row ∷ []))
+  row-there places those i row e less there = found-there (slice_get rows) places those i 0 row e less there
 
 module _ (panel : Panel) (rows : List ToldRow) (n : ℕ) (row : ToldRow) (at : slice_get rows n ≡ Some row) where
   -- a row more that is the panel's
@@ -56,7 +42,7 @@ module _ (panel : Panel) (rows : List ToldRow) (n : ℕ) (row : ToldRow) (at : s
       → AreAt rows places' (panel_rows panel (take (n + 1) rows))
   place-more places places' own are e =
       let more = ap (panel_rows panel) (take-more n rows row at) ∙ filter-push (λ r. is_same_panel r.key.panel panel) (take n rows) row own in
-      subst (λ (xs : List ToldRow). AreAt rows places' xs) (sym more) (place-behind rows places places' (panel_rows panel (take n rows)) n row are at e)
+      subst (λ (xs : List ToldRow). AreAt rows places' xs) (sym more) (found-behind (slice_get rows) places places' (panel_rows panel (take n rows)) n row are at e)
 
   -- and one that isn't
   pub place-pass : (places : List ℕ) → is_same_panel row.key.panel panel ≡ false → AreAt rows places (panel_rows panel (take n rows)) → AreAt rows places (panel_rows panel (take (n + 1) rows))

@@ -1,5 +1,6 @@
 ghost use Rattle.std.specs.Prelude.{◌≡◌, All, IfOk, List, filter, map};
-ghost use Rattle.std.specs.List.Sorted.{IsSorted};
+ghost use Rattle.std.specs.List.Sorted.{IsPermutation, IsSorted};
+ghost use Rattle.std.specs.Thread.{IsSync};
 ghost use Rattle.ga_base.specs.Layers.{has_groups};
 ghost use Rattle.ga_report.specs.declared.report.General.{General};
 ghost use Rattle.ga_report.specs.Items.{by_hits, is_row, is_child, item_order, last_first, order};
@@ -8,10 +9,13 @@ ghost use Rattle.ga_report.specs.Told.{ToldRow};
 
 use crate::Told;
 use crate::item_name::{ItemName, item_order};
+use crate::spots::MANY;
 use ga_base::laws::panel_order;
 use ga_base::{NoMemory, Panel};
 use std::alloc::Global;
 use std::cmp::Ordering;
+use std::marker::Sync;
+use std::thread::{self, Threads};
 
 /// One item of so many is looked at to find where those that come first end.
 const SAMPLED: usize = 32;
@@ -62,9 +66,34 @@ pub(crate) fn top<'a>(
 ) -> Result<Vec<Told<'a>>, NoMemory>
     ensures { IfOk result (λ rows. AreFirst (order panel) most items.entry.items rows.items) }
 {
-    let mut rows = firsts(alloc, items, panel, most)?;
-    rows.sort_unstable_by(|a, b| order(panel, a, b));
-    Ok(rows)
+    let rows = firsts(alloc, items, panel, most)?;
+    Ok(sorted(rows, panel))
+}
+
+/// The same, of items that may be many: they are looked at in so many pieces side by side.
+pub(crate) fn top_of_many<'a, R: Threads + Sync>(
+    rt: &R,
+    alloc: Global,
+    pieces: u32,
+    items: Vec<Told<'a>>,
+    panel: Panel,
+    most: u64,
+) -> Result<Vec<Told<'a>>, NoMemory>
+    ensures { IfOk result (λ rows. AreFirst (order panel) most items.entry.items rows.items) }
+{
+    let items = likely(rt, alloc, pieces, items, panel, most)?;
+    let rows = firsts(alloc, items, panel, most)?;
+    Ok(sorted(rows, panel))
+}
+
+/// The items in the report's order.
+fn sorted(items: Vec<Told<'_>>, panel: Panel) -> Vec<Told<'_>>
+    ensures same { IsPermutation items.entry.items result.items }
+    ensures sorted { IsSorted (order panel) result.items }
+{
+    let mut items = items;
+    items.sort_unstable_by(|a, b| order(panel, a, b));
+    items
 }
 
 /// The items that come first, at most so many, in any order.
@@ -76,7 +105,7 @@ fn firsts<'a>(
 ) -> Result<Vec<Told<'a>>, NoMemory>
     ensures { IfOk result (λ rows. ComeFirst (order panel) most items.entry.items rows.items) }
 {
-    let mut items = likely(alloc, items, panel, most)?;
+    let mut items = items;
     if most >= items.len() as u64 {
         return Ok(items);
     }
@@ -86,8 +115,10 @@ fn firsts<'a>(
 
 /// The items, without most of those that don't come first where there are many. One in 32 is looked at to find a bar behind
 /// which none of the first stands, so that each item is compared about once.
-fn likely<'a>(
+fn likely<'a, R: Threads + Sync>(
+    rt: &R,
     alloc: Global,
+    pieces: u32,
     items: Vec<Told<'a>>,
     panel: Panel,
     most: u64,
@@ -100,7 +131,7 @@ fn likely<'a>(
         return Ok(items);
     }
     let (_, bar, _) = few.select_nth_unstable_by(most as usize, |a, b| order(panel, a, b));
-    let rows = up_to(alloc, &items, panel, bar)?;
+    let rows = up_to(rt, alloc, pieces, &items, panel, bar)?;
     if most <= rows.len() as u64 {
         Ok(rows)
     } else {
@@ -117,8 +148,38 @@ fn sample<'a>(alloc: Global, items: &[Told<'a>]) -> Result<Vec<Told<'a>>, NoMemo
     Ok(few)
 }
 
+/// The items that don't stand behind the bar, found in so many pieces of the items side by side.
+#[cycle(passing)]
+fn up_to<'a, R: Threads + Sync>(
+    rt: &R,
+    alloc: Global,
+    pieces: u32,
+    items: &[Told<'a>],
+    panel: Panel,
+    bar: &Told<'_>,
+) -> Result<Vec<Told<'a>>, NoMemory>
+    ensures { IfOk result (λ rows. rows.items ≡ filter (is_up_to (order panel) bar.now) items.now) }
+{
+    if pieces < 2 || items.len() < MANY {
+        return up_to_in_turn(alloc, items, panel, bar);
+    }
+    let (low, high) = items.split_at(items.len() / 2);
+    let front = move || -> Result<Vec<Told<'_>>, NoMemory>
+        requires { IsSync R.row }
+        ensures { IfOk result (λ rows. rows.items ≡ filter (is_up_to (order panel) bar.entry.now) low.entry.now) }
+    { up_to(rt, alloc, pieces / 2, low, panel, bar) };
+    let back = move || -> Result<Vec<Told<'_>>, NoMemory>
+        requires { IsSync R.row }
+        ensures { IfOk result (λ rows. rows.items ≡ filter (is_up_to (order panel) bar.entry.now) high.entry.now) }
+    { up_to(rt, alloc, pieces / 2, high, panel, bar) };
+    let (front, back) = thread::join(rt, front, back);
+    let mut rows = front?;
+    rows.append(&mut back?)?;
+    Ok(rows)
+}
+
 /// The items that don't stand behind the bar.
-fn up_to<'a>(
+fn up_to_in_turn<'a>(
     alloc: Global,
     items: &[Told<'a>],
     panel: Panel,

@@ -1,26 +1,34 @@
 ghost use Rattle.std.specs.Prelude.{◌≡◌, ◌≤◌, All, IfOk, OnOk, IsTrue, length, map};
 ghost use Rattle.std.specs.List.Sorted.{IsPermutation, IsSorted};
+ghost use Rattle.std.specs.Thread.{IsSync};
 ghost use Rattle.ga_report.specs.Items.{is_of, undated};
 ghost use Rattle.ga_report.specs.Reports.{general_of};
-ghost use Rattle.ga_report.specs.Steps.Alone.{alone_with, items_with};
-ghost use Rattle.ga_report.specs.Steps.Summed.{AreSummed, FitTogether, IsPart, by_parent, panel_rows, with_row};
+ghost use Rattle.ga_report.specs.Steps.Alone.{AreApart};
+ghost use Rattle.ga_report.specs.Steps.Places.{rows_at};
+ghost use Rattle.ga_report.specs.Steps.Summed.{AreSummed, CanAddUp, FitTogether, IsPart, by_parent, panel_rows, with_row};
 ghost use Rattle.ga_shards.specs.Keys.{keyed_with};
 
 use crate::item_name::ItemName;
 use crate::marks::Marks;
 use crate::places::places_of;
+use crate::spots::{MANY, Parted, Spot, halves_of, rows_at, spots_at};
 use crate::{Tells, Told};
 use ga_base::{NoMemory, Panel, Totals};
 use ga_shards::{Dictionary, Keyed};
 use std::alloc::Global;
+use std::marker::Sync;
+use std::thread::{self, Threads};
 
 /// More items than numbers of 32 bits take more memory than there is.
 const MOST_ITEMS: usize = u32::MAX as usize - 2;
 
 /// The items of a panel, in any order: its rows that differ in their day alone are added up. It takes the time of finding
-/// the panel's rows, of two looks at each of them, and of one by its name for each that isn't alone at its mark.
-pub(crate) fn items_of<'a, T: Tells>(
+/// the panel's rows and of two looks at each of them, which are shared by so many pieces of the rows side by side, and of one by
+/// its name for each that isn't alone at its mark.
+pub(crate) fn items_of<'a, R: Threads + Sync, T: Tells + Sync>(
+    rt: &R,
     alloc: Global,
+    pieces: u32,
     told: &'a T,
     panel: Panel,
 ) -> Result<Vec<Told<'a>>, NoMemory>
@@ -30,27 +38,109 @@ pub(crate) fn items_of<'a, T: Tells>(
 {
     // What is known of the totals is that the rows' sums fit.
     let _totals = told.totals();
-    gathered(alloc, told, panel)
+    gathered(rt, alloc, pieces, told, panel)
 }
 
 /// The items of a panel: first those that are a row by themselves, in the order in which they are told, and then the others.
-fn gathered<'a, T: Tells>(
+fn gathered<'a, R: Threads + Sync, T: Tells + Sync>(
+    rt: &R,
     alloc: Global,
+    pieces: u32,
     told: &'a T,
     panel: Panel,
 ) -> Result<Vec<Told<'a>>, NoMemory>
     ensures { IfOk result (λ items. AreSummed (panel_rows panel (T.view told.now).rows) items.items) }
 {
+    // What is known of the totals is that the rows' sums fit.
+    let _totals = told.totals();
+    let parted = parted(rt, alloc, pieces, told, panel)?;
+    let mut items = rows_at(rt, alloc, pieces, told, &parted.passing)?;
+    let mut others = added_up(rt, alloc, pieces, told, &parted.others)?;
+    items.append(&mut others)?;
+    Ok(items)
+}
+
+/// The spots of a panel's rows: those of rows that are alone at their marks, and those of the others.
+fn parted<R: Threads + Sync, T: Tells + Sync>(
+    rt: &R,
+    alloc: Global,
+    pieces: u32,
+    told: &T,
+    panel: Panel,
+) -> Result<Parted, NoMemory>
+    ensures { IfOk result (λ parted. AreApart (T.view told.now).rows (panel_rows panel (T.view told.now).rows)
+        parted.passing.items parted.others.items) }
+{
     let places = places_of(alloc, told, panel)?;
-    let marks = Marks::of(alloc, told, &places)?;
-    let mut names = Dictionary::new(alloc, keyed_by(&told.totals()));
-    let mut alone = Vec::new(alloc);
-    let mut items = Vec::new(alloc);
-    for place in &places {
-        put_row(&marks, &mut names, &mut alone, &mut items, told.row(*place))?;
+    let spots = spots_at(rt, alloc, pieces, told, &places)?;
+    let marks = Marks::of(alloc, &spots)?;
+    marks.parted(alloc, &spots)
+}
+
+/// The items of the rows at these spots, in so many pieces side by side: rows with another hash are of another item.
+#[cycle(adding)]
+fn added_up<'a, R: Threads + Sync, T: Tells + Sync>(
+    rt: &R,
+    alloc: Global,
+    pieces: u32,
+    told: &'a T,
+    spots: &[Spot],
+) -> Result<Vec<Told<'a>>, NoMemory>
+    requires { CanAddUp (T.view told.now).rows spots.now }
+    ensures { IfOk result (λ items. AreSummed (rows_at (T.view told.now).rows spots.now) items.items) }
+{
+    if pieces < 2 || spots.len() < MANY {
+        return added_in_turn(alloc, told, spots);
     }
-    alone.append(&mut items)?;
-    Ok(alone)
+    let halves = halves_of(alloc, spots, u64::from(pieces / 2))?;
+    let (low, high) = (&halves.passing, &halves.others);
+    let (mut items, mut others) = both_added_up(rt, alloc, pieces / 2, told, low, high)?;
+    items.append(&mut others)?;
+    Ok(items)
+}
+
+/// The items of the rows at these spots and of those at others, side by side.
+#[cycle(adding)]
+fn both_added_up<'a, R: Threads + Sync, T: Tells + Sync>(
+    rt: &R,
+    alloc: Global,
+    pieces: u32,
+    told: &'a T,
+    low: &[Spot],
+    high: &[Spot],
+) -> Result<(Vec<Told<'a>>, Vec<Told<'a>>), NoMemory>
+    requires low { CanAddUp (T.view told.now).rows low.now }
+    requires high { CanAddUp (T.view told.now).rows high.now }
+    ensures low { IfOk result (λ items. AreSummed (rows_at (T.view told.now).rows low.now) items.0.items) }
+    ensures high { IfOk result (λ items. AreSummed (rows_at (T.view told.now).rows high.now) items.1.items) }
+{
+    let some = move || -> Result<Vec<Told<'_>>, NoMemory>
+        requires { IsSync R.row × CanAddUp (T.view told.now).rows low.now }
+        ensures { IfOk result (λ items. AreSummed (rows_at (T.view told.entry.now).rows low.entry.now) items.items) }
+    { added_up(rt, alloc, pieces, told, low) };
+    let others = move || -> Result<Vec<Told<'_>>, NoMemory>
+        requires { IsSync R.row × CanAddUp (T.view told.now).rows high.now }
+        ensures { IfOk result (λ items. AreSummed (rows_at (T.view told.entry.now).rows high.entry.now) items.items) }
+    { added_up(rt, alloc, pieces, told, high) };
+    let (some, others) = thread::join(rt, some, others);
+    Ok((some?, others?))
+}
+
+/// The items of the rows at these spots.
+fn added_in_turn<'a, T: Tells>(
+    alloc: Global,
+    told: &'a T,
+    spots: &[Spot],
+) -> Result<Vec<Told<'a>>, NoMemory>
+    requires { CanAddUp (T.view told.now).rows spots.now }
+    ensures { IfOk result (λ items. AreSummed (rows_at (T.view told.now).rows spots.now) items.items) }
+{
+    let mut names = Dictionary::new(alloc, keyed_by(&told.totals()));
+    let mut items = Vec::new(alloc);
+    for spot in spots {
+        add_row(&mut names, &mut items, &told.row(spot.place))?;
+    }
+    Ok(items)
 }
 
 /// How the names of items hash, by what all lines come to. Who writes lines into a log doesn't know what else will stand
@@ -59,28 +149,6 @@ fn keyed_by(totals: &Totals) -> Keyed
     ensures { result ≡ keyed_with totals.now.bytes totals.now.hits }
 {
     Keyed::new(totals.bytes, totals.hits)
-}
-
-/// Puts a row to those that are alone at their marks, or adds it to its item, which costs a look by its name.
-fn put_row<'a>(
-    marks: &Marks,
-    names: &mut Dictionary<ItemName<'a>>,
-    alone: &mut Vec<Told<'a>>,
-    items: &mut Vec<Told<'a>>,
-    row: Told<'a>,
-) -> Result<(), NoMemory>
-    requires names { names.old ≡ map (λ item. undated item.key) items.old.items }
-    requires fit { All (λ item. IsTrue (is_of item.key row) → FitTogether item row) items.old.items }
-    ensures names { OnOk result (names.new ≡ map (λ item. undated item.key) items.new.items) }
-    ensures alone { OnOk result (alone.new.items ≡ alone_with marks.now row.entry alone.old.items) }
-    ensures items { OnOk result (items.new.items ≡ items_with marks.now row.entry items.old.items) }
-{
-    if marks.is_alone(&row) {
-        alone.push(row)?;
-    } else {
-        add_row(names, items, &row)?;
-    }
-    Ok(())
 }
 
 /// Adds a row to its item, or puts it at the end where its item isn't there. The names are those of the items.

@@ -14,6 +14,7 @@ mod percents;
 mod places;
 mod report;
 mod reporting;
+mod spots;
 mod told;
 
 pub use percents::hundredths;

@@ -1,11 +1,10 @@
-ghost use Rattle.std.specs.Prelude.{◌≡◌, ◌<◌, ◌≤◌, All, IfOk, IsTrue, List, length};
-ghost use Rattle.ga_report.specs.Steps.Alone.{AreMarks, is_alone, mark_at, noted_mark};
-ghost use Rattle.ga_report.specs.Steps.Places.{AreAt};
+ghost use Rattle.std.specs.Prelude.{◌≡◌, ◌<◌, ◌≤◌, IfOk, List, length, map};
+ghost use Rattle.ga_report.specs.Steps.Alone.{AreMarks, AreParted, is_alone, mark_at, noted_mark};
+ghost use Rattle.ga_report.specs.Steps.Places.{AreSpots};
 ghost use Rattle.ga_report.specs.Told.{ToldRow};
 
-use crate::{Tells, Told};
+use crate::spots::{Parted, Spot};
 use ga_base::NoMemory;
-use ga_shards::text_hash;
 use std::alloc::Global;
 use std::marker::Model;
 
@@ -15,7 +14,7 @@ const FOR_EACH: usize = 8;
 /// More marks take more memory than there is.
 const MOST_MARKS: usize = 1 << 62;
 
-/// How many rows of a panel have each mark: none, one, or more. A row's mark is a cheap hash of its label, so rows of one
+/// How many rows of a panel have each mark: none, one, or more. A row's mark is of a cheap hash of its label, so rows of one
 /// item have one mark, and a row that is alone at its mark is an item by itself. A hash of the standard library serves: who
 /// makes labels that collide under it only has them looked at by the keyed one of a dictionary. There is one mark at least.
 #[derive(Drop)]
@@ -35,24 +34,38 @@ impl Model for Marks {
 }
 
 impl Marks {
-    /// The marks of the rows at some places, which are those of a panel. It takes the time of one look at each of these.
-    pub(crate) fn of<T: Tells>(alloc: Global, told: &T, places: &[u64]) -> Result<Marks, NoMemory>
-        requires { All (λ place. place < length (T.view told.now).rows) places.now }
-        ensures { IfOk result (λ marks. (those : List ToldRow) → AreAt (T.view told.now).rows places.now those
-            → AreMarks those marks) }
+    /// The marks of the hashes of these spots.
+    pub(crate) fn of(alloc: Global, spots: &[Spot]) -> Result<Marks, NoMemory>
+        ensures { IfOk result (λ marks. AreMarks (map (λ spot. spot.hash) spots.now) marks) }
     {
-        let mut counts = vec![in alloc; 0u8; marks_for(places.len())]?;
-        for place in places {
-            note(&mut counts, &told.row(*place));
+        let mut counts = vec![in alloc; 0u8; marks_for(spots.len())]?;
+        for spot in spots {
+            note(&mut counts, spot.hash);
         }
         Ok(Marks { counts })
     }
 
-    /// Whether a row of the panel is alone at its mark.
-    pub(crate) fn is_alone(&self, row: &Told<'_>) -> bool
-        ensures { result ≡ is_alone self.now row.now.key }
+    /// Spots, parted by whether a row is alone at its mark.
+    pub(crate) fn parted(&self, alloc: Global, spots: &[Spot]) -> Result<Parted, NoMemory>
+        ensures { IfOk result (λ parted. (rows those : List ToldRow) → AreSpots rows spots.now those
+            → AreParted rows (is_alone self.now) those parted.passing.items parted.others.items) }
     {
-        self.counts[mark_of(row, self.counts.len())] == 1
+        let mut parted = Parted::new(alloc);
+        for spot in spots {
+            if self.is_alone(spot.hash) {
+                parted.passing.push(*spot)?;
+            } else {
+                parted.others.push(*spot)?;
+            }
+        }
+        Ok(parted)
+    }
+
+    /// Whether a row whose label has this hash is alone at its mark.
+    fn is_alone(&self, hash: u64) -> bool
+        ensures { result ≡ is_alone self.now hash }
+    {
+        self.counts[mark_of(hash, self.counts.len())] == 1
     }
 }
 
@@ -66,20 +79,20 @@ fn marks_for(rows: usize) -> usize
         .next_power_of_two()
 }
 
-/// The mark of a row, of so many marks: the low bits of its label's hash.
-fn mark_of(row: &Told<'_>, many: usize) -> usize
+/// The mark of a hash, of so many marks: its low bits.
+fn mark_of(hash: u64, many: usize) -> usize
     requires { 1 ≤ many }
-    ensures value { result ≡ mark_at many row.now.key }
+    ensures value { result ≡ mark_at many hash }
     ensures within { result < many }
 {
-    (text_hash(row.label().bytes()) & (many as u64 - 1)) as usize
+    (hash & (many as u64 - 1)) as usize
 }
 
-/// Counts a row more at its mark.
-fn note(counts: &mut [u8], row: &Told<'_>)
+/// Counts a hash more at its mark.
+fn note(counts: &mut [u8], hash: u64)
     requires { 1 ≤ length counts.old }
-    ensures { counts.new ≡ noted_mark counts.old (mark_at (length counts.old) row.now.key) }
+    ensures { counts.new ≡ noted_mark counts.old (mark_at (length counts.old) hash) }
 {
-    let mark = mark_of(row, counts.len());
+    let mark = mark_of(hash, counts.len());
     counts[mark] = counts[mark].saturating_add(1).min(2);
 }

@@ -7,7 +7,7 @@ ghost use Rattle.ga_report.specs.Reports.{AreChildren, IsPanelList, IsReport, Is
 ghost use Rattle.ga_report.specs.Steps.Summed.{AreSummed, DayFits, IsPart, by_parent, panel_rows, undate, with_day};
 ghost use Rattle.ga_report.specs.Told.{ToldRow};
 
-use crate::arranging::{entries_of, has_groups, top, top_groups};
+use crate::arranging::{entries_of, has_groups, top_groups, top_of_many};
 use crate::gathering::{grouped, items_of};
 use crate::item_name::ItemName;
 use crate::places::places_of;
@@ -40,8 +40,12 @@ const PANELS: [Panel; 17] = [
     Panel::TlsType,
 ];
 
+/// In a panel with many rows these are looked at in so many pieces side by side.
+const PIECES: u32 = 4;
+
 /// The report of what was counted, with the panels of a set. Of each list of rows, and of each row's children, the
-/// first `max_items` are shown. With more jobs than one, each panel is made in a thread of its own.
+/// first `max_items` are shown. With more jobs than one, each panel is made in a thread of its own, and several threads look at
+/// the rows of one that has many.
 pub fn rows<R: Threads + Sync, T: Tells + Sync>(
     rt: &R,
     alloc: Global,
@@ -58,7 +62,7 @@ pub fn rows<R: Threads + Sync, T: Tells + Sync>(
     let general = general_of(alloc, told)?;
     let shown = shown_panels(alloc, panels)?;
     let panels = if jobs <= 1 {
-        lists_in_turn(alloc, told, &general, &shown, max_items)?
+        lists_in_turn(rt, alloc, told, &general, &shown, max_items)?
     } else {
         lists_side_by_side(rt, alloc, told, &general, &shown, max_items)?
     };
@@ -112,7 +116,8 @@ fn shown_panels(alloc: Global, panels: &PanelSet) -> Result<Vec<Panel>, NoMemory
 }
 
 /// The lists of panels, one after the other.
-fn lists_in_turn<T: Tells>(
+fn lists_in_turn<R: Threads + Sync, T: Tells + Sync>(
+    rt: &R,
     alloc: Global,
     told: &T,
     general: &General,
@@ -124,7 +129,7 @@ fn lists_in_turn<T: Tells>(
 {
     let mut lists = PanelLists::new(alloc);
     for panel in panels {
-        lists.push(panel_list(alloc, told, general, *panel, max_items)?)?;
+        lists.push(panel_list(rt, alloc, 1, told, general, *panel, max_items)?)?;
     }
     Ok(lists)
 }
@@ -145,7 +150,7 @@ fn lists_side_by_side<R: Threads + Sync, T: Tells + Sync>(
         requires { (at < length panels.now) × (general.now ≡ general_of (T.view told.now)) }
         ensures { IfOk result (IsPanelList general.entry.now max_items (T.view told.entry.now).rows
             (slice_index_or panels.entry.now at FirstPanel)) }
-    { panel_list(alloc, told, general, panels[at], max_items) };
+    { panel_list(rt, alloc, PIECES, told, general, panels[at], max_items) };
     all_of(alloc, thread::map_indices(rt, alloc, panels.len(), &list)?)
 }
 
@@ -160,9 +165,11 @@ fn all_of(alloc: Global, results: Vec<Result<PanelList, NoMemory>>) -> Result<Pa
     Ok(lists)
 }
 
-/// The list of a panel. Only in a panel with groups have rows children.
-fn panel_list<T: Tells>(
+/// The list of a panel, whose rows are looked at in so many pieces side by side. Only in a panel with groups have rows children.
+fn panel_list<R: Threads + Sync, T: Tells + Sync>(
+    rt: &R,
     alloc: Global,
+    pieces: u32,
     told: &T,
     general: &General,
     panel: Panel,
@@ -171,17 +178,19 @@ fn panel_list<T: Tells>(
     requires { general.now ≡ general_of (T.view told.now) }
     ensures { IfOk result (IsPanelList general.now max_items (T.view told.now).rows panel) }
 {
-    let items = items_of(alloc, told, panel)?;
+    let items = items_of(rt, alloc, pieces, told, panel)?;
     if has_groups(panel) {
         list_with_groups(alloc, general, items, panel, max_items)
     } else {
-        plain_list(alloc, general, items, panel, max_items)
+        plain_list(rt, alloc, pieces, general, items, panel, max_items)
     }
 }
 
 /// The list of a panel without groups.
-fn plain_list(
+fn plain_list<R: Threads + Sync>(
+    rt: &R,
     alloc: Global,
+    pieces: u32,
     general: &General,
     items: Vec<Told<'_>>,
     panel: Panel,
@@ -193,7 +202,7 @@ fn plain_list(
     ensures { IfOk result (λ list. (told : List ToldRow) → AreSummed (panel_rows panel told) items.entry.items
         → IsPanelList general.now max_items told panel list) }
 {
-    let tops = top(alloc, items, panel, max_items)?;
+    let tops = top_of_many(rt, alloc, pieces, items, panel, max_items)?;
     let rows = plain_rows(alloc, general, &tops)?;
     Ok(PanelList { panel, rows })
 }

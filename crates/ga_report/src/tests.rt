@@ -125,3 +125,17 @@ fn cuts_four_hundred_hosts(rt: HostRuntime) -> Result<(), Fail> {
     assert_eq!(rt; shown(alloc, &none)?.as_str(), "410");
     Ok(())
 }
+
+#[test]
+fn many_hosts_are_looked_at_in_pieces(rt: HostRuntime) -> Result<(), Fail> {
+    let alloc = rt.alloc();
+    let mut sum = Summary::empty(alloc);
+    count(&mut sum, alloc, 10_000, 50_000)?;
+    let shares =
+        "40000|1 0:20240115:40000:10000|366 0:10000:1:0 9:10009:1:0 10:10010:1:0 365:10365:1:0";
+    for jobs in [1, 4] {
+        let report = rows(&rt, alloc, &sum, &PanelSet::all(), 366, jobs)?;
+        assert_eq!(rt; shown(alloc, &report)?.as_str(), shares);
+    }
+    Ok(())
+}

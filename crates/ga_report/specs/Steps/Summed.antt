@@ -9,7 +9,10 @@ use Rattle.ga_base.specs.declared.panel.Panel.{Panel}
 use Rattle.ga_base.specs.Orders.{text_cmp}
 use Rattle.ga_base.specs.Panels.{is_same_panel}
 use Rattle.ga_report.specs.declared.report.General.{General}
-use Rattle.ga_report.specs.Items.{AreItems, undated, is_of, has_item, item_of}
+use Rattle.ga_report.specs.Items.{AreItems, undated, is_of, has_item, of_item, item_of}
+use Rattle.ga_report.specs.Sound.{SumsFit}
+use Rattle.ga_report.specs.declared.spots.Spot.{Spot}
+use Rattle.ga_report.specs.Steps.Places.{AreSpots, rows_at}
 use Rattle.ga_report.specs.Told.{ToldRow}
 
 abbrev pub plus : ToldRow → ToldRow → ToldRow
@@ -43,6 +46,15 @@ undate item = record { key = undated item.key; sums = item.sums; visitors = item
 pub record AreSummed (rows items : List ToldRow) : Type 0 where
   pub once : (key : Key) → count_by (is_of key) items ≡ (if has_item key rows then 1 else 0)
   pub sums : All (λ item. undate item ≡ item_of item.key rows) items
+
+-- rows of one item can be added
+abbrev pub AreAddable : List ToldRow → Type 0
+AreAddable rows = (key : Key) → SumsFit (of_item key rows)
+
+-- the spots are those of rows that stand there, of which those of one item can be added
+pub record CanAddUp (rows : List ToldRow) (spots : List Spot) : Type 0 where
+  pub there : AreSpots rows spots (rows_at rows spots)
+  pub fit : AreAddable (rows_at rows spots)
 
 -- an item's numbers are parts of the whole
 pub record IsPart (general : General) (item : ToldRow) : Type 0 where

@@ -13,19 +13,19 @@ use Rattle.ga_report.proofs.arranging.firsts.Goals as goal
 
 pub returns-then-most-len : goal.returns-then-most-len
 returns-then-most-len c =
-    let items = c.in_ok-items.items in
-    c.in_ok-items.ensures items.items (come-first-all (order_total c.args.panel) c.args.most items.items (omega (arith, c.len.ensures, c.if-most-len.true, items.ok.0)))
+    let items = c.args.items in
+    come-first-all (order_total c.args.panel) c.args.most items.items (omega (arith, c.len.ensures, c.if-most-len.true, items.ok))
 
 pub returns : goal.returns
 returns c =
     let select = c.select_nth_unstable_by-first in
     let panel = c.args.panel in
-    let items = c.in_ok-items.items in
+    let items = c.args.items in
     let front = select.result.0.now in
     let split = select.ensures.partitioned (λ x y. is_lt (order panel x y)) (ranks_by (order_total panel) (λ x. x))
     (always_returns_same _ _ _ (λ a r f k. (ap is_lt (search rules), search rules))) in
     let moved : IsPermutation items.items (front ++ select.result.1.now ∷ select.result.2.now) =
     subst (λ (xs : List ToldRow). IsPermutation xs (front ++ select.result.1.now ∷ select.result.2.now)) c.deref_mut.ensures.value select.ensures.permutation in
-    IfOk-weaker c.copies.result (λ rows. rows.items ≡ front) (λ rows. ComeFirst (order panel) c.args.most c.args.items.items rows.items)
-    (λ rows same. c.in_ok-items.ensures rows.items (subst (λ (xs : List ToldRow). ComeFirst (order panel) c.args.most items.items xs) (sym same)
-    (come-first (order_total panel) c.args.most items.items front select.result.2.now select.result.1.now moved select.ensures.front_len (omega (arith, c.len.ensures, c.if-most-len.false, items.ok)) split))) c.copies.ensures
+    IfOk-weaker c.copies.result (λ rows. rows.items ≡ front) (λ rows. ComeFirst (order panel) c.args.most items.items rows.items)
+    (λ rows same. subst (λ (xs : List ToldRow). ComeFirst (order panel) c.args.most items.items xs) (sym same)
+    (come-first (order_total panel) c.args.most items.items front select.result.2.now select.result.1.now moved select.ensures.front_len (omega (arith, c.len.ensures, c.if-most-len.false, items.ok)) split)) c.copies.ensures

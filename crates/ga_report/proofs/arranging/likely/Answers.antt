@@ -7,7 +7,7 @@ use Rattle.ga_report.proofs.Firsts.{come-first-of}
 use Rattle.ga_report.proofs.arranging.likely.Goals as goal
 
 pub returns-then-most-len-2 : goal.returns-then-most-len-2
-returns-then-most-len-2 c =
+returns-then-most-len-2 g c =
     let panel = c.args.panel in
     let most = c.args.most in
     let all = c.args.items.items in

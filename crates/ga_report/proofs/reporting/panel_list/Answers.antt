@@ -10,7 +10,7 @@ pub list_with_groups-requires-clause-parts : goal.list_with_groups-requires-clau
 list_with_groups-requires-clause-parts g c = subst (λ (general : General). All (IsPart general) c.in_ok-items.items.items) (sym c.requires) c.in_ok-items.ensures.parts
 
 pub plain_list-requires-clause-parts : goal.plain_list-requires-clause-parts
-plain_list-requires-clause-parts g c = subst (λ (general : General). All (IsPart general) c.in_ok-items.items.items) (sym c.requires) c.in_ok-items.ensures.parts
+plain_list-requires-clause-parts g c = λ lives live. subst (λ (general : General). All (IsPart general) c.in_ok-items.items.items) (sym c.requires) c.in_ok-items.ensures.parts
 
 pub returns-then-has_groups : goal.returns-then-has_groups
 returns-then-has_groups g c =

@@ -8,16 +8,16 @@ use Rattle.ga_report.proofs.Pairs.{panel-is, plain-tops}
 use Rattle.ga_report.proofs.reporting.plain_list.Goals as goal
 
 pub plain_rows-requires-clause-plain : goal.plain_rows-requires-clause-plain
-plain_rows-requires-clause-plain c =
+plain_rows-requires-clause-plain g c =
     rw c.deref.ensures.value (plain-tops c.args.panel c.requires.plain c.in_ok-tops.tops.items
     (all-first (λ item. item.key.panel ≡ c.args.panel) c.args.panel c.args.max_items c.args.items.items c.in_ok-tops.tops.items c.in_ok-tops.ensures c.requires.panel))
 
 pub plain_rows-requires-clause-parts : goal.plain_rows-requires-clause-parts
-plain_rows-requires-clause-parts c =
+plain_rows-requires-clause-parts g c =
     rw c.deref.ensures.value (all-first (IsPart c.args.general.now) c.args.panel c.args.max_items c.args.items.items c.in_ok-tops.tops.items c.in_ok-tops.ensures c.requires.parts)
 
 pub returns : goal.returns
-returns c = λ told are.
+returns g c = λ told are.
     let panel = c.args.panel in
     let items = c.args.items.items in
     panel-is c.args.general.now c.args.max_items told panel c.in_ok-tops.tops.items c.deref.result.now c.in_ok-rows.rows c.deref.ensures.value (c.in_ok-rows.ensures c.args.max_items told)

@@ -1,0 +1,11 @@
+use Rattle.std.proofs.Common.{◌-◌, ◌*◌}
+use Rattle.ga_report.proofs.spots.+finding.Given as goal
+
+abbrev pub decreases-rows_at : goal.decreases-rows_at
+decreases-rows_at g l = 2 * l.pieces
+
+abbrev pub decreases-front : goal.decreases-front
+decreases-front g l = 2 * l.pieces - 1
+
+abbrev pub decreases-back : goal.decreases-back
+decreases-back g l = 2 * l.pieces - 1

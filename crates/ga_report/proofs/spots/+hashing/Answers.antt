@@ -1,0 +1,14 @@
+use Rattle.std.proofs.Common.{◌≡◌, ◌∙◌, ◌++◌, ap, sym}
+use Rattle.std.specs.List.{filter_map}
+use Rattle.std.proofs.lemmas.List.Elements.{filter_map-append}
+use Rattle.ga_report.specs.Steps.Places.{spot_at}
+use Rattle.ga_report.proofs.spots.+hashing.Goals as goal
+
+pub returns : goal.returns
+returns g t c =
+    let rows = (g.T.Tells.view c.args.told.now).rows in
+    let cut = c.split_at in
+    let low : c.in_ok-spots.spots.items ≡ filter_map (spot_at rows) cut.result.0.now = rw (c.in_ok-spots.was) at c.join-front.ensures.first in
+    let high : c.in_ok-back.field-0.items ≡ filter_map (spot_at rows) cut.result.1.now = rw (c.in_ok-back.was) at c.join-front.ensures.second in
+    c.in_ok-append.ensures.items ∙ (λ i. low i ++ high i)
+    ∙ sym (filter_map-append (spot_at rows) cut.result.0.now cut.result.1.now) ∙ ap (filter_map (spot_at rows)) (sym cut.ensures.by_index.0)
