@@ -1,21 +1,20 @@
-ghost use Rattle.std.specs.Prelude.{◌≡◌, All, IfOk, List, filter, map};
+ghost use Rattle.std.specs.Prelude.{◌≡◌, ◌<◌, All, IfOk, List, filter, length, map, not};
 ghost use Rattle.std.specs.List.Sorted.{IsPermutation, IsSorted};
-ghost use Rattle.std.specs.Thread.{IsSync};
 ghost use Rattle.ga_base.specs.Layers.{has_groups};
 ghost use Rattle.ga_report.specs.declared.report.General.{General};
 ghost use Rattle.ga_report.specs.Items.{by_hits, is_row, is_child, item_order, last_first, order};
-ghost use Rattle.ga_report.specs.Steps.Summed.{AreFirst, AreSummed, AreTop, ComeFirst, IsPart, by_parent, is_up_to, panel_rows, undate};
+ghost use Rattle.ga_report.specs.Steps.Summed.{AreFirst, AreSummed, AreTop, ComeFirst, IsPart, by_parent, is_up_to, items_of, panel_rows, undate};
 ghost use Rattle.ga_report.specs.Told.{ToldRow};
 
-use crate::Told;
+use crate::gathering::{Gathering, all_items, items_near};
 use crate::item_name::{ItemName, item_order};
-use crate::spots::MANY;
+use crate::{Tells, Told};
 use ga_base::laws::panel_order;
 use ga_base::{NoMemory, Panel};
 use std::alloc::Global;
 use std::cmp::Ordering;
 use std::marker::Sync;
-use std::thread::{self, Threads};
+use std::thread::Threads;
 
 /// One item of so many is looked at to find where those that come first end.
 const SAMPLED: usize = 32;
@@ -70,18 +69,22 @@ pub(crate) fn top<'a>(
     Ok(sorted(rows, panel))
 }
 
-/// The same, of items that may be many: they are looked at in so many pieces side by side.
-pub(crate) fn top_of_many<'a, R: Threads + Sync>(
+/// The first of the items of what is gathered, at most so many, in the report's order. They may be many, and are looked at in
+/// so many pieces side by side.
+pub(crate) fn top_of_many<'a, R: Threads + Sync, T: Tells + Sync>(
     rt: &R,
     alloc: Global,
     pieces: u32,
-    items: Vec<Told<'a>>,
+    told: &'a T,
+    gathered: Gathering<'a>,
     panel: Panel,
     most: u64,
 ) -> Result<Vec<Told<'a>>, NoMemory>
-    ensures { IfOk result (λ rows. AreFirst (order panel) most items.entry.items rows.items) }
+    requires { All (λ spot. spot.place < length (T.view told.now).rows) gathered.alone.items }
+    ensures { IfOk result (λ rows. AreFirst (order panel) most
+        (items_of (T.view told.now).rows gathered.entry.alone.items gathered.entry.added.items) rows.items) }
 {
-    let items = likely(rt, alloc, pieces, items, panel, most)?;
+    let items = likely(rt, alloc, pieces, told, gathered, panel, most)?;
     let rows = firsts(alloc, items, panel, most)?;
     Ok(sorted(rows, panel))
 }
@@ -113,34 +116,49 @@ fn firsts<'a>(
     copies(alloc, first)
 }
 
-/// The items, without most of those that don't come first where there are many. One in 32 is looked at to find a bar behind
-/// which none of the first stands, so that each item is compared about once.
-fn likely<'a, R: Threads + Sync>(
+/// The items of what is gathered, without most of those that don't come first where there are many. One in 32 is looked at to
+/// find a bar behind which none of the first stands, so that each item is compared about once, and few are kept.
+fn likely<'a, R: Threads + Sync, T: Tells + Sync>(
     rt: &R,
     alloc: Global,
     pieces: u32,
-    items: Vec<Told<'a>>,
+    told: &'a T,
+    gathered: Gathering<'a>,
     panel: Panel,
     most: u64,
 ) -> Result<Vec<Told<'a>>, NoMemory>
+    requires { All (λ spot. spot.place < length (T.view told.now).rows) gathered.alone.items }
     ensures { IfOk result (λ rows. (first : List ToldRow) → ComeFirst (order panel) most rows.items first
-        → ComeFirst (order panel) most items.entry.items first) }
+        → ComeFirst (order panel) most (items_of (T.view told.now).rows gathered.entry.alone.items gathered.entry.added.items) first) }
 {
-    let mut few = sample(alloc, &items)?;
-    if most >= few.len() as u64 {
-        return Ok(items);
+    let mut few = sample(alloc, told, &gathered)?;
+    if most < few.len() as u64 {
+        let (_, bar, _) = few.select_nth_unstable_by(most as usize, |a, b| order(panel, a, b));
+        let near = items_near(rt, alloc, pieces, told, &gathered, panel, bar)?;
+        if most <= near.len() as u64 {
+            return Ok(near);
+        }
     }
-    let (_, bar, _) = few.select_nth_unstable_by(most as usize, |a, b| order(panel, a, b));
-    let rows = up_to(rt, alloc, pieces, &items, panel, bar)?;
-    if most <= rows.len() as u64 {
-        Ok(rows)
-    } else {
-        Ok(items)
-    }
+    all_items(rt, alloc, pieces, told, gathered)
 }
 
 /// One of each so many items.
-fn sample<'a>(alloc: Global, items: &[Told<'a>]) -> Result<Vec<Told<'a>>, NoMemory> {
+fn sample<'a, T: Tells>(
+    alloc: Global,
+    told: &'a T,
+    gathered: &Gathering<'a>,
+) -> Result<Vec<Told<'a>>, NoMemory>
+    requires { All (λ spot. spot.place < length (T.view told.now).rows) gathered.now.alone.items }
+{
+    let mut few = sample_of(alloc, &gathered.added)?;
+    for at in 0..gathered.alone.len() / SAMPLED {
+        few.push(told.row(gathered.alone[at * SAMPLED].place))?;
+    }
+    Ok(few)
+}
+
+/// One of each so many items of a list.
+fn sample_of<'a>(alloc: Global, items: &[Told<'a>]) -> Result<Vec<Told<'a>>, NoMemory> {
     let mut few = Vec::with_capacity(alloc, items.len() / SAMPLED + 1)?;
     for item in items.iter().step_by(SAMPLED) {
         few.push(item.copy())?;
@@ -148,38 +166,8 @@ fn sample<'a>(alloc: Global, items: &[Told<'a>]) -> Result<Vec<Told<'a>>, NoMemo
     Ok(few)
 }
 
-/// The items that don't stand behind the bar, found in so many pieces of the items side by side.
-#[cycle(passing)]
-fn up_to<'a, R: Threads + Sync>(
-    rt: &R,
-    alloc: Global,
-    pieces: u32,
-    items: &[Told<'a>],
-    panel: Panel,
-    bar: &Told<'_>,
-) -> Result<Vec<Told<'a>>, NoMemory>
-    ensures { IfOk result (λ rows. rows.items ≡ filter (is_up_to (order panel) bar.now) items.now) }
-{
-    if pieces < 2 || items.len() < MANY {
-        return up_to_in_turn(alloc, items, panel, bar);
-    }
-    let (low, high) = items.split_at(items.len() / 2);
-    let front = move || -> Result<Vec<Told<'_>>, NoMemory>
-        requires { IsSync R.row }
-        ensures { IfOk result (λ rows. rows.items ≡ filter (is_up_to (order panel) bar.entry.now) low.entry.now) }
-    { up_to(rt, alloc, pieces / 2, low, panel, bar) };
-    let back = move || -> Result<Vec<Told<'_>>, NoMemory>
-        requires { IsSync R.row }
-        ensures { IfOk result (λ rows. rows.items ≡ filter (is_up_to (order panel) bar.entry.now) high.entry.now) }
-    { up_to(rt, alloc, pieces / 2, high, panel, bar) };
-    let (front, back) = thread::join(rt, front, back);
-    let mut rows = front?;
-    rows.append(&mut back?)?;
-    Ok(rows)
-}
-
 /// The items that don't stand behind the bar.
-fn up_to_in_turn<'a>(
+pub(crate) fn up_to<'a>(
     alloc: Global,
     items: &[Told<'a>],
     panel: Panel,
@@ -189,11 +177,18 @@ fn up_to_in_turn<'a>(
 {
     let mut rows = Vec::new(alloc);
     for item in items {
-        if !order(panel, bar, item).is_lt() {
+        if !is_behind(panel, bar, item) {
             rows.push(item.copy())?;
         }
     }
     Ok(rows)
+}
+
+/// Whether an item stands behind the bar.
+pub(crate) fn is_behind(panel: Panel, bar: &Told<'_>, item: &Told<'_>) -> bool
+    ensures { is_up_to (order panel) bar.now item.now ≡ not result }
+{
+    order(panel, bar, item).is_lt()
 }
 
 /// The same items.

@@ -1,17 +1,17 @@
-ghost use Rattle.std.specs.Prelude.{◌≡◌, ◌≤◌, All, IfOk, OnOk, IsTrue, length, map};
+ghost use Rattle.std.specs.Prelude.{◌≡◌, ◌<◌, ◌≤◌, All, IfOk, OnOk, IsTrue, filter, length, map};
 ghost use Rattle.std.specs.List.Sorted.{IsPermutation, IsSorted};
 ghost use Rattle.std.specs.Thread.{IsSync};
-ghost use Rattle.ga_report.specs.Items.{is_of, undated};
-ghost use Rattle.ga_report.specs.Reports.{general_of};
+ghost use Rattle.ga_report.specs.Items.{is_of, order, undated};
 ghost use Rattle.ga_report.specs.Steps.Alone.{AreApart};
 ghost use Rattle.ga_report.specs.Steps.Places.{rows_at};
-ghost use Rattle.ga_report.specs.Steps.Summed.{AreSummed, CanAddUp, FitTogether, IsPart, by_parent, panel_rows, with_row};
+ghost use Rattle.ga_report.specs.Steps.Summed.{AreSummed, CanAddUp, FitTogether, by_parent, is_up_to, items_of, panel_rows, with_row};
 ghost use Rattle.ga_shards.specs.Keys.{keyed_with};
 
+use crate::arranging::up_to;
 use crate::item_name::ItemName;
 use crate::marks::Marks;
 use crate::places::places_of;
-use crate::spots::{MANY, Parted, Spot, halves_of, rows_at, spots_at};
+use crate::spots::{MANY, Parted, Spot, halves_of, rows_at, rows_near, spots_at};
 use crate::{Tells, Told};
 use ga_base::{NoMemory, Panel, Totals};
 use ga_shards::{Dictionary, Keyed};
@@ -22,41 +22,71 @@ use std::thread::{self, Threads};
 /// More items than numbers of 32 bits take more memory than there is.
 const MOST_ITEMS: usize = u32::MAX as usize - 2;
 
-/// The items of a panel, in any order: its rows that differ in their day alone are added up. It takes the time of finding
-/// the panel's rows and of two looks at each of them, which are shared by so many pieces of the rows side by side, and of one by
-/// its name for each that isn't alone at its mark.
-pub(crate) fn items_of<'a, R: Threads + Sync, T: Tells + Sync>(
-    rt: &R,
-    alloc: Global,
-    pieces: u32,
-    told: &'a T,
-    panel: Panel,
-) -> Result<Vec<Told<'a>>, NoMemory>
-    ensures items { IfOk result (λ items. AreSummed (panel_rows panel (T.view told.now).rows) items.items) }
-    ensures panel { IfOk result (λ items. All (λ item. item.key.panel ≡ panel) items.items) }
-    ensures parts { IfOk result (λ items. All (IsPart (general_of (T.view told.now))) items.items) }
-{
-    // What is known of the totals is that the rows' sums fit.
-    let _totals = told.totals();
-    gathered(rt, alloc, pieces, told, panel)
+/// What the rows of a panel come to: the spots of those that are items by themselves, and the items of the others.
+#[derive(Drop)]
+pub(crate) struct Gathering<'a> {
+    pub(crate) alone: Vec<Spot>,
+    pub(crate) added: Vec<Told<'a>>,
 }
 
-/// The items of a panel: first those that are a row by themselves, in the order in which they are told, and then the others.
-fn gathered<'a, R: Threads + Sync, T: Tells + Sync>(
+/// A panel's rows, gathered: those that differ in their day alone are added up. It takes the time of finding the panel's rows
+/// and of a look at each of them, which is shared by so many pieces of the rows side by side, and of one by its name for each
+/// that isn't alone at its mark; and the memory of two numbers and some marks for each row.
+pub(crate) fn gathered<'a, R: Threads + Sync, T: Tells + Sync>(
     rt: &R,
     alloc: Global,
     pieces: u32,
     told: &'a T,
     panel: Panel,
-) -> Result<Vec<Told<'a>>, NoMemory>
-    ensures { IfOk result (λ items. AreSummed (panel_rows panel (T.view told.now).rows) items.items) }
+) -> Result<Gathering<'a>, NoMemory>
+    ensures there { IfOk result (λ gathered. All (λ spot. spot.place < length (T.view told.now).rows) gathered.alone.items) }
+    ensures items { IfOk result (λ gathered. AreSummed (panel_rows panel (T.view told.now).rows)
+        (items_of (T.view told.now).rows gathered.alone.items gathered.added.items)) }
 {
     // What is known of the totals is that the rows' sums fit.
     let _totals = told.totals();
     let parted = parted(rt, alloc, pieces, told, panel)?;
-    let mut items = rows_at(rt, alloc, pieces, told, &parted.passing)?;
-    let mut others = added_up(rt, alloc, pieces, told, &parted.others)?;
-    items.append(&mut others)?;
+    let added = added_up(rt, alloc, pieces, told, &parted.others)?;
+    Ok(Gathering {
+        alone: parted.passing,
+        added,
+    })
+}
+
+/// All items of what is gathered.
+pub(crate) fn all_items<'a, R: Threads + Sync, T: Tells + Sync>(
+    rt: &R,
+    alloc: Global,
+    pieces: u32,
+    told: &'a T,
+    gathered: Gathering<'a>,
+) -> Result<Vec<Told<'a>>, NoMemory>
+    requires { All (λ spot. spot.place < length (T.view told.now).rows) gathered.alone.items }
+    ensures { IfOk result (λ items. items.items ≡ items_of (T.view told.now).rows gathered.entry.alone.items gathered.entry.added.items) }
+{
+    let mut items = rows_at(rt, alloc, pieces, told, &gathered.alone)?;
+    let mut added = gathered.added;
+    items.append(&mut added)?;
+    Ok(items)
+}
+
+/// The items of what is gathered that don't stand behind a bar.
+pub(crate) fn items_near<'a, R: Threads + Sync, T: Tells + Sync>(
+    rt: &R,
+    alloc: Global,
+    pieces: u32,
+    told: &'a T,
+    gathered: &Gathering<'a>,
+    panel: Panel,
+    bar: &Told<'_>,
+) -> Result<Vec<Told<'a>>, NoMemory>
+    requires { All (λ spot. spot.place < length (T.view told.now).rows) gathered.now.alone.items }
+    ensures { IfOk result (λ items. items.items
+        ≡ filter (is_up_to (order panel) bar.now) (items_of (T.view told.now).rows gathered.now.alone.items gathered.now.added.items)) }
+{
+    let mut items = rows_near(rt, alloc, pieces, told, &gathered.alone, panel, bar)?;
+    let mut added = up_to(alloc, &gathered.added, panel, bar)?;
+    items.append(&mut added)?;
     Ok(items)
 }
 

@@ -2,13 +2,14 @@ ghost use Rattle.std.specs.Prelude.{◌≡◌, ◌<◌, ℕ, IfOk, List, All, Ok
 ghost use Rattle.std.specs.List.Sorted.{IsSorted};
 ghost use Rattle.ga_base.specs.declared.panel.Panel.TheVariants.{Visitors as FirstPanel};
 ghost use Rattle.ga_base.specs.Layers.{has_groups};
+ghost use Rattle.ga_report.specs.Items.{order};
 ghost use Rattle.ga_report.specs.Printable.{IsPrintable};
 ghost use Rattle.ga_report.specs.Reports.{AreChildren, IsPanelList, IsReport, IsRow, Pairwise, data_of, general_of, panels_of, shown_as};
-ghost use Rattle.ga_report.specs.Steps.Summed.{AreSummed, DayFits, IsPart, by_parent, panel_rows, undate, with_day};
+ghost use Rattle.ga_report.specs.Steps.Summed.{AreFirst, AreSummed, DayFits, IsPart, by_parent, panel_rows, undate, with_day};
 ghost use Rattle.ga_report.specs.Told.{ToldRow};
 
 use crate::arranging::{entries_of, has_groups, top_groups, top_of_many};
-use crate::gathering::{grouped, items_of};
+use crate::gathering::{all_items, gathered, grouped};
 use crate::item_name::ItemName;
 use crate::places::places_of;
 use crate::{
@@ -178,32 +179,32 @@ fn panel_list<R: Threads + Sync, T: Tells + Sync>(
     requires { general.now ≡ general_of (T.view told.now) }
     ensures { IfOk result (IsPanelList general.now max_items (T.view told.now).rows panel) }
 {
-    let items = items_of(rt, alloc, pieces, told, panel)?;
+    // What is known of the totals is that an item is a part of the whole.
+    let _totals = told.totals();
+    let gathered = gathered(rt, alloc, pieces, told, panel)?;
     if has_groups(panel) {
+        let items = all_items(rt, alloc, pieces, told, gathered)?;
         list_with_groups(alloc, general, items, panel, max_items)
     } else {
-        plain_list(rt, alloc, pieces, general, items, panel, max_items)
+        let tops = top_of_many(rt, alloc, pieces, told, gathered, panel, max_items)?;
+        plain_list(alloc, general, &tops, panel)
     }
 }
 
-/// The list of a panel without groups.
-fn plain_list<R: Threads + Sync>(
-    rt: &R,
+/// The list of a panel without groups, of its first items.
+fn plain_list(
     alloc: Global,
-    pieces: u32,
     general: &General,
-    items: Vec<Told<'_>>,
+    tops: &[Told<'_>],
     panel: Panel,
-    max_items: u64,
 ) -> Result<PanelList, NoMemory>
     requires plain { has_groups panel ≡ false }
-    requires panel { All (λ item. item.key.panel ≡ panel) items.items }
-    requires parts { All (IsPart general.now) items.items }
-    ensures { IfOk result (λ list. (told : List ToldRow) → AreSummed (panel_rows panel told) items.entry.items
-        → IsPanelList general.now max_items told panel list) }
+    requires panel { All (λ top. top.key.panel ≡ panel) tops.now }
+    requires parts { All (IsPart general.now) tops.now }
+    ensures { IfOk result (λ list. (most : ℕ) (told items : List ToldRow) → AreSummed (panel_rows panel told) items
+        → AreFirst (order panel) most items tops.now → IsPanelList general.now most told panel list) }
 {
-    let tops = top_of_many(rt, alloc, pieces, items, panel, max_items)?;
-    let rows = plain_rows(alloc, general, &tops)?;
+    let rows = plain_rows(alloc, general, tops)?;
     Ok(PanelList { panel, rows })
 }
 

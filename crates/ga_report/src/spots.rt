@@ -1,12 +1,15 @@
-ghost use Rattle.std.specs.Prelude.{◌≡◌, ◌<◌, [], All, IfOk, List, length};
+ghost use Rattle.std.specs.Prelude.{◌≡◌, ◌<◌, [], All, IfOk, List, filter, length};
 ghost use Rattle.std.specs.List.{filter_map};
 ghost use Rattle.std.specs.Thread.{IsSync};
+ghost use Rattle.ga_report.specs.Items.{order};
 ghost use Rattle.ga_report.specs.Steps.Alone.{AreParted, has_none};
 ghost use Rattle.ga_report.specs.Steps.Places.{AreSpots, rows_at, spot_at};
+ghost use Rattle.ga_report.specs.Steps.Summed.{is_up_to};
 ghost use Rattle.ga_report.specs.Told.{ToldRow};
 
+use crate::arranging::is_behind;
 use crate::{Tells, Told};
-use ga_base::NoMemory;
+use ga_base::{NoMemory, Panel};
 use ga_shards::text_hash;
 use std::alloc::Global;
 use std::marker::Sync;
@@ -130,6 +133,61 @@ fn rows_in_turn<'a, T: Tells>(
     let mut rows = Vec::with_capacity(alloc, spots.len())?;
     for spot in spots {
         rows.push(told.row(spot.place))?;
+    }
+    Ok(rows)
+}
+
+/// The rows at these spots that don't stand behind a bar, found in so many pieces side by side.
+#[cycle(passing)]
+pub(crate) fn rows_near<'a, R: Threads + Sync, T: Tells + Sync>(
+    rt: &R,
+    alloc: Global,
+    pieces: u32,
+    told: &'a T,
+    spots: &[Spot],
+    panel: Panel,
+    bar: &Told<'_>,
+) -> Result<Vec<Told<'a>>, NoMemory>
+    requires { All (λ spot. spot.place < length (T.view told.now).rows) spots.now }
+    ensures { IfOk result (λ rows. rows.items ≡ filter (is_up_to (order panel) bar.now) (rows_at (T.view told.now).rows spots.now)) }
+{
+    if pieces < 2 || spots.len() < MANY {
+        return rows_near_in_turn(alloc, told, spots, panel, bar);
+    }
+    let (low, high) = spots.split_at(spots.len() / 2);
+    let front = move || -> Result<Vec<Told<'_>>, NoMemory>
+        requires { IsSync R.row × All (λ spot. spot.place < length (T.view told.now).rows) low.now }
+        ensures { IfOk result (λ rows. rows.items
+            ≡ filter (is_up_to (order panel) bar.entry.now) (rows_at (T.view told.entry.now).rows low.entry.now)) }
+    { rows_near(rt, alloc, pieces / 2, told, low, panel, bar) };
+    let back = move || -> Result<Vec<Told<'_>>, NoMemory>
+        requires { IsSync R.row × All (λ spot. spot.place < length (T.view told.now).rows) high.now }
+        ensures { IfOk result (λ rows. rows.items
+            ≡ filter (is_up_to (order panel) bar.entry.now) (rows_at (T.view told.entry.now).rows high.entry.now)) }
+    { rows_near(rt, alloc, pieces / 2, told, high, panel, bar) };
+    let (front, back) = thread::join(rt, front, back);
+    let mut rows = front?;
+    rows.append(&mut back?)?;
+    Ok(rows)
+}
+
+/// The rows at these spots that don't stand behind a bar.
+fn rows_near_in_turn<'a, T: Tells>(
+    alloc: Global,
+    told: &'a T,
+    spots: &[Spot],
+    panel: Panel,
+    bar: &Told<'_>,
+) -> Result<Vec<Told<'a>>, NoMemory>
+    requires { All (λ spot. spot.place < length (T.view told.now).rows) spots.now }
+    ensures { IfOk result (λ rows. rows.items ≡ filter (is_up_to (order panel) bar.now) (rows_at (T.view told.now).rows spots.now)) }
+{
+    let mut rows = Vec::new(alloc);
+    for spot in spots {
+        let row = told.row(spot.place);
+        if !is_behind(panel, bar, &row) {
+            rows.push(row)?;
+        }
     }
     Ok(rows)
 }

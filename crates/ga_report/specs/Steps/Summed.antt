@@ -56,6 +56,10 @@ pub record CanAddUp (rows : List ToldRow) (spots : List Spot) : Type 0 where
   pub there : AreSpots rows spots (rows_at rows spots)
   pub fit : AreAddable (rows_at rows spots)
 
+-- the items of what is gathered: rows by themselves, and others
+abbrev pub items_of : List ToldRow → List Spot → List ToldRow → List ToldRow
+items_of rows alone added = rows_at rows alone ++ added
+
 -- an item's numbers are parts of the whole
 pub record IsPart (general : General) (item : ToldRow) : Type 0 where
   pub hits : item.sums.hits ≤ general.valid_requests

@@ -1,8 +1,8 @@
 use Rattle.std.proofs.Common.{◌-◌, ◌*◌}
-use Rattle.ga_report.proofs.arranging.+passing.Given as goal
+use Rattle.ga_report.proofs.spots.+passing.Given as goal
 
-abbrev pub decreases-up_to : goal.decreases-up_to
-decreases-up_to g l = 2 * l.pieces
+abbrev pub decreases-rows_near : goal.decreases-rows_near
+decreases-rows_near g l = 2 * l.pieces
 
 abbrev pub decreases-front : goal.decreases-front
 decreases-front g l = 2 * l.pieces - 1
