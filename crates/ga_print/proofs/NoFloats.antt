@@ -1,4 +1,4 @@
--- No tree of a report has a float, and members that are put one after the other are put at once.
+-- No tree of a row or of the general numbers has a float, and members that are put one after the other are put at once.
 use Rattle.std.proofs.Common.{◌≡◌, ℕ, Bool, true, false, ◌||◌, List, [], ◌∷◌, ◌++◌, map, refl, Less, Equal, Greater}
 use Rattle.std.specs.List.{AllByRecursion}
 use Rattle.std.specs.Ordering.{nat_cmp, match_ordering}
@@ -8,13 +8,10 @@ use Rattle.std.specs.Cmp.Lexicographic.{slice_cmp}
 use Rattle.serde_json.specs.Data.{Data, Members, no_members, member, put}
 use Rattle.serde_json.specs.View.{items_of}
 use Rattle.serde_json.specs.Written.{has_float, items_have_float, members_have_float}
-use Rattle.ga_base.specs.Layers.{has_groups}
 use Rattle.ga_report.specs.declared.report.General.{General}
 use Rattle.ga_report.specs.declared.report.Item.{Item}
-use Rattle.ga_report.specs.declared.report.PanelList.{PanelList}
-use Rattle.ga_report.specs.declared.report.Report.{Report}
 use Rattle.ga_report.specs.declared.report.Row.{Row}
-use Rattle.ga_print.specs.Json.{put_all, object_of, share_of, where_present, item_members, item_tree, children_of, row_tree, panel_tree, general_tree, panel_member, report_tree}
+use Rattle.ga_print.specs.Json.{put_all, object_of, share_of, where_present, item_members, item_tree, children_of, row_tree, general_tree}
 
 pub put_all-append : (done : Members) (xs ys : List (List ℕ × Data)) → put_all done (xs ++ ys) ≡ put_all (put_all done xs) ys
 put_all-append done [] ys = refl
@@ -103,22 +100,10 @@ children-none : (groups : Bool) (children : List Item) → NoFloats (children_of
 children-none false children = tt
 children-none true children = (items-none Item item_tree item-none children, tt)
 
-row-none : (groups : Bool) (row : Row) → has_float (row_tree groups row) ≡ false
+pub row-none : (groups : Bool) (row : Row) → has_float (row_tree groups row) ≡ false
 unfolding row_tree
 row-none groups row = object-none (item_members row.item ++ children_of groups row.children) (append-none (item_members row.item) (children_of groups row.children) (members-none row.item) (children-none groups row.children))
 
-panel-none : (list : PanelList) → has_float (panel_tree list) ≡ false
-unfolding panel_tree
-panel-none list = object-none _ (items-none Row (row_tree (has_groups list.panel)) (row-none (has_groups list.panel)) list.rows, tt)
-
-general-none : (general : General) → has_float (general_tree general) ≡ false
+pub general-none : (general : General) → has_float (general_tree general) ≡ false
 unfolding general_tree
 general-none general = object-none _ (refl, (refl, (refl, (refl, (refl, (refl, tt))))))
-
-panels-none : (lists : List PanelList) → NoFloats (map panel_member lists)
-panels-none [] = tt
-panels-none (list ∷ lists) = (panel-none list, panels-none lists)
-
-pub report-none : (report : Report) → has_float (report_tree report) ≡ false
-unfolding report_tree
-report-none report = object-none _ (general-none report.general, panels-none report.panels)

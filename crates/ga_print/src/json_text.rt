@@ -1,107 +1,114 @@
-ghost use Rattle.std.specs.Prelude.{◌≡◌, ◌≤◌, All, IfOk, OnOk, map};
-ghost use Rattle.serde_json.specs.Data.{no_members};
-ghost use Rattle.serde_json.specs.View.{items_of, members_view, view};
-ghost use Rattle.ga_report.specs.Printable.{HasHits, IsPrintable};
+ghost use Rattle.std.specs.Prelude.{◌≡◌, ◌++◌, ◌∷◌, [], All, IfOk, OnOk, false, map, string_bytes};
+ghost use Rattle.std.specs.Thread.{IsSync};
+ghost use Rattle.serde_json.specs.Data.{string};
+ghost use Rattle.serde_json.specs.View.{items_of, members_view};
+ghost use Rattle.serde_json.specs.Written.{compact_text, items_text};
 ghost use Rattle.ga_base.specs.Layers.{has_groups};
-ghost use Rattle.ga_print.specs.Json.{children_of, general_tree, item_members, item_tree, json_text, panel_member, panel_tree, put_all, report_tree, row_tree};
+ghost use Rattle.ga_report.specs.Printable.{HasHits, IsPrintable};
+ghost use Rattle.ga_print.specs.Json.{general_tree, json_text, panel_tree, put_all, row_tree};
+ghost use Rattle.ga_print.specs.Steps.Texts.{object_text, panel_text, text_member, texts_text};
 
-use crate::members::{Members, put, put_count, put_present, put_share, put_text};
+use crate::members::{Members, put};
 use crate::panel_name::panel_name;
+use crate::trees::{general_tree, row_tree};
 use ga_base::{Bytes, NoMemory, Panel};
-use ga_report::{General, Item, PanelList, Report, Row};
+use ga_report::{General, PanelList, Report, Row};
 use serde_json::Value;
 use std::alloc::Global;
+use std::marker::Sync;
+use std::thread::{self, Threads};
 
-/// The report as JSON, which ends with a line feed (own profile).
+/// A panel's text.
+#[derive(Drop)]
+pub(crate) struct PanelText {
+    pub(crate) panel: Panel,
+    pub(crate) text: String,
+}
+
+/// The report as JSON, which ends with a line feed (own profile). With more jobs than one, the text of each panel is made in a
+/// thread of its own.
 #[tactic(auto, unfolding(crate::specs::Json::json_text))]
-pub fn json(alloc: Global, report: &Report) -> Result<Bytes, NoMemory>
+pub fn json<R: Threads + Sync>(
+    rt: &R,
+    alloc: Global,
+    report: &Report,
+    jobs: u32,
+) -> Result<Bytes, NoMemory>
     requires { IsPrintable report.now }
     ensures { IfOk result (λ text. text ≡ json_text report.now) }
 {
-    let tree = report_tree(alloc, report)?;
-    let mut text = tree.to_string(alloc)?;
+    let mut members = Members::new(alloc);
+    let general = general_text(alloc, &report.general)?;
+    put(&mut members, alloc, "general", Value::from(general))?;
+    let panels = panel_texts(rt, alloc, report.panels.items(), jobs > 1)?;
+    put_panels(&mut members, alloc, panels)?;
+    let mut text = object_text(alloc, &members)?;
     text.push('\n')?;
     Ok(Bytes::from(text.into_bytes()))
 }
 
-/// The report's tree.
-#[tactic(auto, unfolding(crate::specs::Json::report_tree, crate::specs::Json::object_of))]
-fn report_tree(alloc: Global, report: &Report) -> Result<Value, NoMemory>
-    requires { IsPrintable report.now }
-    ensures { IfOk result (λ tree. view tree ≡ report_tree report.now) }
+/// The text of the general numbers.
+fn general_text(alloc: Global, general: &General) -> Result<String, NoMemory>
+    ensures { IfOk result (λ text. string_bytes text ≡ compact_text (general_tree general.now)) }
 {
-    let mut members = Members::new(alloc);
-    put(
-        &mut members,
-        alloc,
-        "general",
-        general_tree(alloc, &report.general)?,
-    )?;
-    put_panels(&mut members, alloc, report.panels.items())?;
-    Ok(Value::from(members))
+    Ok(general_tree(alloc, general)?.to_string(alloc)?)
 }
 
-/// The tree of the general numbers.
-#[tactic(auto, unfolding(crate::specs::Json::general_tree, crate::specs::Json::object_of))]
-fn general_tree(alloc: Global, general: &General) -> Result<Value, NoMemory>
-    ensures { IfOk result (λ tree. view tree ≡ general_tree general.now) }
-{
-    let mut members = Members::new(alloc);
-    put_count(&mut members, alloc, "bandwidth", general.bandwidth)?;
-    put_count(&mut members, alloc, "excluded_hits", general.excluded_hits)?;
-    put_count(
-        &mut members,
-        alloc,
-        "failed_requests",
-        general.failed_requests,
-    )?;
-    put_count(
-        &mut members,
-        alloc,
-        "total_requests",
-        general.total_requests,
-    )?;
-    put_count(
-        &mut members,
-        alloc,
-        "unique_visitors",
-        general.unique_visitors,
-    )?;
-    put_count(
-        &mut members,
-        alloc,
-        "valid_requests",
-        general.valid_requests,
-    )?;
-    Ok(Value::from(members))
-}
-
-/// Puts a member for each panel.
-fn put_panels(members: &mut Members, alloc: Global, lists: &[PanelList]) -> Result<(), NoMemory>
+/// The texts of panels, which are made side by side or one after the other.
+#[cycle(writing)]
+fn panel_texts<R: Threads + Sync>(
+    rt: &R,
+    alloc: Global,
+    lists: &[PanelList],
+    side_by_side: bool,
+) -> Result<Vec<PanelText>, NoMemory>
     requires { All (λ list. All HasHits list.rows) lists.now }
-    ensures { OnOk result (members_view members.new.entries ≡ put_all (members_view members.old.entries) (map panel_member lists.now)) }
+    ensures { IfOk result (λ texts. map text_member texts.items ≡ map panel_text lists.now) }
 {
-    for list in lists {
-        put(
-            members,
-            alloc,
-            panel_name(list.panel),
-            panel_tree(alloc, list)?,
-        )?;
+    if !side_by_side || lists.len() < 2 {
+        return texts_in_turn(alloc, lists);
     }
-    Ok(())
+    let (low, high) = lists.split_at(lists.len() / 2);
+    let front = move || -> Result<Vec<PanelText>, NoMemory>
+        requires { IsSync R.row × All (λ list. All HasHits list.rows) low.now }
+        ensures { IfOk result (λ texts. map text_member texts.items ≡ map panel_text low.entry.now) }
+    { panel_texts(rt, alloc, low, true) };
+    let back = move || -> Result<Vec<PanelText>, NoMemory>
+        requires { IsSync R.row × All (λ list. All HasHits list.rows) high.now }
+        ensures { IfOk result (λ texts. map text_member texts.items ≡ map panel_text high.entry.now) }
+    { panel_texts(rt, alloc, high, true) };
+    let (front, back) = thread::join(rt, front, back);
+    let mut texts = front?;
+    texts.append(&mut back?)?;
+    Ok(texts)
 }
 
-/// The tree of a panel.
-#[tactic(auto, unfolding(crate::specs::Json::panel_tree, crate::specs::Json::object_of))]
-fn panel_tree(alloc: Global, list: &PanelList) -> Result<Value, NoMemory>
-    requires { All HasHits list.now.rows }
-    ensures { IfOk result (λ tree. view tree ≡ panel_tree list.now) }
+/// The texts of panels, one after the other.
+fn texts_in_turn(alloc: Global, lists: &[PanelList]) -> Result<Vec<PanelText>, NoMemory>
+    requires { All (λ list. All HasHits list.rows) lists.now }
+    ensures { IfOk result (λ texts. map text_member texts.items ≡ map panel_text lists.now) }
 {
-    let rows = row_trees(alloc, has_groups(list.panel), list.rows.items())?;
-    let mut members = Members::new(alloc);
-    put(&mut members, alloc, "data", Value::from(rows))?;
-    Ok(Value::from(members))
+    let mut texts = Vec::new(alloc);
+    for list in lists {
+        let text = text_of(alloc, list)?;
+        texts.push(PanelText {
+            panel: list.panel,
+            text,
+        })?;
+    }
+    Ok(texts)
+}
+
+/// The text of a panel. A row's tree is made, written and dropped before the next one's.
+#[tactic(auto, unfolding(crate::specs::Json::panel_tree, crate::specs::Json::object_of))]
+fn text_of(alloc: Global, list: &PanelList) -> Result<String, NoMemory>
+    requires { All HasHits list.now.rows }
+    ensures { IfOk result (λ text. string_bytes text ≡ compact_text (panel_tree list.now)) }
+{
+    let mut text = String::from_str(alloc, "{\"data\":[")?;
+    write_rows(&mut text, alloc, has_groups(list.panel), list.rows.items())?;
+    text.push('}')?;
+    Ok(text)
 }
 
 /// Whether the entries of a panel stand in groups.
@@ -114,86 +121,68 @@ fn has_groups(panel: Panel) -> bool
     )
 }
 
-/// The trees of rows.
-fn row_trees(alloc: Global, groups: bool, rows: &[Row]) -> Result<Vec<Value>, NoMemory>
+/// Writes the rows of a panel, and the bracket behind them.
+fn write_rows(text: &mut String, alloc: Global, groups: bool, rows: &[Row]) -> Result<(), NoMemory>
     requires { All HasHits rows.now }
-    ensures { IfOk result (λ trees. map view trees.items ≡ map (row_tree groups) rows.now) }
+    ensures { OnOk result (string_bytes text.new ≡ string_bytes text.old ++ items_text false (items_of (map (row_tree groups) rows.now))) }
 {
-    let mut trees = Vec::new(alloc);
+    let mut later = false;
     for row in rows {
-        trees.push(row_tree(alloc, groups, row)?)?;
+        if later {
+            text.push(',')?;
+        }
+        text.push_str(row_text(alloc, groups, row)?.as_str())?;
+        later = true;
     }
-    Ok(trees)
+    text.push(']')?;
+    Ok(())
 }
 
-/// The tree of a row, with its children in a panel with groups.
-fn row_tree(alloc: Global, groups: bool, row: &Row) -> Result<Value, NoMemory>
+/// The text of a row.
+fn row_text(alloc: Global, groups: bool, row: &Row) -> Result<String, NoMemory>
     requires { HasHits row.now }
-    ensures { IfOk result (λ tree. view tree ≡ row_tree groups row.now) }
+    ensures { IfOk result (λ text. string_bytes text ≡ compact_text (row_tree groups row.now)) }
 {
-    let mut members = item_members(alloc, &row.item)?;
-    put_children(&mut members, alloc, groups, row.children.items())?;
-    Ok(Value::from(members))
+    Ok(row_tree(alloc, groups, row)?.to_string(alloc)?)
 }
 
-/// Puts the children of a row of a panel with groups.
-fn put_children(
-    members: &mut Members,
-    alloc: Global,
-    groups: bool,
-    children: &[Item],
-) -> Result<(), NoMemory>
-    requires { All (λ item. 1 ≤ item.hits) children.now }
-    ensures { OnOk result (members_view members.new.entries ≡ put_all (members_view members.old.entries) (children_of groups children.now)) }
+/// Puts a member for each panel's text.
+fn put_panels(members: &mut Members, alloc: Global, panels: Vec<PanelText>) -> Result<(), NoMemory>
+    ensures { OnOk result (members_view members.new.entries ≡ put_all (members_view members.old.entries) (map text_member panels.items)) }
 {
-    if !groups {
-        return Ok(());
+    for panel in panels {
+        put(
+            members,
+            alloc,
+            panel_name(panel.panel),
+            Value::from(panel.text),
+        )?;
     }
-    let trees = item_trees(alloc, children)?;
-    put(members, alloc, "items", Value::from(trees))
+    Ok(())
 }
 
-/// The trees of items.
-fn item_trees(alloc: Global, items: &[Item]) -> Result<Vec<Value>, NoMemory>
-    requires { All (λ item. 1 ≤ item.hits) items.now }
-    ensures { IfOk result (λ trees. map view trees.items ≡ map item_tree items.now) }
+/// The text of an object, each of whose members' values is a text that is written as it is.
+fn object_text(alloc: Global, members: &Members) -> Result<String, NoMemory>
+    ensures { IfOk result (λ text. string_bytes text ≡ object_text (members_view members.now.entries)) }
 {
-    let mut trees = Vec::new(alloc);
-    for item in items {
-        trees.push(item_tree(alloc, item)?)?;
+    let mut text = String::from_str(alloc, "{")?;
+    let mut later = false;
+    for (name, value) in members {
+        if later {
+            text.push(',')?;
+        }
+        text.push_str(quoted(alloc, name.as_str())?.as_str())?;
+        text.push(':')?;
+        text.push_str(value.as_str().unwrap_or(""))?;
+        later = true;
     }
-    Ok(trees)
+    text.push('}')?;
+    Ok(text)
 }
 
-/// The tree of an item.
-#[tactic(auto, unfolding(crate::specs::Json::item_tree, crate::specs::Json::object_of))]
-fn item_tree(alloc: Global, item: &Item) -> Result<Value, NoMemory>
-    requires { 1 ≤ item.now.hits }
-    ensures { IfOk result (λ tree. view tree ≡ item_tree item.now) }
+/// A name as JSON has it.
+fn quoted(alloc: Global, name: &str) -> Result<String, NoMemory>
+    ensures { IfOk result (λ text. string_bytes text ≡ compact_text (string name.now)) }
 {
-    Ok(Value::from(item_members(alloc, item)?))
-}
-
-/// The members of an item's tree.
-fn item_members(alloc: Global, item: &Item) -> Result<Members, NoMemory>
-    requires { 1 ≤ item.now.hits }
-    ensures { IfOk result (λ members. members_view members.entries ≡ put_all no_members (item_members item.now)) }
-{
-    let mut members = Members::new(alloc);
-    put_count(&mut members, alloc, "avgts", item.micros / item.hits)?;
-    put_share(&mut members, alloc, "bytes", item.bytes, item.bytes_percent)?;
-    put_count(&mut members, alloc, "cumts", item.micros)?;
-    put_text(&mut members, alloc, "data", item.label.as_str())?;
-    put_share(&mut members, alloc, "hits", item.hits, item.hits_percent)?;
-    put_count(&mut members, alloc, "maxts", item.max_micros)?;
-    put_share(
-        &mut members,
-        alloc,
-        "visitors",
-        item.visitors,
-        item.visitors_percent,
-    )?;
-    put_present(&mut members, alloc, "method", &item.method)?;
-    put_present(&mut members, alloc, "protocol", &item.protocol)?;
-    Ok(members)
+    Ok(Value::try_from_str(alloc, name)?.to_string(alloc)?)
 }

@@ -9,6 +9,7 @@ mod json_text;
 mod members;
 mod panel_name;
 mod percent;
+mod trees;
 
 pub use csv_text::csv;
 pub use json_text::json;

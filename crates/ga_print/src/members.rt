@@ -84,11 +84,7 @@ fn share(alloc: Global, n: u64, hundredths: u64) -> Result<Value, NoMemory>
 {
     let mut members = Members::new(alloc);
     put_count(&mut members, alloc, "count", n)?;
-    put_text(
-        &mut members,
-        alloc,
-        "percent",
-        percent_text(alloc, hundredths)?.as_str(),
-    )?;
+    let percent = percent_text(alloc, hundredths)?;
+    put(&mut members, alloc, "percent", Value::from(percent))?;
     Ok(Value::from(members))
 }

@@ -73,7 +73,7 @@ fn count(sum: &mut Summary, alloc: Global, label: &str) -> Result<(), Fail> {
 fn prints_an_empty_log(rt: HostRuntime) -> Result<(), Fail> {
     let alloc = rt.alloc();
     let report = rows(&rt, alloc, &Summary::empty(alloc), &PanelSet::all(), 366, 1)?;
-    let text = json(alloc, &report)?;
+    let text = json(&rt, alloc, &report, 4)?;
     assert_eq!(rt;
         text.bytes(),
         b"{\"browsers\":{\"data\":[]},\"cache_status\":{\"data\":[]},\"general\":{\"bandwidth\":0,\"excluded_hits\":0,\"failed_requests\":0,\"total_requests\":0,\"unique_visitors\":0,\"valid_requests\":0},\"hosts\":{\"data\":[]},\"keyphrases\":{\"data\":[]},\"mime_type\":{\"data\":[]},\"not_found\":{\"data\":[]},\"os\":{\"data\":[]},\"referrers\":{\"data\":[]},\"referring_sites\":{\"data\":[]},\"remote_user\":{\"data\":[]},\"requests\":{\"data\":[]},\"requests_static\":{\"data\":[]},\"status_codes\":{\"data\":[]},\"tls_type\":{\"data\":[]},\"virtual_hosts\":{\"data\":[]},\"visit_times\":{\"data\":[]},\"visitors\":{\"data\":[]}}\n".as_slice()
@@ -105,7 +105,7 @@ fn prints_awkward_names(rt: HostRuntime) -> Result<(), Fail> {
          1,,hosts,1,33.33,0,0.00,10,33.33,0,0,0,,,\"a,\"\"\u{e9}\r\n\0\"\n"
             .as_bytes()
     );
-    let text = json(alloc, &report)?;
+    let text = json(&rt, alloc, &report, 1)?;
     assert_eq!(rt;
         text.bytes(),
         "{\"general\":{\"bandwidth\":30,\"excluded_hits\":0,\"failed_requests\":0,\"total_requests\":3,\"unique_visitors\":0,\"valid_requests\":3},\

@@ -383,27 +383,39 @@ fn text_of<R: Threads + Sync, T: Tells + Sync>(
     let jobs = workers_of(settings).jobs;
     let report = rows(rt, alloc, told, &settings.panels, settings.max_items, jobs)?;
     match settings.generate {
-        None => report_text(alloc, settings.output.kind, &report),
-        Some(lines) => generated_text(alloc, lines, &report),
+        None => report_text(rt, alloc, settings.output.kind, &report, jobs),
+        Some(lines) => generated_text(rt, alloc, lines, &report, jobs),
     }
 }
 
 /// A report as this kind of text.
-fn report_text(alloc: Global, kind: Kind, report: &Report) -> Result<Bytes, NoMemory>
+fn report_text<R: Threads + Sync>(
+    rt: &R,
+    alloc: Global,
+    kind: Kind,
+    report: &Report,
+    jobs: u32,
+) -> Result<Bytes, NoMemory>
     requires { IsPrintable report.now }
     ensures { IfOk result (λ text. text ≡ text_as kind report.now) }
 {
     match kind {
-        Kind::Json => json(alloc, report),
+        Kind::Json => json(rt, alloc, report, jobs),
         Kind::Csv => csv(alloc, report),
     }
 }
 
 /// What is printed of a report on so many generated lines.
-fn generated_text(alloc: Global, lines: u32, report: &Report) -> Result<Bytes, NoMemory>
+fn generated_text<R: Threads + Sync>(
+    rt: &R,
+    alloc: Global,
+    lines: u32,
+    report: &Report,
+    jobs: u32,
+) -> Result<Bytes, NoMemory>
     requires { IsPrintable report.now }
     ensures { IfOk result (λ text. text ≡ summary_text lines report.now.general (json_text report.now)) }
 {
-    let json = json(alloc, report)?;
+    let json = json(rt, alloc, report, jobs)?;
     summary(alloc, lines, &report.general, json.bytes())
 }

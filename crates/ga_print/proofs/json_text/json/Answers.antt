@@ -1,12 +1,18 @@
-use Rattle.std.proofs.Common.{◌++◌, ◌∷◌, [], ap, ◌∙◌, List, ℕ, Vec, Global}
-use Rattle.serde_json.specs.Written.{compact_text, has_float}
-use Rattle.ga_print.specs.Json.{json_text}
-use Rattle.ga_print.proofs.NoFloats.{report-none}
+use Rattle.std.proofs.Common.{◌++◌, ◌∷◌, [], ap, ◌∙◌, List, ℕ, Vec, Global, map}
+use Rattle.std.specs.Prelude.{codes}
+use Rattle.serde_json.specs.Data.{put, string}
+use Rattle.serde_json.specs.View.{members_view}
+use Rattle.ga_print.specs.Json.{json_text, put_all}
+use Rattle.ga_print.specs.Steps.Texts.{object_text, panel_text}
+use Rattle.ga_print.proofs.Texts.{report-texts}
 use Rattle.ga_print.proofs.json_text.json.Goals as goal
 
 pub returns : goal.returns
 unfolding json_text lib.Utf8.encode
-returns c =
-    let text = c.in_ok-text.ensures.text (ap has_float c.in_ok-tree.ensures ∙ report-none c.args.report.now) in
-    c.from.ensures ∙ ap (λ (v : Vec ℕ Global). v.items) c.into_bytes.ensures.value ∙ c.in_ok-push.ensures.bytes
-    ∙ ap (λ (x : List ℕ). x ++ 10 ∷ []) (text ∙ ap compact_text c.in_ok-tree.ensures)
+returns g c =
+    let general = c.from.ensures ∙ ap string c.in_ok-general.ensures in
+    let first = c.in_ok-put.ensures ∙ (λ i. put (codes "general") (general i) (members_view (c.new-members.ensures.empty i))) in
+    let panels = c.in_ok-panels.ensures ∙ ap (map panel_text) c.items.ensures in
+    c.from-2.ensures ∙ ap (λ (v : Vec ℕ Global). v.items) c.into_bytes.ensures.value ∙ c.in_ok-push.ensures.bytes
+    ∙ ap (λ (x : List ℕ). x ++ 10 ∷ [])
+    (c.in_ok-text.ensures ∙ ap object_text (c.in_ok-put_panels.ensures ∙ (λ i. put_all (first i) (panels i))) ∙ report-texts c.args.report.now)

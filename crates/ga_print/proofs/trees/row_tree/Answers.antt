@@ -2,7 +2,7 @@ use Rattle.std.proofs.Common.{ap, sym, ◌∙◌}
 use Rattle.serde_json.specs.Data.{Members, object, no_members}
 use Rattle.ga_print.specs.Json.{children_of, item_members, object_of, put_all, row_tree}
 use Rattle.ga_print.proofs.NoFloats.{put_all-append}
-use Rattle.ga_print.proofs.json_text.row_tree.Goals as goal
+use Rattle.ga_print.proofs.trees.row_tree.Goals as goal
 
 pub returns : goal.returns
 unfolding row_tree object_of

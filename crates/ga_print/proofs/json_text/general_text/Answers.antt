@@ -1,0 +1,8 @@
+use Rattle.std.proofs.Common.{ap, ◌∙◌}
+use Rattle.serde_json.specs.Written.{compact_text, has_float}
+use Rattle.ga_print.proofs.NoFloats.{general-none}
+use Rattle.ga_print.proofs.json_text.general_text.Goals as goal
+
+pub returns : goal.returns
+returns c =
+    c.in_ok-to_string.ensures.text (ap has_float c.in_ok-general_tree.ensures ∙ general-none c.args.general.now) ∙ ap compact_text c.in_ok-general_tree.ensures
