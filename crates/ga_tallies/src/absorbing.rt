@@ -74,8 +74,8 @@ fn note_both<R: Threads + Sync>(
     Ok((keys?, visitors?))
 }
 
-/// Adds what others have counted to the sums and pairs of so many keys, one after the other. What one of them has counted takes
-/// no memory any more when the next is added.
+/// Adds what others have counted to the sums and pairs of so many keys, one after the other. What one of them has counted is
+/// dropped while the next is added.
 fn add_moves<R: Threads + Sync>(
     rt: &R,
     keys: usize,
@@ -89,10 +89,35 @@ fn add_moves<R: Threads + Sync>(
 {
     let mut sums = sums;
     let mut pairs = pairs;
+    let mut added = None;
     for moved in moves {
-        (sums, pairs) = add_both(rt, keys, sums, pairs, &moved)?;
+        (sums, pairs) = add_next(rt, keys, sums, pairs, &moved, added)?;
+        added = Some(moved);
     }
     Ok((sums, pairs))
+}
+
+/// Adds what another has counted to sums and to pairs, and drops beside it what was added before.
+fn add_next<R: Threads + Sync>(
+    rt: &R,
+    keys: usize,
+    sums: Vec<Sums>,
+    pairs: PairList,
+    moved: &Moved,
+    added: Option<Moved>,
+) -> Result<(Vec<Sums>, PairList), NoMemory>
+    requires { (pair : ℕ × ℕ) → IsBrought (move_of moved.now) pair → pair.0 < keys }
+    ensures sums { IfOk result (λ both. both.0.items ≡ rows_added moved.now.keys.items moved.now.counts.sums.items sums.items) }
+    ensures pairs { IfOk result (λ both. AddsSuch (IsBrought (move_of moved.now)) pairs both.1) }
+{
+    let forget = move || drop(added);
+    let add = move || -> Result<(Vec<Sums>, PairList), NoMemory>
+        requires { (pair : ℕ × ℕ) → IsBrought (move_of moved.now) pair → pair.0 < keys }
+        ensures { IfOk result (λ both. (both.0.items ≡ rows_added moved.entry.now.keys.items moved.entry.now.counts.sums.items sums.items)
+            × AddsSuch (IsBrought (move_of moved.entry.now)) pairs both.1) }
+    { add_both(rt, keys, sums, pairs, moved) };
+    let ((), both) = thread::join(rt, forget, add);
+    both
 }
 
 /// Adds what another has counted to sums and to pairs, side by side.

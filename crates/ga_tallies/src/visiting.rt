@@ -12,6 +12,9 @@ use std::thread::{Threads, join_mut};
 /// Of fewer keys no parts are made.
 const FEW: usize = 256;
 
+/// A key that has no visitor yet counts as one of so many. It is a new one, and another brings its visitors.
+const NEW: usize = 16;
+
 /// Adds the pairs that another brings to the rows of keys, of which the first has the number `first`, in so many parts, side by
 /// side. The parts are halves of halves by what the rows hold before.
 #[cycle(parts)]
@@ -35,7 +38,7 @@ pub(crate) fn add_in_parts<R: Threads + Sync>(
             rows,
         );
     }
-    let middle = middle_of(rows);
+    let middle = middle_of(rows, NEW);
     let (low, high) = rows.split_at_mut(middle);
     add_halves(rt, parts / 2, moved, first, low, first + middle, high)
 }

@@ -1,5 +1,5 @@
 -- The parts in which the keys are counted, one behind the other.
-use Rattle.std.proofs.Common.{◌≡◌, ℕ, zero, suc, ◌+◌, ◌-◌, ◌<◌, ◌≤◌, eqb, List, [], ◌∷◌, ◌++◌, length, get_or, refl, sym, ap, ◌∙◌, subst, arith}
+use Rattle.std.proofs.Common.{◌≡◌, ℕ, zero, suc, ◌+◌, ◌<◌, eqb, List, [], ◌∷◌, ◌++◌, length, get_or, Result, Ok, Err, OnOk, refl, sym, ap, ◌∙◌, subst, arith}
 use Rattle.std.specs.Set.{distinct_count}
 use Rattle.ga_tallies.specs.Tallies.{pairs_in}
 use Rattle.ga_totals.specs.Steps.Rows.{visitors_at}
@@ -18,12 +18,15 @@ counts-behind rows first (suc many) more n e =
     (counts-behind rows (first + 1) many more (many + more) refl ∙ ap (λ k. counts_of rows (first + 1) many ++ counts_of rows k more) there)
 
 -- the counts of one key more
-pub counts-more : (rows : List (List ℕ)) (first number : ℕ) → first ≤ number
-    → counts_of rows first (number + 1 - first) ≡ counts_of rows first (number - first) ++ distinct_count eqb (visitors_at rows number) ∷ []
-counts-more rows first number low =
-    let there : first + (number - first) ≡ number = omega (arith, low) in
-    counts-behind rows first (number - first) 1 (number + 1 - first) (omega (arith, low))
-    ∙ ap (λ k. counts_of rows first (number - first) ++ distinct_count eqb (visitors_at rows k) ∷ []) there
+pub counts-more : (rows : List (List ℕ)) (first many : ℕ)
+    → counts_of rows first (many + 1) ≡ counts_of rows first many ++ distinct_count eqb (visitors_at rows (first + many)) ∷ []
+counts-more rows first many = counts-behind rows first many 1 (many + 1) refl
+
+-- the counts of two parts, which are there where both succeeded
+pub counts-both : {E : Type 0} (result : Result Unit E) (rows : List (List ℕ)) (first many more all : ℕ) (low high : List ℕ) → all ≡ many + more
+    → OnOk result (low ≡ counts_of rows first many) → OnOk result (high ≡ counts_of rows (first + many) more) → OnOk result (low ++ high ≡ counts_of rows first all)
+counts-both (Ok value) rows first many more all low high e one two = (λ i. one i ++ two i) ∙ sym (counts-behind rows first many more all e)
+counts-both (Err fault) rows first many more all low high e one two = tt
 
 length-counts : (rows : List (List ℕ)) (first many : ℕ) → length (counts_of rows first many) ≡ many
 length-counts rows first zero = refl

@@ -1,4 +1,4 @@
-ghost use Rattle.std.specs.Prelude.{◌≡◌, ◌+◌, ◌<◌, ◌≤◌, ◌-◌, All, IfOk, eqb, length};
+ghost use Rattle.std.specs.Prelude.{◌≡◌, ◌+◌, ◌<◌, ◌≤◌, ◌^◌, All, IfOk, OnOk, eqb, length};
 ghost use Rattle.std.specs.Set.{distinct_count};
 ghost use Rattle.std.specs.Thread.{IsSync};
 ghost use Rattle.ga_tallies.specs.Tallies.{lists_in, pairs_in};
@@ -9,7 +9,7 @@ ghost use Rattle.ga_totals.specs.Steps.Visits.{AreMarks, counts_of};
 use ga_base::NoMemory;
 use ga_tallies::{Row, middle_of};
 use std::alloc::Global;
-use std::thread::{self, Threads};
+use std::thread::{Threads, join_mut};
 
 /// The keys are counted in so many parts.
 const PARTS: u32 = 8;
@@ -27,7 +27,9 @@ pub(crate) fn visits_of(
     requires { AreWithin visitors (lists_in rows.now) }
     ensures { IfOk result (λ visits. AreVisits keys (pairs_in (lists_in rows.now)) visits.items) }
 {
-    visits_between(alloc, visitors, rows, 0, keys)
+    let mut visits = vec![in alloc; 0u64; keys as usize]?;
+    count_keys(alloc, visitors, rows, 0, &mut visits)?;
+    Ok(visits)
 }
 
 /// The same, counted in parts of the keys, side by side.
@@ -41,73 +43,96 @@ pub(crate) fn visits_in_parts<R: Threads + Sync>(
     requires { AreWithin visitors (lists_in rows.now) }
     ensures { IfOk result (λ visits. AreVisits keys (pairs_in (lists_in rows.now)) visits.items) }
 {
-    between_in_parts(rt, alloc, PARTS, visitors, rows, 0, keys)
+    let mut visits = vec![in alloc; 0u64; keys as usize]?;
+    count_in_parts(rt, alloc, PARTS, visitors, rows, 0, &mut visits)?;
+    Ok(visits)
 }
 
-/// How many visitors each key from one number up to another has, counted in so many parts, side by side: in halves of halves by
-/// what the rows hold.
+/// Counts the visitors of as many keys as there are places, from the one with the number `first` on, in so many parts, side by
+/// side: in halves of halves by what the rows hold.
 #[cycle(parts)]
-fn between_in_parts<R: Threads + Sync>(
+fn count_in_parts<R: Threads + Sync>(
     rt: &R,
     alloc: Global,
     parts: u32,
     visitors: usize,
     rows: &[Row],
-    first: u32,
-    end: u32,
-) -> Result<Vec<u64>, NoMemory>
-    requires order { first ≤ end }
+    first: usize,
+    visits: &mut [u64],
+) -> Result<(), NoMemory>
+    requires numbered { first + length visits.old < 2 ^ 32 }
     requires within { AreWithin visitors (lists_in rows.now) }
-    ensures { IfOk result (λ visits. visits.items ≡ counts_of (lists_in rows.now) first (end - first)) }
+    ensures { OnOk result (visits.new ≡ counts_of (lists_in rows.now) first (length visits.old)) }
 {
     if parts < 2 {
-        return visits_between(alloc, visitors, rows, first, end);
+        return count_keys(alloc, visitors, rows, first, visits);
     }
-    let middle = middle_between(rows, first, end);
-    let low = move || -> Result<Vec<u64>, NoMemory>
-        requires { IsSync R.row × (first ≤ middle) × AreWithin visitors (lists_in rows.now) }
-        ensures { IfOk result (λ visits. visits.items ≡ counts_of (lists_in rows.entry.now) first (middle - first)) }
-    { between_in_parts(rt, alloc, parts / 2, visitors, rows, first, middle) };
-    let high = move || -> Result<Vec<u64>, NoMemory>
-        requires { IsSync R.row × (middle ≤ end) × AreWithin visitors (lists_in rows.now) }
-        ensures { IfOk result (λ visits. visits.items ≡ counts_of (lists_in rows.entry.now) middle (end - middle)) }
-    { between_in_parts(rt, alloc, parts / 2, visitors, rows, middle, end) };
-    let (low, high) = thread::join(rt, low, high);
-    let mut visits = low?;
-    visits.append(&mut high?)?;
-    Ok(visits)
+    let middle = middle_between(rows, first, visits.len());
+    let (low, high) = visits.split_at_mut(middle);
+    count_halves(rt, alloc, parts / 2, visitors, rows, first, low, high)
 }
 
-/// Where the rows of keys from one number up to another are parted. Behind the last row keys have none.
-fn middle_between(rows: &[Row], first: u32, end: u32) -> u32
-    requires { first ≤ end }
-    ensures from { first ≤ result }
-    ensures to { result ≤ end }
+/// Counts the visitors of some keys, and beside them those of the keys behind these.
+#[cycle(parts)]
+fn count_halves<R: Threads + Sync>(
+    rt: &R,
+    alloc: Global,
+    parts: u32,
+    visitors: usize,
+    rows: &[Row],
+    first: usize,
+    low: &mut [u64],
+    high: &mut [u64],
+) -> Result<(), NoMemory>
+    requires numbered { first + length low.old + length high.old < 2 ^ 32 }
+    requires within { AreWithin visitors (lists_in rows.now) }
+    ensures low { OnOk result (low.new ≡ counts_of (lists_in rows.now) first (length low.old)) }
+    ensures high { OnOk result (high.new ≡ counts_of (lists_in rows.now) (first + length low.old) (length high.old)) }
 {
-    let stop = rows.len().min(end as usize);
-    let start = stop.min(first as usize);
-    first + middle_of(&rows[start..stop]) as u32
+    let next = first + low.len();
+    let mut front = || -> Result<(), NoMemory>
+        requires { IsSync R.row × (first + length low.now < 2 ^ 32) × AreWithin visitors (lists_in rows.now) }
+        ensures { OnOk result (low.exit.now ≡ counts_of (lists_in rows.entry.now) first (length low.entry.now)) }
+    { count_in_parts(rt, alloc, parts, visitors, rows, first, low) };
+    let mut back = || -> Result<(), NoMemory>
+        requires { IsSync R.row × (next + length high.now < 2 ^ 32) × AreWithin visitors (lists_in rows.now) }
+        ensures { OnOk result (high.exit.now ≡ counts_of (lists_in rows.entry.now) next (length high.entry.now)) }
+    { count_in_parts(rt, alloc, parts, visitors, rows, next, high) };
+    let (front, back) = join_mut(rt, &mut front, &mut back);
+    front.and(back)
 }
 
-/// How many visitors each key from one number up to another has. Marks are made once a row needs them.
-fn visits_between(
+/// How many of so many keys, from the one with the number `first` on, are in the first half. Behind the last row keys have no
+/// visitors.
+fn middle_between(rows: &[Row], first: usize, many: usize) -> usize
+    requires { first + many < 2 ^ 64 }
+    ensures { result ≤ many }
+{
+    let stop = rows.len().min(first + many);
+    let start = stop.min(first);
+    middle_of(&rows[start..stop], 0)
+}
+
+/// Counts the visitors of as many keys as there are places, from the one with the number `first` on. Marks are made once a row
+/// needs them.
+fn count_keys(
     alloc: Global,
     visitors: usize,
     rows: &[Row],
-    first: u32,
-    end: u32,
-) -> Result<Vec<u64>, NoMemory>
-    requires order { first ≤ end }
+    first: usize,
+    visits: &mut [u64],
+) -> Result<(), NoMemory>
+    requires numbered { first + length visits.old < 2 ^ 32 }
     requires within { AreWithin visitors (lists_in rows.now) }
-    ensures { IfOk result (λ visits. visits.items ≡ counts_of (lists_in rows.now) first (end - first)) }
+    ensures { OnOk result (visits.new ≡ counts_of (lists_in rows.now) first (length visits.old)) }
 {
     let mut marks = Vec::new(alloc);
-    let mut visits = Vec::with_capacity(alloc, (end - first) as usize)?;
-    for number in first..end {
-        let row = row_at(rows, number as usize);
-        visits.push(count(alloc, visitors, &mut marks, number + 1, row)?)?;
+    for place in 0..visits.len() {
+        let number = first + place;
+        let row = row_at(rows, number);
+        visits[place] = count(alloc, visitors, &mut marks, number as u32 + 1, row)?;
     }
-    Ok(visits)
+    Ok(())
 }
 
 /// The visitors of a key's number, of rows that have them at the keys' numbers. Behind the last row there are none.

@@ -11,8 +11,8 @@ use Rattle.ga_tallies.proofs.absorbing.add_moves.Goals as goal
 pub loop-moved-init : goal.loop-moved-init
 loop-moved-init g c = record { rest = c.into_iter-moved-iterator.ensures.into_iter_gives.0; sums = refl; pairs = adds-none (IsMoved []) c.args.pairs (λ p is. absurd is) }
 
-pub add_both-requires : goal.add_both-requires
-add_both-requires g c =
+pub add_next-requires : goal.add_next-requires
+add_next-requires g c =
     let front = c.loop-moved.yielded in
     let moved = c.in-Some.moved in
     let rest = into_iter_items c.next.new.self in

@@ -1,19 +1,14 @@
-use Rattle.std.proofs.Common.{◌≡◌, ◌+◌, ◌-◌, ◌++◌, ap, arith, sym, ◌∙◌}
+use Rattle.std.proofs.Common.{length, ap, ◌∙◌}
+use Rattle.std.proofs.lemmas.List.{length-append}
 use Rattle.ga_tallies.specs.Tallies.{lists_in}
-use Rattle.ga_totals.specs.Steps.Visits.{counts_of}
-use Rattle.ga_totals.proofs.Parts.{counts-behind}
+use Rattle.ga_totals.proofs.Parts.{counts-both}
 use Rattle.ga_totals.proofs.visits.+parts.Goals as goal
 
-pub returns : goal.returns
-returns g t c =
-    let rows = lists_in c.args.rows.now in
-    let first = c.args.first in
-    let middle = c.middle_between-middle.result in
-    let end = c.args.end in
-    let order = c.middle_between-middle.ensures in
-    let low : c.in_ok-visits.visits.items ≡ counts_of rows first (middle - first) = rw (c.in_ok-visits.was) at c.join-low.ensures.first in
-    let high : c.in_ok-high.field-0.items ≡ counts_of rows middle (end - middle) = rw (c.in_ok-high.was) at c.join-low.ensures.second in
-    let there : first + (middle - first) ≡ middle = omega (arith, order.from) in
-    c.in_ok-append.ensures.items ∙ (λ i. low i ++ high i)
-    ∙ ap (λ k. counts_of rows first (middle - first) ++ counts_of rows k (end - middle)) (sym there)
-    ∙ sym (counts-behind rows first (middle - first) (end - middle) (end - first) (omega (arith, order.from, order.to)))
+pub count_in_parts-returns : goal.count_in_parts-returns
+count_in_parts-returns g t c =
+    let cut = c.split_at_mut-low in
+    let low = cut.result.0.now in
+    let high = cut.result.1.now in
+    let many = ap length cut.ensures.value ∙ length-append low high in
+    counts-both c.count_halves.result (lists_in c.args.rows.now) c.args.first (length low) (length high) (length c.args.visits.now) c.count_halves.new.low c.count_halves.new.high many
+    c.count_halves.ensures.low c.count_halves.ensures.high

@@ -1,11 +1,14 @@
-use Rattle.std.proofs.Common.{◌-◌, ◌*◌}
+use Rattle.std.proofs.Common.{◌+◌, ◌*◌}
 use Rattle.ga_totals.proofs.visits.+parts.Given as goal
 
-abbrev pub decreases-between_in_parts : goal.decreases-between_in_parts
-decreases-between_in_parts g l = 2 * l.parts
+abbrev pub decreases-count_in_parts : goal.decreases-count_in_parts
+decreases-count_in_parts g l = 4 * l.parts
 
-abbrev pub decreases-low : goal.decreases-low
-decreases-low g l = 2 * l.parts - 1
+abbrev pub decreases-count_halves : goal.decreases-count_halves
+decreases-count_halves g l = 4 * l.parts + 2
 
-abbrev pub decreases-high : goal.decreases-high
-decreases-high g l = 2 * l.parts - 1
+abbrev pub decreases-count_halves-front : goal.decreases-count_halves-front
+decreases-count_halves-front g l = 4 * l.parts + 1
+
+abbrev pub decreases-count_halves-back : goal.decreases-count_halves-back
+decreases-count_halves-back g l = 4 * l.parts + 1

@@ -1,7 +1,6 @@
-use Rattle.std.proofs.Common.{◌≡◌, ◌-◌, ap, ◌∙◌, arith}
-use Rattle.std.proofs.lemmas.Result.{IfOk-weaker}
-use Rattle.ga_tallies.specs.Tallies.{lists_in, pairs_in}
-use Rattle.ga_totals.specs.Steps.Telling.{AreVisits}
+use Rattle.std.proofs.Common.{◌≡◌, length, drop, ap, ◌∙◌, arith}
+use Rattle.std.proofs.lemmas.List.{take_at}
+use Rattle.ga_tallies.specs.Tallies.{lists_in}
 use Rattle.ga_totals.specs.Steps.Visits.{counts_of}
 use Rattle.ga_totals.proofs.Parts.{are-visits}
 use Rattle.ga_totals.proofs.visits.visits_in_parts.Goals as goal
@@ -9,5 +8,10 @@ use Rattle.ga_totals.proofs.visits.visits_in_parts.Goals as goal
 pub returns : goal.returns
 returns g c =
     let rows = lists_in c.args.rows.now in
-    IfOk-weaker c.between_in_parts.result (λ visits. visits.items ≡ counts_of rows 0 (c.args.keys - 0)) (λ visits. AreVisits c.args.keys (pairs_in rows) visits.items)
-    (λ visits are. are-visits rows c.args.keys visits.items (are ∙ ap (counts_of rows 0) (omega arith))) c.between_in_parts.ensures
+    let zeros = c.in_ok-visits.visits in
+    let visits = c.count_in_parts.new.visits in
+    let many : length c.deref_mut.result.now ≡ c.args.keys = omega (arith, c.deref_mut.ensures.len, c.in_ok-visits.ensures.len) in
+    let full : length visits ≡ zeros.len = omega (arith, c.count_in_parts.auto.visits, c.deref_mut.ensures.len) in
+    let back = take_at visits (drop (length visits) zeros.items) zeros.len full in
+    let counted : visits ≡ counts_of rows 0 c.args.keys = c.in_ok-count_in_parts.ensures ∙ ap (counts_of rows 0) many in
+    are-visits rows c.args.keys _ (back ∙ counted)

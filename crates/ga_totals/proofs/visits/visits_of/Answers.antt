@@ -1,7 +1,6 @@
-use Rattle.std.proofs.Common.{◌≡◌, ◌-◌, ap, ◌∙◌, arith}
-use Rattle.std.proofs.lemmas.Result.{IfOk-weaker}
-use Rattle.ga_tallies.specs.Tallies.{lists_in, pairs_in}
-use Rattle.ga_totals.specs.Steps.Telling.{AreVisits}
+use Rattle.std.proofs.Common.{◌≡◌, length, drop, ap, ◌∙◌, arith}
+use Rattle.std.proofs.lemmas.List.{take_at}
+use Rattle.ga_tallies.specs.Tallies.{lists_in}
 use Rattle.ga_totals.specs.Steps.Visits.{counts_of}
 use Rattle.ga_totals.proofs.Parts.{are-visits}
 use Rattle.ga_totals.proofs.visits.visits_of.Goals as goal
@@ -9,5 +8,10 @@ use Rattle.ga_totals.proofs.visits.visits_of.Goals as goal
 pub returns : goal.returns
 returns c =
     let rows = lists_in c.args.rows.now in
-    IfOk-weaker c.visits_between.result (λ visits. visits.items ≡ counts_of rows 0 (c.args.keys - 0)) (λ visits. AreVisits c.args.keys (pairs_in rows) visits.items)
-    (λ visits are. are-visits rows c.args.keys visits.items (are ∙ ap (counts_of rows 0) (omega arith))) c.visits_between.ensures
+    let zeros = c.in_ok-visits.visits in
+    let visits = c.count_keys.new.visits in
+    let many : length c.deref_mut.result.now ≡ c.args.keys = omega (arith, c.deref_mut.ensures.len, c.in_ok-visits.ensures.len) in
+    let full : length visits ≡ zeros.len = omega (arith, c.count_keys.auto.visits, c.deref_mut.ensures.len) in
+    let back = take_at visits (drop (length visits) zeros.items) zeros.len full in
+    let counted : visits ≡ counts_of rows 0 c.args.keys = c.in_ok-count_keys.ensures ∙ ap (counts_of rows 0) many in
+    are-visits rows c.args.keys _ (back ∙ counted)
