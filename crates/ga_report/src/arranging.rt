@@ -1,4 +1,4 @@
-ghost use Rattle.std.specs.Prelude.{◌≡◌, ◌<◌, All, IfOk, List, filter, length, map, not};
+ghost use Rattle.std.specs.Prelude.{◌≡◌, ◌<◌, ◌≤◌, All, IfOk, List, filter, length, map, not};
 ghost use Rattle.std.specs.List.Sorted.{IsPermutation, IsSorted};
 ghost use Rattle.ga_base.specs.Layers.{has_groups};
 ghost use Rattle.ga_report.specs.declared.report.General.{General};
@@ -18,6 +18,9 @@ use std::thread::Threads;
 
 /// One item of so many is looked at to find where those that come first end.
 const SAMPLED: usize = 32;
+
+/// So many more items of a sample stand up to the bar.
+const SPARE: u64 = 16;
 
 /// The first of the items that are groups of a panel with groups, at most so many, in the report's order.
 pub(crate) fn top_groups<'a>(
@@ -133,13 +136,21 @@ fn likely<'a, R: Threads + Sync, T: Tells + Sync>(
 {
     let mut few = sample(alloc, told, &gathered)?;
     if most < few.len() as u64 {
-        let (_, bar, _) = few.select_nth_unstable_by(most as usize, |a, b| order(panel, a, b));
+        let (_, bar, _) = few.select_nth_unstable_by(rank_of_bar(most), |a, b| order(panel, a, b));
         let near = items_near(rt, alloc, pieces, told, &gathered, panel, bar)?;
         if most <= near.len() as u64 {
             return Ok(near);
         }
     }
     all_items(rt, alloc, pieces, told, gathered)
+}
+
+/// Which item of a sample is the bar, where so many items are wanted. A sample has a 32nd of those; up to the bar it has twice
+/// as many and some more, so that hardly ever too few items stand up to it.
+fn rank_of_bar(most: u64) -> usize
+    ensures { result ≤ most }
+{
+    (most / SAMPLED as u64 * 2 + SPARE).min(most) as usize
 }
 
 /// One of each so many items.
