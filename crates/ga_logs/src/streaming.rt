@@ -17,7 +17,7 @@ use ga_ports::{Files, Gate};
 use ga_resume::{PlaceFault, read_slice, slice_buffer};
 use ga_streams::{Counting, Workers, count_taken, end, feed};
 use std::alloc::Global;
-use std::thread::{Threads, join_mut};
+use std::thread::{Threads, join_mut, yield_now};
 
 /// How many bytes a batch has for each worker.
 const JOB: u64 = 1_048_576;
@@ -169,7 +169,9 @@ fn fill_and_count<R: Threads + Sync, G: Gate, F: Files>(
     Ok(end)
 }
 
-/// Counts a batch in a thread of its own, where there is more than one worker, and fills the batcher in this one.
+/// Counts a batch in a thread of its own, where there is more than one worker, and fills the batcher in this one. The new
+/// thread may have been put behind this one, on a kernel that holds threads together on few processors, so this one lets it go
+/// first.
 fn side_by_side<R: Threads + Sync, G: Gate, F: Files>(
     rt: &R,
     gate: &G,
@@ -196,7 +198,10 @@ fn side_by_side<R: Threads + Sync, G: Gate, F: Files>(
     let mut read = || -> Result<u64, PlaceFault>
         requires { CanFill from to buffer.now (F.view files.now) batcher.now }
         ensures { FillsOrStops from to (F.view files.entry.now) (F.view files.exit.now) batcher.entry.now batcher.exit.now result }
-    { fill(from, to, is_alone, buffer, files, batcher) };
+    {
+        yield_now();
+        fill(from, to, is_alone, buffer, files, batcher)
+    };
     if jobs > 1 {
         join_mut(rt, &mut count, &mut read)
     } else {
