@@ -1,5 +1,4 @@
 ghost use Rattle.std.specs.Prelude.{◌≡◌, ◌≢◌, ◌-◌, ◌+◌, ◌<◌, ◌≤◌, ◌^◌, [], true, false, IfOk, IfErr, IfSome, IsSome, IsTrue, OnOk, length};
-ghost use Rattle.std.specs.Thread.{IsSync};
 ghost use Rattle.ga_batches.specs.Batches.{Holds, held};
 ghost use Rattle.ga_line.specs.Lines.{lines};
 ghost use Rattle.ga_ports.specs.Counts.{NoneDue};
@@ -17,7 +16,7 @@ use ga_ports::{Files, Gate};
 use ga_resume::{PlaceFault, read_slice, slice_buffer};
 use ga_streams::{Counting, Workers, count_taken, end, feed};
 use std::alloc::Global;
-use std::thread::{Threads, join_mut, yield_now};
+use std::thread::Threads;
 
 /// How many bytes a batch has for each worker.
 const JOB: u64 = 1_048_576;
@@ -74,7 +73,6 @@ pub(crate) fn count_part<R: Threads + Sync, G: Gate, F: Files>(
         gate,
         alloc,
         setup,
-        workers.jobs,
         from,
         to,
         &mut buffer,
@@ -103,7 +101,6 @@ fn feed_part<R: Threads + Sync, G: Gate, F: Files>(
     gate: &G,
     alloc: Global,
     setup: &Setup,
-    jobs: u32,
     from: u64,
     to: u64,
     buffer: &mut [u8],
@@ -131,11 +128,12 @@ fn feed_part<R: Threads + Sync, G: Gate, F: Files>(
     let mut at = from;
     while at < to {
         at = fill_and_count(
-            rt, gate, setup, jobs, at, to, buffer, files, counting, &taken, batcher,
+            rt, gate, setup, at, to, buffer, files, counting, &taken, batcher,
         )?;
         batcher.take_into(&mut taken)?;
     }
-    count_taken(rt, gate, setup, counting, &taken)?;
+    let (counted, ()) = count_taken(rt, gate, setup, counting, &taken, &mut || {});
+    counted?;
     Ok(())
 }
 
@@ -145,7 +143,6 @@ fn fill_and_count<R: Threads + Sync, G: Gate, F: Files>(
     rt: &R,
     gate: &G,
     setup: &Setup,
-    jobs: u32,
     from: u64,
     to: u64,
     buffer: &mut [u8],
@@ -162,21 +159,18 @@ fn fill_and_count<R: Threads + Sync, G: Gate, F: Files>(
     ensures sure { NoneDue (F.view files.old).listed (F.view files.old).counts.calls → IfErr result (λ fault. fault ≢ FileFault) }
 {
     let (counted, end) = side_by_side(
-        rt, gate, setup, jobs, from, to, buffer, files, counting, taken, batcher,
+        rt, gate, setup, from, to, buffer, files, counting, taken, batcher,
     );
     let end = end?;
     counted?;
     Ok(end)
 }
 
-/// Counts a batch in a thread of its own, where there is more than one worker, and fills the batcher in this one. The new
-/// thread may have been put behind this one, on a kernel that holds threads together on few processors, so this one lets it go
-/// first.
+/// Counts a batch and fills the batcher beside it: this thread, which is one of the workers, fills it before it counts.
 fn side_by_side<R: Threads + Sync, G: Gate, F: Files>(
     rt: &R,
     gate: &G,
     setup: &Setup,
-    jobs: u32,
     from: u64,
     to: u64,
     buffer: &mut [u8],
@@ -191,22 +185,11 @@ fn side_by_side<R: Threads + Sync, G: Gate, F: Files>(
     ensures fills { FillsOrStops from to (F.view files.old) (F.view files.new) batcher.old batcher.new result.1 }
 {
     let is_alone = taken.is_empty();
-    let mut count = || -> Result<(), NoMemory>
-        requires { IsSync R.row × (length taken.now ≤ 2 ^ 24) }
-        ensures { OnOk result (CountsTaken setup.entry.now taken.entry.now counting.entry.now counting.exit.now) }
-    { count_taken(rt, gate, setup, counting, taken) };
     let mut read = || -> Result<u64, PlaceFault>
         requires { CanFill from to buffer.now (F.view files.now) batcher.now }
         ensures { FillsOrStops from to (F.view files.entry.now) (F.view files.exit.now) batcher.entry.now batcher.exit.now result }
-    {
-        yield_now();
-        fill(from, to, is_alone, buffer, files, batcher)
-    };
-    if jobs > 1 {
-        join_mut(rt, &mut count, &mut read)
-    } else {
-        (count(), read())
-    }
+    { fill(from, to, is_alone, buffer, files, batcher) };
+    count_taken(rt, gate, setup, counting, taken, &mut read)
 }
 
 /// Reads the open file from one place on, until the batcher is full or up to another place, by slices of at most the

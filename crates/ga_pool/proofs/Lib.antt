@@ -2,6 +2,7 @@ pub mod PieceLines
 pub mod Alike
 pub mod DrawnPieces
 pub mod Answers
+pub mod JobMore
 pub mod Workers
 pub mod WeighedLines
 pub mod PutRows

@@ -3,13 +3,14 @@ ghost use Rattle.ga_draws.specs.Draws.{AreAllBelow, given};
 ghost use Rattle.ga_pool.specs.Steps.Drawing.{CountsDrawn, all_lines};
 ghost use Rattle.ga_pool.specs.Together.{CountsOn};
 
+use crate::beside::map_beside;
 use ga_base::NoMemory;
 use ga_draws::{DrawSeat, Draws};
 use ga_outcomes::Setup;
 use ga_ports::Gate;
 use ga_tallies::{Agents, Tally, TallyFault};
 use std::alloc::Global;
-use std::thread::{self, Threads};
+use std::thread::Threads;
 
 /// What a worker begins with.
 #[derive(Drop)]
@@ -31,34 +32,46 @@ struct Drawn {
     tally: Result<Tally, TallyFault>,
 }
 
-/// Counts the lines of these pieces by workers, one for each tally, which counts on into it. None is answered where a worker
-/// finds a counter full.
-pub(crate) fn count_pieces<R: Threads + Sync, G: Gate>(
+/// Counts the lines of these pieces by workers, one for each tally, which counts on into it. The last works in this thread,
+/// which calls `beside` before, once whatever comes of the lines. None is answered where a worker finds a counter full.
+pub(crate) fn count_pieces<R: Threads + Sync, G: Gate, F: FnMut() -> X, X>(
     rt: &R,
     alloc: Global,
     setup: &Setup,
     tallies: Vec<Tally>,
     pieces: &[&[u8]],
     gate: &G,
-) -> Result<Option<Vec<Tally>>, NoMemory>
+    beside: &mut F,
+) -> (Result<Option<Vec<Tally>>, NoMemory>, X)
     requires some { 1 ≤ vec_len tallies }
     requires most { vec_len tallies ≤ 16 }
     requires few { length pieces.now ≤ 2 ^ 24 }
-    ensures { IfOk result (λ answer. IfSome answer (λ more.
+    requires beside { F.pre beside.old }
+    ensures counts { IfOk result.0 (λ answer. IfSome answer (λ more.
         CountsOn setup.now (all_lines (map (λ piece. piece.now) pieces.now)) tallies.items more.items)) }
+    ensures beside { F.step beside.old result.1 beside.new }
 {
     let jobs = tallies.len() as u32;
     let most = pieces.len() as u64 + 1;
-    let (draws, mut seat) = Draws::open(alloc, jobs + 1, u64::from(jobs) * most)?;
-    let turns = turns_of(alloc, &draws, &mut seat, tallies, most)?;
+    let (draws, mut seat) = match Draws::open(alloc, jobs + 1, u64::from(jobs) * most) {
+        Ok(open) => open,
+        Err(fault) => return (Err(fault), beside()),
+    };
+    let turns = match turns_of(alloc, &draws, &mut seat, tallies, most) {
+        Ok(turns) => turns,
+        Err(fault) => return (Err(fault), beside()),
+    };
     let shared = &draws;
     let work = move |turn: Turn| -> Drawn
         requires { (turn.seat.table ≡ shared.now.table) × (turn.seat.view ≡ given 1 (length pieces.now + 1)) × (length pieces.now ≤ 2 ^ 24) }
         ensures { (result.seat.table ≡ shared.entry.now.table) × (result.seat.view.share ≡ 1)
             × IfOk result.tally (CountsDrawn setup.entry.now (map (λ piece. piece.now) pieces.entry.now) result.seat.view.drawn turn.tally) }
     { count_drawn(alloc, setup, pieces, shared, turn, gate) };
-    let drawn = thread::map_vec(rt, turns, &work)?;
-    joined(alloc, &draws, seat, drawn)
+    let (drawn, given) = map_beside(rt, alloc, turns, &work, beside);
+    match drawn {
+        Ok(drawn) => (joined(alloc, &draws, seat, drawn), given),
+        Err(fault) => (Err(fault), given),
+    }
 }
 
 /// A turn for each tally. Its seat can draw so many numbers.

@@ -6,6 +6,7 @@
 //! `count_on`, which gives the tallies back, as `specs/Together.antt` says; `put_together` comes once, behind the last.
 #![tactic(auto)]
 
+mod beside;
 mod counted;
 mod drawing;
 mod fault;

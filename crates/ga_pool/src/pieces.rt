@@ -14,7 +14,7 @@ const LINE_FEED: u8 = 10;
 const LAST: usize = 1 << 20;
 
 /// There a piece has one of so many lines.
-const FINER: u32 = 8;
+const FINER: u32 = 32;
 
 /// The lines of a batch in pieces of `chunk` lines each, and of fewer in its last megabyte, so that those who draw them are done
 /// with the batch at about the same time.

@@ -1,4 +1,4 @@
-ghost use Rattle.std.specs.Prelude.{◌≡◌, ◌≤◌, ◌<◌, ◌-◌, ◌^◌, [], ℕ, List, IfOk, IsErrOf, length, sum_by, true, vec_len};
+ghost use Rattle.std.specs.Prelude.{◌≡◌, ◌≤◌, ◌<◌, ◌-◌, ◌^◌, [], ℕ, List, Ok, Some, IfOk, IsErrOf, length, sum_by, true, vec_len};
 ghost use Rattle.ga_base.specs.declared.counts.Counter.{Counter as TheCounter};
 ghost use Rattle.ga_line.specs.Lines.{lines};
 ghost use Rattle.ga_pool.specs.Batches.{CountsBatch, StandsForSum};
@@ -47,10 +47,19 @@ pub fn count_batch<R: Threads + Sync, G: Gate>(
         → FillsAmong setup.now before.now (lines batch.now true) which total }
 {
     let tallies = new_tallies(alloc, keyed, jobs)?;
-    let tallies = count_behind(
-        rt, alloc, setup, before, before, tallies, batch, chunk, gate,
-    )?;
-    Ok(put_together(rt, alloc, keyed, tallies)?)
+    let (counted, ()) = count_behind(
+        rt,
+        alloc,
+        setup,
+        before,
+        before,
+        tallies,
+        batch,
+        chunk,
+        gate,
+        &mut || {},
+    );
+    Ok(put_together(rt, alloc, keyed, counted?)?)
 }
 
 /// Tallies of no lines, one for each worker. Their dictionaries hash by `keyed`.
@@ -67,8 +76,9 @@ pub fn new_tallies(alloc: Global, keyed: Keyed, jobs: u32) -> Result<Vec<Tally>,
 }
 
 /// Counts the lines of a batch by workers, one for each tally, which counts on into it; what follows the last line feed is a
-/// line. `start` is what the counters began at, before the tallies.
-pub fn count_on<R: Threads + Sync, G: Gate>(
+/// line. `start` is what the counters began at, before the tallies. The last worker is this thread, which calls `beside` before
+/// it counts: once, whatever comes of the lines.
+pub fn count_on<R: Threads + Sync, G: Gate, F: FnMut() -> X, X>(
     rt: &R,
     alloc: Global,
     setup: &Setup,
@@ -77,26 +87,29 @@ pub fn count_on<R: Threads + Sync, G: Gate>(
     batch: &[u8],
     chunk: u32,
     gate: &G,
-) -> Result<Vec<Tally>, PoolFault>
+    beside: &mut F,
+) -> (Result<Vec<Tally>, PoolFault>, X)
     requires small { length batch.now ≤ 2 ^ 24 }
     requires some { 1 ≤ vec_len tallies }
     requires most { vec_len tallies ≤ 16 }
     requires lines { 1 ≤ chunk }
     requires start { LinesAdd start.now }
     requires before { TotalsFit (totals_plus start.now (totals_in tallies.items)) }
-    ensures ok { IfOk result (λ more. CountsOn setup.now (lines batch.now true) tallies.items more.items) }
-    ensures fit { IfOk result (λ more. TotalsFit (totals_plus start.now (totals_in more.items))) }
-    ensures full { (which : TheCounter) (total : ℕ) → IsErrOf result (PoolFault.CounterFull which total)
+    requires beside { F.pre beside.old }
+    ensures ok { IfOk result.0 (λ more. CountsOn setup.now (lines batch.now true) tallies.items more.items) }
+    ensures fit { IfOk result.0 (λ more. TotalsFit (totals_plus start.now (totals_in more.items))) }
+    ensures full { (which : TheCounter) (total : ℕ) → IsErrOf result.0 (PoolFault.CounterFull which total)
         → FillsAmong setup.now (totals_plus start.now (totals_in tallies.items)) (lines batch.now true) which total }
+    ensures beside { F.step beside.old result.1 beside.new }
 {
     let before = counters(start, &tallies);
     count_behind(
-        rt, alloc, setup, start, &before, tallies, batch, chunk, gate,
+        rt, alloc, setup, start, &before, tallies, batch, chunk, gate, beside,
     )
 }
 
 /// As `count_on`, where the counters stand at `before`.
-fn count_behind<R: Threads + Sync, G: Gate>(
+fn count_behind<R: Threads + Sync, G: Gate, F: FnMut() -> X, X>(
     rt: &R,
     alloc: Global,
     setup: &Setup,
@@ -106,20 +119,46 @@ fn count_behind<R: Threads + Sync, G: Gate>(
     batch: &[u8],
     chunk: u32,
     gate: &G,
-) -> Result<Vec<Tally>, PoolFault>
+    beside: &mut F,
+) -> (Result<Vec<Tally>, PoolFault>, X)
     requires small { length batch.now ≤ 2 ^ 24 }
     requires some { 1 ≤ vec_len tallies }
     requires most { vec_len tallies ≤ 16 }
     requires lines { 1 ≤ chunk }
     requires start { TotalsFit start.now }
     requires before { TotalsFit before.now }
-    ensures ok { IfOk result (λ more. CountsOn setup.now (lines batch.now true) tallies.items more.items) }
+    requires beside { F.pre beside.old }
+    ensures ok { IfOk result.0 (λ more. CountsOn setup.now (lines batch.now true) tallies.items more.items) }
+    ensures fit { IfOk result.0 (λ more. TotalsFit (totals_plus start.now (totals_in more.items))) }
+    ensures full { (which : TheCounter) (total : ℕ) → IsErrOf result.0 (PoolFault.CounterFull which total)
+        → FillsAmong setup.now before.now (lines batch.now true) which total }
+    ensures beside { F.step beside.old result.1 beside.new }
+{
+    let pieces = match pieces_of(alloc, batch, chunk) {
+        Ok(pieces) => pieces,
+        Err(fault) => return (Err(PoolFault::from(fault)), beside()),
+    };
+    let (counted, given) = count_pieces(rt, alloc, setup, tallies, &pieces, gate, beside);
+    (within(alloc, setup, start, before, batch, counted), given)
+}
+
+/// The tallies that have counted a batch, where no counter is full.
+fn within(
+    alloc: Global,
+    setup: &Setup,
+    start: &Totals,
+    before: &Totals,
+    batch: &[u8],
+    counted: Result<Option<Vec<Tally>>, NoMemory>,
+) -> Result<Vec<Tally>, PoolFault>
+    requires start { TotalsFit start.now }
+    requires before { TotalsFit before.now }
+    ensures ok { IfOk result (λ more. counted ≡ Ok (Some more)) }
     ensures fit { IfOk result (λ more. TotalsFit (totals_plus start.now (totals_in more.items))) }
     ensures full { (which : TheCounter) (total : ℕ) → IsErrOf result (PoolFault.CounterFull which total)
         → FillsAmong setup.now before.now (lines batch.now true) which total }
 {
-    let pieces = pieces_of(alloc, batch, chunk)?;
-    let Some(tallies) = count_pieces(rt, alloc, setup, tallies, &pieces, gate)? else {
+    let Some(tallies) = counted? else {
         return Err(full_counter(alloc, setup, before, batch));
     };
     match counters_within(start, &tallies) {

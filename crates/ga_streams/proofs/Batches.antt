@@ -1,5 +1,6 @@
 -- Batches of a stream, counted one behind the other.
-use Rattle.std.proofs.Common.{◌≡◌, ℕ, ◌+◌, ◌-◌, ◌≤◌, Bool, true, false, List, [], ◌∷◌, ◌++◌, length, take, drop, Option, Some, None, refl, sym, ap, ◌∙◌, subst, arith, append_assoc, append-nil, length-drop, length-take, take_all}
+use Rattle.std.proofs.Common.{◌≡◌, ℕ, ◌+◌, ◌-◌, ◌≤◌, Bool, true, false, List, [], ◌∷◌, ◌++◌, length, take, drop, Option, Some, None, refl, sym, ap, ◌∙◌, subst, Result, Ok, Err, arith, append_assoc, append-nil, length-drop, length-take, take_all}
+use Rattle.std.specs.Result.{OnOk}
 use Rattle.std.proofs.Math.Seq.{take-add}
 use Rattle.std.specs.Prelude.{◌==◌}
 use Rattle.std.specs.List.{Contains}
@@ -142,3 +143,12 @@ taken-more stream piece at n le =
     append_assoc stream (take at piece) (take n (take (length piece - at) (drop at piece)))
     ∙ ap (λ (r : List ℕ). stream ++ (take at piece ++ take n r)) rest
     ∙ ap (λ (t : List ℕ). stream ++ t) (sym (take-add at n piece))
+
+-- what follows from what holds where a result is a value
+pub on-ok : {V E : Type 0} (r : Result V E) {P Q : Type 0} → (P → Q) → OnOk r P → OnOk r Q
+on-ok (Ok v) f p = f p
+on-ok (Err e) f p = tt
+
+-- what holds where a result is a value, where it is one
+pub on-value : {V E : Type 0} (r : Result V E) (v : V) {P : Type 0} → r ≡ Ok v → OnOk r P → P
+on-value {V} {E} r v {P} is p = subst (λ (x : Result V E). OnOk x P) is p

@@ -82,11 +82,32 @@ impl Counting {
         ensures start { OnOk result (self.new.start ≡ self.old.start) }
         ensures counted { OnOk result ((before : List (List ℕ)) → HasCounted setup.now before self.old → HasCounted setup.now (before ++ lines batch.now true) self.new) }
     {
+        let (counted, ()) = self.count_beside(rt, gate, setup, batch, &mut || {});
+        counted
+    }
+
+    /// The same, and calls `beside` once, whatever comes of the lines, in this thread, while others count.
+    pub fn count_beside<R: Threads + Sync, G: Gate, F: FnMut() -> X, X>(
+        &mut self,
+        rt: &R,
+        gate: &G,
+        setup: &Setup,
+        batch: &[u8],
+        beside: &mut F,
+    ) -> (Result<(), NoMemory>, X)
+        requires small { length batch.now ≤ 2 ^ 24 }
+        requires beside { F.pre beside.old }
+        ensures start { OnOk result.0 (self.new.start ≡ self.old.start) }
+        ensures counted { OnOk result.0 ((before : List (List ℕ)) → HasCounted setup.now before self.old → HasCounted setup.now (before ++ lines batch.now true) self.new) }
+        ensures beside { F.step beside.old result.1 beside.new }
+    {
         if self.full.is_some() || batch.is_empty() {
-            return Ok(());
+            return (Ok(()), beside());
         }
-        self.begin(batch)?;
-        self.count_lines(rt, gate, setup, batch)
+        match self.begin(batch) {
+            Ok(()) => self.count_lines(rt, gate, setup, batch, beside),
+            Err(fault) => (Err(fault), beside()),
+        }
     }
 
     /// Makes a tally for each worker, where there is none yet. Their maps hash by what stands in this batch.
@@ -104,32 +125,46 @@ impl Counting {
     }
 
     /// Counts the lines of a batch into the tallies, behind those that were counted. After an `Err` nothing is counted.
-    fn count_lines<R: Threads + Sync, G: Gate>(
+    fn count_lines<R: Threads + Sync, G: Gate, F: FnMut() -> X, X>(
         &mut self,
         rt: &R,
         gate: &G,
         setup: &Setup,
         batch: &[u8],
-    ) -> Result<(), NoMemory>
+        beside: &mut F,
+    ) -> (Result<(), NoMemory>, X)
         requires open { self.old.full ≡ None }
         requires some { 1 ≤ length self.old.tallies }
         requires small { length batch.now ≤ 2 ^ 24 }
-        ensures start { OnOk result (self.new.start ≡ self.old.start) }
-        ensures counted { OnOk result ((before : List (List ℕ)) → HasCounted setup.now before self.old → HasCounted setup.now (before ++ lines batch.now true) self.new) }
+        requires beside { F.pre beside.old }
+        ensures start { OnOk result.0 (self.new.start ≡ self.old.start) }
+        ensures counted { OnOk result.0 ((before : List (List ℕ)) → HasCounted setup.now before self.old → HasCounted setup.now (before ++ lines batch.now true) self.new) }
+        ensures beside { F.step beside.old result.1 beside.new }
     {
         let (alloc, chunk) = (self.alloc, self.workers.chunk);
         let tallies = mem::replace(&mut self.tallies, Vec::new(alloc));
-        match count_on(rt, alloc, setup, &self.start, tallies, batch, chunk, gate) {
+        let (counted, given) = count_on(
+            rt,
+            alloc,
+            setup,
+            &self.start,
+            tallies,
+            batch,
+            chunk,
+            gate,
+            beside,
+        );
+        match counted {
             Ok(more) => {
                 self.tallies = more;
-                Ok(())
+                (Ok(()), given)
             }
             Err(fault) => match fault {
                 PoolFault::CounterFull { which, total } => {
                     self.full = Some(Full { which, total });
-                    Ok(())
+                    (Ok(()), given)
                 }
-                PoolFault::NoMemory => Err(NoMemory),
+                PoolFault::NoMemory => (Err(NoMemory), given),
             },
         }
     }

@@ -66,23 +66,26 @@ fn make_room<R: Threads + Sync, G: Gate>(
     Ok(())
 }
 
-/// Counts a batch that was taken out of a batcher, to which more may have been fed since.
-pub fn count_taken<R: Threads + Sync, G: Gate>(
+/// Counts a batch that was taken out of a batcher, to which more may have been fed since, or is fed by `beside`, which is called
+/// once, whatever comes of the lines, in this thread, while others count.
+pub fn count_taken<R: Threads + Sync, G: Gate, F: FnMut() -> X, X>(
     rt: &R,
     gate: &G,
     setup: &Setup,
     counting: &mut Counting,
     taken: &[u8],
-) -> Result<(), NoMemory>
-    requires { length taken.now ≤ 2 ^ 24 }
-    ensures start { OnOk result (counting.new.start ≡ counting.old.start) }
-    ensures within { OnOk result ((before : List (List ℕ)) (stream : List ℕ) (batcher : BatcherSeen)
+    beside: &mut F,
+) -> (Result<(), NoMemory>, X)
+    requires small { length taken.now ≤ 2 ^ 24 }
+    requires beside { F.pre beside.old }
+    ensures start { OnOk result.0 (counting.new.start ≡ counting.old.start) }
+    ensures within { OnOk result.0 ((before : List (List ℕ)) (stream : List ℕ) (batcher : BatcherSeen)
         → IsBehind setup.now before stream counting.old taken.now batcher → IsWithin setup.now before stream counting.new batcher) }
+    ensures beside { F.step beside.old result.1 beside.new }
 {
     // What is known of lines, for the proof alone: the call does nothing.
     lines_added();
-    counting.count(rt, gate, setup, taken)?;
-    Ok(())
+    counting.count_beside(rt, gate, setup, taken, beside)
 }
 
 /// Ends the stream and counts what is left of it: the line that is begun too, where `keep`. It answers how many bytes of the

@@ -8,7 +8,7 @@ use Rattle.std.proofs.lemmas.List.{get_or-set_other, get_or-set_same, length-map
 use Rattle.std.proofs.lemmas.List.Elements.{Contains-append_left, Contains-append_right, Contains-append_cases, Contains-push, Contains-push_cases}
 use Rattle.std.proofs.lemmas.Option.{slice_get-get_or, slice_get_past}
 use Rattle.smallvec.specs.SmallVec.{SmallVec}
-use Rattle.ga_tallies.specs.Adding.{AddsOne}
+use Rattle.ga_tallies.specs.Adding.{AddsOne, HoldTheSame}
 use Rattle.ga_tallies.specs.Steps.Absorbing.{AddsSuch, IsAmong, IsMapped, IsMappedItem}
 use Rattle.ga_tallies.specs.Tallies.{lists_in, pairs_from, row_pairs}
 use Rattle.ga_tallies.proofs.PairLists.{at-row, both-numbers, lists-set}
@@ -37,6 +37,14 @@ adds-both P Q R old mid new part left right one two = record {
   kept = λ x at. two.kept x (one.kept x at);
   there = λ x is. ⊎_elim (λ p. two.kept x (one.there x p)) (λ q. two.there x q) (part x is);
   only = λ x at. ⊎_elim (λ was. ⊎_elim (λ old. inl old) (λ p. inr (left x p)) (one.only x was)) (λ q. inr (right x q)) (two.only x at);
+}
+
+-- the same items were there before
+pub adds-behind : {T : Type 0} (P : T → Type 0) (old mid new : List T) → HoldTheSame old mid → AddsSuch P mid new → AddsSuch P old new
+adds-behind P old mid new same adds = record {
+  kept = λ x at. adds.kept x (same.kept x at);
+  there = adds.there;
+  only = λ x at. ⊎_elim (λ was. inl (same.only x was)) (λ is. inr is) (adds.only x at);
 }
 
 -- the same is said of them otherwise

@@ -2,6 +2,7 @@ ghost use Rattle.std.specs.Prelude.{◌≡◌, ◌<◌, ℕ, IfOk, OnOk, map};
 ghost use Rattle.ga_base.specs.Orders.{is_same_key, is_same_visitor};
 ghost use Rattle.ga_numbers.specs.Numbers.{AreNotedInTurn};
 ghost use Rattle.ga_summary.specs.Sound.{TotalsFit};
+ghost use Rattle.ga_tallies.specs.Adding.{HoldTheSame};
 ghost use Rattle.ga_tallies.specs.Steps.Absorbing.{AddsSuch, IsBrought, IsMoved, move_of, rows_added, sums_moved};
 ghost use Rattle.ga_tallies.specs.Tallies.{AbsorbsAll, totals_from};
 
@@ -30,17 +31,18 @@ impl Tally {
     {
         let totals = totals_with(self.totals, &others);
         let others = take_apart(alloc, others)?;
-        let (keys, visitors) = note_both(
+        let ((keys, pairs), visitors) = note_both(
             rt,
             alloc,
             self.keys,
             self.visitors,
+            self.pairs,
             others.keys,
             others.visitors,
         )?;
         let moves = moves_of(alloc, keys.numbers, visitors.numbers, others.counts)?;
         let many = keys.known.len() as usize;
-        let (sums, pairs) = add_moves(rt, many, self.sums, self.pairs, moves)?;
+        let (sums, pairs) = add_moves(rt, many, self.sums, pairs, moves)?;
         Ok(Tally {
             totals,
             keys: keys.known,
@@ -51,27 +53,45 @@ impl Tally {
     }
 }
 
-/// Notes other keys and other visitors, side by side. Keys and visitors share nothing, and each are with the thread that notes
-/// among them, which has their shards noted side by side too.
+/// Notes other keys and other visitors, side by side, and makes a row of pairs for each key. Keys and visitors share nothing, and
+/// each are with the thread that notes among them, which has their shards noted side by side too.
 fn note_both<R: Threads + Sync>(
     rt: &R,
     alloc: Global,
     keys: KeyNumbers,
     visitors: VisitorNumbers,
+    pairs: PairList,
     more_keys: Vec<KeyNumbers>,
     more_visitors: Vec<VisitorNumbers>,
-) -> Result<(Grown<KeyNumbers>, Grown<VisitorNumbers>), NoMemory>
-    ensures keys { IfOk result (λ both. AreNotedInTurn is_same_key more_keys.items (map (λ l. l.items) both.0.numbers.items) keys both.0.known) }
+) -> Result<((Grown<KeyNumbers>, PairList), Grown<VisitorNumbers>), NoMemory>
+    ensures keys { IfOk result (λ both. AreNotedInTurn is_same_key more_keys.items (map (λ l. l.items) both.0.0.numbers.items) keys both.0.0.known) }
+    ensures pairs { IfOk result (λ both. HoldTheSame pairs both.0.1) }
     ensures visitors { IfOk result (λ both. AreNotedInTurn is_same_visitor more_visitors.items (map (λ l. l.items) both.1.numbers.items) visitors both.1.known) }
 {
-    let note_keys = move || -> Result<Grown<KeyNumbers>, NoMemory>
-        ensures { IfOk result (λ grown. AreNotedInTurn is_same_key more_keys.items (map (λ l. l.items) grown.numbers.items) keys grown.known) }
-    { keys.with(rt, alloc, more_keys) };
+    let note_keys = move || -> Result<(Grown<KeyNumbers>, PairList), NoMemory>
+        ensures { IfOk result (λ both. AreNotedInTurn is_same_key more_keys.items (map (λ l. l.items) both.0.numbers.items) keys both.0.known × HoldTheSame pairs both.1) }
+    { keys_with_rows(rt, alloc, keys, more_keys, pairs) };
     let note_visitors = move || -> Result<Grown<VisitorNumbers>, NoMemory>
         ensures { IfOk result (λ grown. AreNotedInTurn is_same_visitor more_visitors.items (map (λ l. l.items) grown.numbers.items) visitors grown.known) }
     { visitors.with(rt, alloc, more_visitors) };
     let (keys, visitors) = thread::join(rt, note_keys, note_visitors);
     Ok((keys?, visitors?))
+}
+
+/// Keys after those of others were noted among them, and pairs with a row for each of them.
+fn keys_with_rows<R: Threads + Sync>(
+    rt: &R,
+    alloc: Global,
+    keys: KeyNumbers,
+    others: Vec<KeyNumbers>,
+    pairs: PairList,
+) -> Result<(Grown<KeyNumbers>, PairList), NoMemory>
+    ensures keys { IfOk result (λ both. AreNotedInTurn is_same_key others.items (map (λ l. l.items) both.0.numbers.items) keys both.0.known) }
+    ensures pairs { IfOk result (λ both. HoldTheSame pairs both.1) }
+{
+    let grown = keys.with(rt, alloc, others)?;
+    let many = grown.known.len() as usize;
+    Ok((grown, pairs.with_rows(many)?))
 }
 
 /// Adds what others have counted to the sums and pairs of so many keys, one after the other. What one of them has counted is
@@ -110,6 +130,9 @@ fn add_next<R: Threads + Sync>(
     ensures sums { IfOk result (λ both. both.0.items ≡ rows_added moved.now.keys.items moved.now.counts.sums.items sums.items) }
     ensures pairs { IfOk result (λ both. AddsSuch (IsBrought (move_of moved.now)) pairs both.1) }
 {
+    let Some(added) = added else {
+        return add_both(rt, keys, sums, pairs, moved);
+    };
     let forget = move || drop(added);
     let add = move || -> Result<(Vec<Sums>, PairList), NoMemory>
         requires { (pair : ℕ × ℕ) → IsBrought (move_of moved.now) pair → pair.0 < keys }

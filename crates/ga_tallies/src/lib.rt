@@ -24,7 +24,7 @@ pub use fault::TallyFault;
 pub use pairs::{Pair, Row, pairs_of};
 pub use parts::TallyParts;
 pub use tally::Tally;
-pub use weighing::middle_of;
+pub use weighing::part_of;
 
 #[cfg(test)]
 mod tests;

@@ -7,6 +7,7 @@ ghost use Rattle.ga_tallies.specs.Tallies.{lists_in, pair_of, pairs_in, row_pair
 use crate::moved::Moved;
 use crate::places::{make_places, put_at};
 use crate::visiting::add_in_parts;
+use crate::weighing::weights_of;
 use ga_base::NoMemory;
 use smallvec::SmallVec;
 use std::alloc::Global;
@@ -33,7 +34,7 @@ pub type Row = SmallVec<u32, IN_PLACE>;
 const FEW: usize = 64;
 
 /// In so many parts the pairs of another are added to rows.
-const PARTS: u32 = 8;
+const PARTS: u32 = 4;
 
 /// So many places there are for pairs that came lately, once the first came.
 const PLACES: usize = 1 << PLACE_BITS;
@@ -105,6 +106,19 @@ impl PairList {
         Ok(())
     }
 
+    /// The same pairs, with a row for each of so many keys.
+    pub(crate) fn with_rows(self, keys: usize) -> Result<PairList, NoMemory>
+        ensures { IfOk result (HoldTheSame self) }
+    {
+        let mut rows = self.rows;
+        let alloc = *rows.allocator();
+        make_rows(&mut rows, keys)?;
+        Ok(PairList {
+            rows,
+            recent: Vec::new(alloc),
+        })
+    }
+
     /// These pairs and those that another brings, which are added to the rows of keys in parts, side by side. There are `keys`
     /// keys. None is among those that came lately then.
     pub(crate) fn with<R: Threads + Sync>(
@@ -119,7 +133,8 @@ impl PairList {
         let mut rows = self.rows;
         let alloc = *rows.allocator();
         make_rows(&mut rows, keys)?;
-        add_in_parts(rt, PARTS, moved, 0, &mut rows)?;
+        let weights = weights_of(moved)?;
+        add_in_parts(rt, PARTS, moved, &weights, 0, &mut rows)?;
         Ok(PairList {
             rows,
             recent: Vec::new(alloc),

@@ -5,23 +5,21 @@ ghost use Rattle.ga_tallies.specs.Tallies.{lists_in, pairs_from, pairs_in};
 
 use crate::Row;
 use crate::moved::Moved;
-use crate::weighing::middle_of;
+use crate::weighing::{Weight, part_by};
 use ga_base::NoMemory;
 use std::thread::{Threads, join_mut};
 
 /// Of fewer keys no parts are made.
 const FEW: usize = 256;
 
-/// A key that has no visitor yet counts as one of so many. It is a new one, and another brings its visitors.
-const NEW: usize = 16;
-
 /// Adds the pairs that another brings to the rows of keys, of which the first has the number `first`, in so many parts, side by
-/// side. The parts are halves of halves by what the rows hold before.
+/// side, each in a thread that this one starts. What no part has it adds itself.
 #[cycle(parts)]
 pub(crate) fn add_in_parts<R: Threads + Sync>(
     rt: &R,
     parts: u32,
     moved: &Moved,
+    weights: &[Weight],
     first: usize,
     rows: &mut [Row],
 ) -> Result<(), NoMemory>
@@ -29,7 +27,7 @@ pub(crate) fn add_in_parts<R: Threads + Sync>(
     ensures { OnOk result (AddsSuch (IsAmong first (length rows.old) (IsBrought (move_of moved.now)))
         (pairs_from first (lists_in rows.old)) (pairs_from first (lists_in rows.new))) }
 {
-    if parts < 2 || rows.len() < FEW {
+    if parts < 1 || rows.len() < FEW {
         return add_rows(
             &moved.keys,
             &moved.visitors,
@@ -38,17 +36,28 @@ pub(crate) fn add_in_parts<R: Threads + Sync>(
             rows,
         );
     }
-    let middle = middle_of(rows, NEW);
-    let (low, high) = rows.split_at_mut(middle);
-    add_halves(rt, parts / 2, moved, first, low, first + middle, high)
+    let part = part_by(weights, first, rows.len(), parts);
+    let (low, high) = rows.split_at_mut(part);
+    add_beside(
+        rt,
+        parts - 1,
+        moved,
+        weights,
+        first,
+        low,
+        first + part,
+        high,
+    )
 }
 
-/// Adds the pairs that another brings to the rows of some keys, and beside them to those of the keys behind these.
+/// Adds the pairs that another brings to the rows of some keys in a thread of its own, and beside them, in so many parts, to those
+/// of the keys behind these.
 #[cycle(parts)]
-fn add_halves<R: Threads + Sync>(
+fn add_beside<R: Threads + Sync>(
     rt: &R,
     parts: u32,
     moved: &Moved,
+    weights: &[Weight],
     first: usize,
     low: &mut [Row],
     next: usize,
@@ -65,12 +74,12 @@ fn add_halves<R: Threads + Sync>(
         requires { IsSync R.row × (first + length low.now < 2 ^ 64) }
         ensures { OnOk result (AddsSuch (IsAmong first (length low.entry.now) (IsBrought (move_of moved.entry.now)))
             (pairs_from first (lists_in low.entry.now)) (pairs_from first (lists_in low.exit.now))) }
-    { add_in_parts(rt, parts, moved, first, low) };
+    { add_in_parts(rt, 0, moved, weights, first, low) };
     let mut back = || -> Result<(), NoMemory>
         requires { IsSync R.row × (next + length high.now < 2 ^ 64) }
         ensures { OnOk result (AddsSuch (IsAmong next (length high.entry.now) (IsBrought (move_of moved.entry.now)))
             (pairs_from next (lists_in high.entry.now)) (pairs_from next (lists_in high.exit.now))) }
-    { add_in_parts(rt, parts, moved, next, high) };
+    { add_in_parts(rt, parts, moved, weights, next, high) };
     let (front, back) = join_mut(rt, &mut front, &mut back);
     front.and(back)
 }

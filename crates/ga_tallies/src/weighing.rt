@@ -1,39 +1,119 @@
-ghost use Rattle.std.specs.Prelude.{◌<◌, ◌≤◌, length};
+ghost use Rattle.std.specs.Prelude.{◌<◌, ◌≤◌, ◌+◌, ◌^◌, length};
 
 use crate::Row;
+use crate::moved::Moved;
+use ga_base::NoMemory;
 
 /// So many of the first rows are weighed, and about as many of those behind them, as far from one another as they can be.
 const WEIGHED: usize = 2_048;
 
-/// Where rows are parted, so that about as much stands before that place as behind it. A row weighs what it has visitors, or
-/// `vacant` where it has none, and one more: keys that came first have far more visitors than others. Nothing but the time that
-/// the parts take depends on it.
-pub fn middle_of(rows: &[Row], vacant: usize) -> usize
+/// A key, by its number here, and what those weigh for which it stands.
+#[derive(Clone, Copy, Debug, PartialEq, Eq, PartialOrd, Ord)]
+pub(crate) struct Weight {
+    /// The key's number.
+    number: u32,
+    /// A row weighs what it has visitors, and one more.
+    weight: usize,
+}
+
+/// What keys of another weigh, by their numbers here, which rise.
+pub(crate) fn weights_of(moved: &Moved) -> Result<Vec<Weight>, NoMemory> {
+    let keys = moved.keys.len();
+    let front = keys.min(WEIGHED);
+    let step = (keys - front) / WEIGHED + 1;
+    let mut weights = Vec::new(*moved.keys.allocator());
+    weigh(&mut weights, moved, 0, front, 1)?;
+    weigh(&mut weights, moved, front, keys, step)?;
+    weights.sort_unstable();
+    Ok(weights)
+}
+
+/// Weighs the keys of another from one place to a second, each that stands a step behind the last for as many.
+fn weigh(
+    weights: &mut Vec<Weight>,
+    moved: &Moved,
+    from: usize,
+    to: usize,
+    step: usize,
+) -> Result<(), NoMemory>
+    requires { 0 < step }
+{
+    for place in (from..to).step_by(step) {
+        if let (Some(number), Some(row)) = (moved.keys.get(place), moved.counts.visits.get(place)) {
+            let weight = with_row(0, row).saturating_mul(step);
+            weights.push(Weight {
+                number: *number,
+                weight,
+            })?;
+        }
+    }
+    Ok(())
+}
+
+/// How many of so many keys, from the one with the number `first` on, are in the first of so many parts, which weighs about as much
+/// as each of the others. Nothing but the time that the parts take depends on it.
+pub(crate) fn part_by(weights: &[Weight], first: usize, many: usize, parts: u32) -> usize
+    requires numbers { first + many < 2 ^ 64 }
+    requires some { 0 < parts }
+    ensures { result ≤ many }
+{
+    let part = weight_within(weights, first, first + many) / parts as usize;
+    let mut before = 0usize;
+    for own in weights {
+        let number = own.number as usize;
+        if number >= first {
+            if before >= part {
+                return (number - first).min(many);
+            }
+            before = before.saturating_add(own.weight);
+        }
+    }
+    many
+}
+
+/// What keys weigh together whose numbers are from the first to the second of these.
+fn weight_within(weights: &[Weight], first: usize, stop: usize) -> usize {
+    let mut weight = 0usize;
+    for own in weights {
+        let number = own.number as usize;
+        if number >= first && number < stop {
+            weight = weight.saturating_add(own.weight);
+        }
+    }
+    weight
+}
+
+/// How many of these rows are in the first of so many parts, which weighs about as much as each of the others. A row weighs what
+/// it has visitors, and one more: keys that came first have far more visitors than others. Nothing but the time that the parts take
+/// depends on it.
+pub fn part_of(rows: &[Row], parts: u32) -> usize
+    requires { 0 < parts }
     ensures { result ≤ length rows.now }
 {
     let (front, back) = rows.split_at(rows.len().min(WEIGHED));
     let step = back.len() / WEIGHED + 1;
-    let first = weight_of(front, 1, vacant);
-    let half = first.saturating_add(weight_of(back, step, vacant).saturating_mul(step)) / 2;
-    if half <= first {
-        return place_of(front, 1, half, vacant);
+    let first = weight_of(front, 1);
+    let all = first.saturating_add(weight_of(back, step).saturating_mul(step));
+    let part = all / parts as usize;
+    if part <= first {
+        return reach_of(front, 1, part);
     }
-    front.len() + place_of(back, step, (half - first) / step, vacant)
+    front.len() + reach_of(back, step, (part - first) / step)
 }
 
 /// What the first row and each that stands a step behind another weigh together.
-fn weight_of(rows: &[Row], step: usize, vacant: usize) -> usize
+fn weight_of(rows: &[Row], step: usize) -> usize
     requires { 0 < step }
 {
     let mut weight = 0;
     for place in (0..rows.len()).step_by(step) {
-        weight = with_row(weight, &rows[place], vacant);
+        weight = with_row(weight, &rows[place]);
     }
     weight
 }
 
 /// Up to where these rows weigh so much together.
-fn place_of(rows: &[Row], step: usize, weight: usize, vacant: usize) -> usize
+fn reach_of(rows: &[Row], step: usize, weight: usize) -> usize
     requires { 0 < step }
     ensures { result ≤ length rows.now }
 {
@@ -42,13 +122,12 @@ fn place_of(rows: &[Row], step: usize, weight: usize, vacant: usize) -> usize
         if before >= weight {
             return place;
         }
-        before = with_row(before, &rows[place], vacant);
+        before = with_row(before, &rows[place]);
     }
     rows.len()
 }
 
 /// A weight and that of a row.
-fn with_row(weight: usize, row: &Row, vacant: usize) -> usize {
-    let own = if row.is_empty() { vacant } else { row.len() };
-    weight.saturating_add(own).saturating_add(1)
+fn with_row(weight: usize, row: &Row) -> usize {
+    weight.saturating_add(row.len()).saturating_add(1)
 }

@@ -93,7 +93,7 @@ impl Total {
 
     /// What the total tells to a report: what the summary would tell, without its names, and of the keys as they stand. It
     /// takes the time of a few looks at each visitor of each row, which with more jobs than one threads share; and the memory
-    /// of two numbers and a panel for each key, and, for each of eight parts of the keys that has a long row, of a mark for each
+    /// of two numbers and a panel for each key, and, for each of four parts of the keys that has a long row, of a mark for each
     /// visitor.
     pub fn told<R: Threads + Sync>(
         &self,
@@ -143,6 +143,6 @@ fn visits_and_panels<R: Threads + Sync>(
     let list = move || -> Result<Vec<Panel>, NoMemory>
         ensures { IfOk result (λ panels. panels.items ≡ map (λ key. key.panel) keys.entry.now) }
     { panels_of(alloc, keys) };
-    let (visits, panels) = thread::join(rt, count, list);
+    let (panels, visits) = thread::join(rt, list, count);
     Ok((visits?, panels?))
 }

@@ -7,12 +7,12 @@ ghost use Rattle.ga_totals.specs.Steps.Telling.{AreVisits};
 ghost use Rattle.ga_totals.specs.Steps.Visits.{AreMarks, counts_of};
 
 use ga_base::NoMemory;
-use ga_tallies::{Row, middle_of};
+use ga_tallies::{Row, part_of};
 use std::alloc::Global;
 use std::thread::{Threads, join_mut};
 
 /// The keys are counted in so many parts.
-const PARTS: u32 = 8;
+const PARTS: u32 = 4;
 
 /// In a row of at most so many visitors each is compared with those before it; in a longer one each is marked.
 const FEW: usize = 8;
@@ -49,7 +49,7 @@ pub(crate) fn visits_in_parts<R: Threads + Sync>(
 }
 
 /// Counts the visitors of as many keys as there are places, from the one with the number `first` on, in so many parts, side by
-/// side: in halves of halves by what the rows hold.
+/// side, each in a thread that this one starts. What no part has it counts itself.
 #[cycle(parts)]
 fn count_in_parts<R: Threads + Sync>(
     rt: &R,
@@ -64,17 +64,17 @@ fn count_in_parts<R: Threads + Sync>(
     requires within { AreWithin visitors (lists_in rows.now) }
     ensures { OnOk result (visits.new ≡ counts_of (lists_in rows.now) first (length visits.old)) }
 {
-    if parts < 2 {
+    if parts < 1 {
         return count_keys(alloc, visitors, rows, first, visits);
     }
-    let middle = middle_between(rows, first, visits.len());
-    let (low, high) = visits.split_at_mut(middle);
-    count_halves(rt, alloc, parts / 2, visitors, rows, first, low, high)
+    let part = part_between(rows, first, visits.len(), parts);
+    let (low, high) = visits.split_at_mut(part);
+    count_beside(rt, alloc, parts - 1, visitors, rows, first, low, high)
 }
 
-/// Counts the visitors of some keys, and beside them those of the keys behind these.
+/// Counts the visitors of some keys in a thread of their own, and beside them, in so many parts, those of the keys behind these.
 #[cycle(parts)]
-fn count_halves<R: Threads + Sync>(
+fn count_beside<R: Threads + Sync>(
     rt: &R,
     alloc: Global,
     parts: u32,
@@ -93,7 +93,7 @@ fn count_halves<R: Threads + Sync>(
     let mut front = || -> Result<(), NoMemory>
         requires { IsSync R.row × (first + length low.now < 2 ^ 32) × AreWithin visitors (lists_in rows.now) }
         ensures { OnOk result (low.exit.now ≡ counts_of (lists_in rows.entry.now) first (length low.entry.now)) }
-    { count_in_parts(rt, alloc, parts, visitors, rows, first, low) };
+    { count_in_parts(rt, alloc, 0, visitors, rows, first, low) };
     let mut back = || -> Result<(), NoMemory>
         requires { IsSync R.row × (next + length high.now < 2 ^ 32) × AreWithin visitors (lists_in rows.now) }
         ensures { OnOk result (high.exit.now ≡ counts_of (lists_in rows.entry.now) next (length high.entry.now)) }
@@ -102,15 +102,16 @@ fn count_halves<R: Threads + Sync>(
     front.and(back)
 }
 
-/// How many of so many keys, from the one with the number `first` on, are in the first half. Behind the last row keys have no
-/// visitors.
-fn middle_between(rows: &[Row], first: usize, many: usize) -> usize
-    requires { first + many < 2 ^ 64 }
+/// How many of so many keys, from the one with the number `first` on, are in the first of so many parts. Behind the last row keys
+/// have no visitors.
+fn part_between(rows: &[Row], first: usize, many: usize, parts: u32) -> usize
+    requires numbers { first + many < 2 ^ 64 }
+    requires some { 0 < parts }
     ensures { result ≤ many }
 {
     let stop = rows.len().min(first + many);
     let start = stop.min(first);
-    middle_of(&rows[start..stop], 0)
+    part_of(&rows[start..stop], parts)
 }
 
 /// Counts the visitors of as many keys as there are places, from the one with the number `first` on. Marks are made once a row

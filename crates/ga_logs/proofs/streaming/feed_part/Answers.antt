@@ -1,6 +1,7 @@
 use Rattle.std.proofs.Common.{arith, ◌≡◌, ◌-◌, ap, length, length-append, List, ℕ, subst, sym}
 use Rattle.std.proofs.lemmas.Result.{err_from_is_err_and}
 use Rattle.ga_ports.specs.Stretch.FilesWent.{no_files_call, files_then}
+use Rattle.ga_streams.proofs.Batches.{on-value}
 use Rattle.ga_resume.proofs.PartReads.{stops-more-within}
 use Rattle.ga_logs.proofs.StreamSteps.{FeedsBehind, after-taking, feeds-all, feeds-none, feeds-on, read-then, wants-after}
 use Rattle.ga_logs.proofs.streaming.feed_part.Goals as goal
@@ -71,11 +72,11 @@ returns-in_err-take_into-clause-failed g c =
 pub returns-in_err-take_into-clause-calls : goal.returns-in_err-take_into-clause-calls
 returns-in_err-take_into-clause-calls g c = files_then c.loop-at.invariant.went c.fill_and_count.ensures.calls
 
-pub returns-in_err-count_taken-clause-failed : goal.returns-in_err-count_taken-clause-failed
-returns-in_err-count_taken-clause-failed g c =
+pub returns-in_err-counted-clause-failed : goal.returns-in_err-counted-clause-failed
+returns-in_err-counted-clause-failed g c =
     let view = g.F.Files.view in
     let was = c.loop-at.invariant in
-    let p = err_from_is_err_and c.from_residual-in_err-count_taken.result c.from_residual-in_err-count_taken.ensures.1 in
+    let p = err_from_is_err_and c.from_residual-in_err-counted.result c.from_residual-in_err-counted.ensures.1 in
     rw (p.1, p.2) (wants-after (c.loop-at.at - c.args.from) (c.args.to - c.args.from) (view c.args.files.now) (view c.loop-at.files) (omega (arith, was.begun, was.within)) was.feeds.read.files)
 
 pub returns-clause-ok : goal.returns-clause-ok
@@ -89,5 +90,6 @@ returns-clause-ok g c =
     let same = subst (λ (xs : List ℕ). FeedsBehind c.args.setup.now c.args.from c.loop-at.at v w c.args.counting.now c.loop-at.counting xs c.args.batcher.now c.loop-at.batcher)
     (sym c.deref-2.ensures.value) was.feeds in
     let feeds = subst (λ (n : ℕ). FeedsBehind c.args.setup.now c.args.from n v w c.args.counting.now c.loop-at.counting taken c.args.batcher.now c.loop-at.batcher) over same in
-    feeds-all c.args.setup.now c.args.from c.args.to v w c.args.counting.now c.loop-at.counting c.count_taken.new.counting taken c.args.batcher.now c.loop-at.batcher feeds
-    c.in_ok-count_taken.ensures.start c.in_ok-count_taken.ensures.within
+    feeds-all c.args.setup.now c.args.from c.args.to v w c.args.counting.now c.loop-at.counting c.count_taken-counted.new.counting taken c.args.batcher.now c.loop-at.batcher feeds
+    (on-value c.count_taken-counted.result.0 tt c.in_ok-counted.was c.count_taken-counted.ensures.start)
+    (on-value c.count_taken-counted.result.0 tt c.in_ok-counted.was c.count_taken-counted.ensures.within)

@@ -6,23 +6,27 @@ use Rattle.ga_pool.specs.declared.drawing.Drawn.{Drawn}
 use Rattle.ga_pool.specs.declared.drawing.Turn.{Turn}
 use Rattle.ga_pool.specs.Steps.Drawing.{all_lines}
 use Rattle.ga_pool.specs.Together.{CountsOn}
-use Rattle.ga_pool.proofs.Answers.{both-some}
+use Rattle.ga_pool.proofs.Answers.{both-some, told-ok}
 use Rattle.ga_pool.proofs.Workers.{Gave, each-gave, workers-count}
 use Rattle.ga_pool.proofs.drawing.count_pieces.Goals as goal
 
-pub returns : goal.returns
-returns g c =
+pub returns-in-Ok-drawn-clause-counts : goal.returns-in-Ok-drawn-clause-counts
+returns-in-Ok-drawn-clause-counts g c =
     let setup = c.args.setup.now in
     let pieces : List (List ℕ) = map (λ (piece : Bor (List ℕ)). piece.now) c.args.pieces.now in
-    let ds : List Drawn = c.in_ok-drawn.drawn.items in
-    let turns : List Turn = c.in_ok-turns.turns.items in
+    let ds : List Drawn = c.in-Ok-drawn.drawn.items in
+    let begun = c.in-Ok-turns_of.turns in
+    let done = c.map_beside-drawn.ensures in
+    let many_done = told-ok c.map_beside-drawn.result.0 c.in-Ok-drawn.drawn _ c.in-Ok-drawn.is done.len in
+    let each_done = told-ok c.map_beside-drawn.result.0 c.in-Ok-drawn.drawn _ c.in-Ok-drawn.is done.work in
+    let turns : List Turn = begun.items in
     let old = c.args.tallies.items in
-    let long : length ds ≡ length turns = omega (arith, c.in_ok-drawn.ensures.len, c.in_ok-drawn.drawn.ok, c.in_ok-turns.turns.ok) in
-    let many : length turns ≡ length old = sym (length-map turns (λ (t : Turn). t.tally)) ∙ ap length c.in_ok-turns.ensures.tallies in
+    let long : length ds ≡ length turns = omega (arith, many_done, c.in-Ok-drawn.drawn.ok, begun.ok) in
+    let many : length turns ≡ length old = sym (length-map turns (λ (t : Turn). t.tally)) ∙ ap length c.in-Ok-turns_of.ensures.tallies in
     let each = each-gave setup pieces turns ds long (λ i t d lt.
-    let job = (c.in_ok-drawn.ensures.each i d (omega (arith, long, c.in_ok-turns.turns.ok, lt))).1 in
+    let job = (each_done i d (omega (arith, long, begun.ok, lt))).1 in
     subst (λ (turn : Turn). Gave setup pieces turn (get_or ds i d)) (sym (job.job_is t)) job.call.met.2) in
     both-some c.joined.result (λ v. map (λ (d : Drawn). d.tally) ds ≡ map Ok v.items) (λ v. AreAllBelow (flat_map (λ (d : Drawn). d.seat.view.drawn) ds))
     (λ v. CountsOn setup (all_lines pieces) old v.items)
-    (λ v is below. workers-count setup pieces turns ds old v.items (omega (arith, long, many, c.requires.some, c.args.tallies.ok)) c.in_ok-turns.ensures.tallies each is below)
+    (λ v is below. workers-count setup pieces turns ds old v.items (omega (arith, long, many, c.requires.some, c.args.tallies.ok)) c.in-Ok-turns_of.ensures.tallies each is below)
     c.joined.ensures.tallies c.joined.ensures.all

@@ -10,5 +10,5 @@ count_in_parts-returns g t c =
     let low = cut.result.0.now in
     let high = cut.result.1.now in
     let many = ap length cut.ensures.value ∙ length-append low high in
-    counts-both c.count_halves.result (lists_in c.args.rows.now) c.args.first (length low) (length high) (length c.args.visits.now) c.count_halves.new.low c.count_halves.new.high many
-    c.count_halves.ensures.low c.count_halves.ensures.high
+    counts-both c.count_beside.result (lists_in c.args.rows.now) c.args.first (length low) (length high) (length c.args.visits.now) c.count_beside.new.low c.count_beside.new.high many
+    c.count_beside.ensures.low c.count_beside.ensures.high

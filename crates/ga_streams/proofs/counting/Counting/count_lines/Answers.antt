@@ -1,13 +1,14 @@
 use Rattle.std.proofs.Common.{◌++◌, Option, Err, ap, sym, subst, true, arith, length, ◌∙◌}
 use Rattle.ga_line.specs.Lines.{lines}
+use Rattle.ga_pool.proofs.Answers.{told-ok}
 use Rattle.ga_pool.specs.declared.fault.PoolFault.{PoolFault}
 use Rattle.ga_streams.proofs.Counts.{all-fit, as-many-on, counted-on, fills-behind, none-counted, same-items, some-none, some-on, unfilled}
 use Rattle.ga_streams.specs.Counting.{CountingSeen, HasCounted, HasCountedBy}
 use Rattle.ga_streams.specs.declared.full.Full.{Full}
 use Rattle.ga_streams.proofs.counting.Counting.count_lines.Goals as goal
 
-pub count_on-requires-clause-before : goal.count_on-requires-clause-before
-count_on-requires-clause-before g c κs within =
+pub count_on-counted-requires-clause-before : goal.count_on-counted-requires-clause-before
+count_on-counted-requires-clause-before g c κs within =
     let none = ap (λ (v : CountingSeen). v.full) c.self.view_is ∙ c.requires.open in
     rw c.replace-tallies.ensures.value (all-fit c.self.inside.start c.self.inside.tallies.items c.self.invariant.1 (c.self.invariant.4 none))
 
@@ -19,12 +20,14 @@ invariant_of-self g c =
     let setup = c.args.setup.now in
     let all = lines c.args.batch.now true in
     let same = same-items given inside.tallies c.replace-tallies.ensures.value in
-    let many = as-many-on setup inside.start all inside.tallies.items given.items more.items same c.in-Ok.ensures.ok c.in-Ok.ensures.fit in (
+    let on = told-ok c.count_on-counted.result.0 more _ c.in-Ok.is c.count_on-counted.ensures.ok in
+    let fit = told-ok c.count_on-counted.result.0 more _ c.in-Ok.is c.count_on-counted.ensures.fit in
+    let many = as-many-on setup inside.start all inside.tallies.items given.items more.items same on fit in (
       c.self.invariant.0,
       c.self.invariant.1,
       c.self.invariant.2,
       omega (arith, many, more.ok, inside.tallies.ok, c.self.invariant.3),
-      λ none. some-on setup inside.start all inside.tallies.items given.items more.items same c.in-Ok.ensures.ok c.in-Ok.ensures.fit (c.self.invariant.4 none),
+      λ none. some-on setup inside.start all inside.tallies.items given.items more.items same on fit (c.self.invariant.4 none),
     )
 
 pub invariant_of-self-in-NoMemory : goal.invariant_of-self-in-NoMemory
@@ -47,10 +50,12 @@ returns-in-Ok-clause-counted g c before has =
     let all = lines c.args.batch.now true in
     let none = ap (λ (v : CountingSeen). v.full) c.self.view_is ∙ c.requires.open in
     let same = same-items given inside.tallies c.replace-tallies.ensures.value in
+    let on = told-ok c.count_on-counted.result.0 more _ c.in-Ok.is c.count_on-counted.ensures.ok in
+    let fit = told-ok c.count_on-counted.result.0 more _ c.in-Ok.is c.count_on-counted.ensures.fit in
     let held = subst (λ (v : CountingSeen). HasCounted setup before v) (sym c.self.view_is) has in
     let was = unfilled inside.full setup inside.start before inside.tallies.items none held in
     subst (λ (f : Option Full). HasCountedBy f setup inside.start (before ++ all) more.items) (sym none)
-    (counted-on setup inside.start all inside.tallies.items given.items more.items same c.in-Ok.ensures.ok c.in-Ok.ensures.fit before was)
+    (counted-on setup inside.start all inside.tallies.items given.items more.items same on fit before was)
 
 pub returns-in-CounterFull-clause-counted : goal.returns-in-CounterFull-clause-counted
 returns-in-CounterFull-clause-counted g c before has =
@@ -64,4 +69,4 @@ returns-in-CounterFull-clause-counted g c before has =
     let held = subst (λ (v : CountingSeen). HasCounted setup before v) (sym c.self.view_is) has in
     let was = unfilled inside.full setup inside.start before inside.tallies.items none held in
     fills-behind setup inside.start before (lines c.args.batch.now true) inside.tallies.items given.items which value same was
-    (c.count_on.ensures.full which value (c.in-Err.is ∙ ap (λ (fault : PoolFault). Err fault) c.in-CounterFull.is))
+    (c.count_on-counted.ensures.full which value (c.in-Err.is ∙ ap (λ (fault : PoolFault). Err fault) c.in-CounterFull.is))

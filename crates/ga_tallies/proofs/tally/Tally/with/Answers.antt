@@ -4,6 +4,7 @@ use Rattle.ga_base.specs.Orders.{is_same_key, is_same_visitor}
 use Rattle.ga_summary.specs.Sound.{TotalsFit}
 use Rattle.ga_tallies.specs.Steps.Absorbing.{AddsSuch, IsMoved, MoveSeen, counts_in, counts_seen, move_of, sums_moved}
 use Rattle.ga_tallies.specs.Tallies.{AbsorbsAll, TallySeen, totals_from}
+use Rattle.ga_tallies.proofs.AddedVisits.{adds-behind}
 use Rattle.ga_tallies.proofs.AllAbsorbed.{TakesAll, absorbed-all, moved-within, moves-are, moves_among}
 use Rattle.ga_numbers.proofs.InTurn.{numbers-many}
 use Rattle.ga_numbers.specs.Numbers.{all_in_turn}
@@ -72,7 +73,9 @@ returns-clause-absorbed g c =
       keys = keys.known ∙ ap (all_in_turn is_same_key old.keys) apart.keys;
       visitors = visitors.known ∙ ap (all_in_turn is_same_visitor old.visitors) apart.visitors;
       sums = c.in_ok-sums.ensures.sums ∙ ap (λ (l : List MoveSeen). sums_moved l old.sums.items) are;
-      pairs = subst (λ (l : List MoveSeen). AddsSuch (IsMoved l) old.pairs c.in_ok-sums.pairs) are c.in_ok-sums.ensures.pairs;
+      pairs =
+          subst (λ (l : List MoveSeen). AddsSuch (IsMoved l) old.pairs c.in_ok-sums.pairs) are
+          (adds-behind (IsMoved (map move_of c.in_ok-moves.moves.items)) old.pairs c.in_ok-keys.pairs c.in_ok-sums.pairs c.in_ok-keys.ensures.pairs c.in_ok-sums.ensures.pairs);
     } in
     let fit : TotalsFit c.totals_with-totals.result = subst TotalsFit (sym totals) (subst (λ (t : TallySeen). TotalsFit (totals_from t.totals others)) (sym c.self.view_is) c.requires) in
     subst (λ (t : TallySeen). AbsorbsAll others t new) c.self.view_is (absorbed-all others seen new takes fit)
