@@ -1,6 +1,6 @@
-use crate::{Follow, Start, count_logs};
+use crate::{CountFault, Follow, Start, count_logs};
 use ga_agents::Rules;
-use ga_base::{Entries, FormatFault, PanelSet, Statuses, Text, Texts, Totals};
+use ga_base::{Entries, FormatFault, NoMemory, PanelSet, Statuses, Text, Texts, Totals};
 use ga_dates::{DEFAULT_DATE, DEFAULT_TIME, compile_date, compile_time};
 use ga_format::{compile, format_text};
 use ga_hosts::Ranges;
@@ -8,9 +8,11 @@ use ga_line::LineSetup;
 use ga_outcomes::Setup;
 use ga_panels::PanelSetup;
 use ga_ports::{MemFiles, NoGate};
-use ga_streams::Workers;
+use ga_streams::{Workers, keyed_by};
+use ga_totals::Total;
 use std::alloc::Global;
 use std::test::Fail;
+use std::thread::Threads;
 
 /// Nothing was counted before.
 const NONE: Totals = Totals {
@@ -56,6 +58,34 @@ fn setup(alloc: Global) -> Result<Setup, FormatFault> {
     })
 }
 
+/// What logs of these names come to, followed so.
+fn total_of<R: Threads + Sync>(
+    rt: &R,
+    alloc: Global,
+    setup: &Setup,
+    follow: Follow,
+    names: &Texts,
+    entries: &mut Entries,
+    files: &mut MemFiles,
+) -> Result<Total, CountFault> {
+    let start = Start {
+        follow,
+        totals: NONE,
+    };
+    count_logs(
+        rt,
+        &NoGate::new(),
+        alloc,
+        setup,
+        WORKERS,
+        start,
+        None,
+        names.items(),
+        entries,
+        files,
+    )
+}
+
 /// Runs one after the other over a log: what is added to it before the run, how often the run names it, how the run follows it,
 /// and the lines and bytes that it counts. A line is `E`, or `U` where its line feed `N` isn't there yet; it has 10 bytes.
 const RUNS: [(&str, usize, Follow, u64, u64); 7] = [
@@ -98,22 +128,7 @@ fn follows_a_log(rt: HostRuntime) -> Result<(), Fail> {
         for _ in 0..times {
             names.push(name.clone()?)?;
         }
-        let start = Start {
-            follow,
-            totals: NONE,
-        };
-        let counted = count_logs(
-            &rt,
-            &NoGate::new(),
-            alloc,
-            &setup,
-            WORKERS,
-            start,
-            None,
-            names.items(),
-            &mut entries,
-            &mut files,
-        );
+        let counted = total_of(&rt, alloc, &setup, follow, &names, &mut entries, &mut files);
         let totals = counted.map(|sum| sum.totals());
         assert_eq!(rt;
             totals.map(|totals| (totals.lines, totals.bytes)),
@@ -121,5 +136,65 @@ fn follows_a_log(rt: HostRuntime) -> Result<(), Fail> {
         );
         assert_eq!(rt; entries.items().len(), 1);
     }
+    Ok(())
+}
+
+/// A log with one line, and one with two.
+const LOGS: [&[u8]; 2] = [
+    b"192.0.2.1 - - [01/Jan/2024:00:00:00 +0000] \"GET /a HTTP/1.1\" 200 10\n",
+    b"192.0.2.2 - - [02/Jan/2024:00:00:00 +0000] \"GET /b HTTP/1.1\" 200 10\n192.0.2.3 - - [02/Jan/2024:00:00:00 +0000] \"GET /c HTTP/1.1\" 200 10\n",
+];
+
+/// Adds a log with these bytes.
+fn add_log(
+    alloc: Global,
+    files: &mut MemFiles,
+    names: &mut Texts,
+    name: &str,
+    log: &[u8],
+) -> Result<(), NoMemory> {
+    let name = Text::of(alloc, name)?;
+    files.grow(&name, log)?;
+    names.push(name)?;
+    Ok(())
+}
+
+/// Whether the maps of what two logs come to hash by the words of the first of them, and whether by those of the second.
+fn hash_by<R: Threads + Sync>(
+    rt: &R,
+    alloc: Global,
+    setup: &Setup,
+    first: &[u8],
+    second: &[u8],
+) -> Result<[bool; 2], CountFault> {
+    let mut files = MemFiles::new(alloc);
+    let mut names = Texts::new(alloc);
+    add_log(alloc, &mut files, &mut names, "a.log", first)?;
+    add_log(alloc, &mut files, &mut names, "b.log", second)?;
+    let mut entries = Entries::new(alloc);
+    let total = total_of(
+        rt,
+        alloc,
+        setup,
+        Follow::Whole,
+        &names,
+        &mut entries,
+        &mut files,
+    )?;
+    Ok([
+        total.is_keyed_by(&keyed_by(first)),
+        total.is_keyed_by(&keyed_by(second)),
+    ])
+}
+
+#[test]
+fn maps_hash_by_the_first_batch(rt: HostRuntime) -> Result<(), Fail> {
+    let alloc = rt.alloc();
+    let Ok(setup) = setup(alloc) else {
+        return Err(Fail::from(FormatFault::NoMemory));
+    };
+    let [one, two] = LOGS;
+    assert_eq!(rt; hash_by(&rt, alloc, &setup, one, two), Ok([true, false]));
+    assert_eq!(rt; hash_by(&rt, alloc, &setup, two, one), Ok([true, false]));
     Ok(())
 }

@@ -60,6 +60,14 @@ impl KeyNumbers {
         }
     }
 
+    /// Whether all dictionaries are hashed by `keyed`, also those that are yet to be made. No answer depends on it: it is for
+    /// tests.
+    pub fn is_keyed_by(&self, keyed: &Keyed) -> bool {
+        self.keyed.begins_as(keyed)
+            && self.frames.is_keyed_by(keyed)
+            && self.rows.is_keyed_by(keyed)
+    }
+
     /// How many keys there are.
     pub fn len(&self) -> u32
         ensures value { result ≡ length self.now }

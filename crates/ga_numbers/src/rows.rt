@@ -66,6 +66,11 @@ impl Rows {
         }
     }
 
+    /// Whether the shards are hashed by `keyed`, also those that are yet to be made.
+    pub(crate) fn is_keyed_by(&self, keyed: &Keyed) -> bool {
+        self.keyed.begins_as(keyed) && self.shards.iter().all(|shard| shard.is_keyed_by(keyed))
+    }
+
     /// How many rows there are.
     pub(crate) fn len(&self) -> u32
         ensures value { result ≡ length self.now }

@@ -1,4 +1,4 @@
-ghost use Rattle.std.specs.Prelude.{◌≡◌, ◌<◌, ◌≤◌, All, IfOk, OnOk, IsTrue, filter, length, map};
+ghost use Rattle.std.specs.Prelude.{◌≡◌, ◌<◌, ◌≤◌, [], All, IfOk, OnOk, IsTrue, filter, length, map};
 ghost use Rattle.std.specs.List.Sorted.{IsPermutation, IsSorted};
 ghost use Rattle.std.specs.Thread.{IsSync};
 ghost use Rattle.ga_report.specs.Items.{is_of, order, undated};
@@ -165,12 +165,19 @@ fn added_in_turn<'a, T: Tells>(
     requires { CanAddUp (T.view told.now).rows spots.now }
     ensures { IfOk result (λ items. AreSummed (rows_at (T.view told.now).rows spots.now) items.items) }
 {
-    let mut names = Dictionary::new(alloc, keyed_by(&told.totals()));
+    let mut names = no_names(alloc, told);
     let mut items = Vec::new(alloc);
     for spot in spots {
         add_row(&mut names, &mut items, &told.row(spot.place))?;
     }
     Ok(items)
+}
+
+/// The names of no items, which are hashed by what all lines come to.
+pub(crate) fn no_names<'a, T: Tells>(alloc: Global, told: &T) -> Dictionary<ItemName<'a>>
+    ensures { result ≡ [] }
+{
+    Dictionary::new(alloc, keyed_by(&told.totals()))
 }
 
 /// How the names of items hash, by what all lines come to. Who writes lines into a log doesn't know what else will stand

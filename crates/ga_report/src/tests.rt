@@ -3,8 +3,10 @@ ghost use Rattle.std.specs.Option.{unwrap_or};
 ghost use Rattle.ga_base.specs.Layers.{day_key};
 ghost use Rattle.ga_summary.specs.Steps.TestKeys.{TEST_DAY, host_key};
 
+use crate::gathering::no_names;
 use crate::{Report, hundredths, rows};
 use ga_base::{Key, Keys, Listing, NoMemory, Panel, PanelSet, Record, Text};
+use ga_shards::Keyed;
 use ga_summary::Summary;
 use std::alloc::Global;
 use std::test::Fail;
@@ -137,5 +139,16 @@ fn many_hosts_are_looked_at_in_pieces(rt: HostRuntime) -> Result<(), Fail> {
         let report = rows(&rt, alloc, &sum, &PanelSet::all(), 366, jobs)?;
         assert_eq!(rt; shown(alloc, &report)?.as_str(), shares);
     }
+    Ok(())
+}
+
+#[test]
+fn names_are_hashed_by_the_totals(rt: HostRuntime) -> Result<(), Fail> {
+    let alloc = rt.alloc();
+    let mut sum = Summary::empty(alloc);
+    count(&mut sum, alloc, 0, 3)?;
+    let names = no_names(alloc, &sum);
+    assert!(rt; names.is_keyed_by(&Keyed::new(30, 3)));
+    assert!(rt; !names.is_keyed_by(&Keyed::new(3, 30)));
     Ok(())
 }

@@ -35,6 +35,12 @@ impl<T: Noted> Dictionary<T> {
         }
     }
 
+    /// Whether the items are hashed by `keyed`, as far as `begins_as` tells. No answer depends on it, so contracts, which see a
+    /// dictionary as its items, don't speak of it: it is for tests.
+    pub fn is_keyed_by(&self, keyed: &Keyed) -> bool {
+        self.items.hasher().begins_as(keyed)
+    }
+
     /// How many items there are.
     pub fn len(&self) -> u32
         ensures value { result ≡ length self.now }

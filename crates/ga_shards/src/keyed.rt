@@ -1,5 +1,5 @@
-ghost use Rattle.std.specs.Prelude.{◌≡◌};
-ghost use Rattle.ga_shards.specs.Keys.{keyed_with};
+ghost use Rattle.std.specs.Prelude.{◌≡◌, ◌==◌};
+ghost use Rattle.ga_shards.specs.Keys.{hash_of_nothing, keyed_with};
 
 use std::hash::{BuildHasher, DefaultHasher, Hasher};
 
@@ -20,6 +20,13 @@ impl Keyed {
         begun.write_u64(first);
         begun.write_u64(second);
         Keyed { begun }
+    }
+
+    /// Whether these hashers make of nothing what others make of it, as they do where their words are the same.
+    pub fn begins_as(&self, other: &Keyed) -> bool
+        ensures { result ≡ (hash_of_nothing self.now == hash_of_nothing other.now) }
+    {
+        self.begun.finish() == other.begun.finish()
     }
 }
 

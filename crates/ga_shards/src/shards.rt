@@ -39,7 +39,7 @@ fn shards_are_a_numbering<T: Hash>()
 {}
 
 /// The different items of each shard. The shards are looked for side by side.
-fn parts_of<R: Threads + Sync, T: Noted + Drop>(
+pub(crate) fn parts_of<R: Threads + Sync, T: Noted + Drop>(
     rt: &R,
     alloc: Global,
     keyed: Keyed,

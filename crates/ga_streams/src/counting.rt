@@ -110,8 +110,9 @@ impl Counting {
         }
     }
 
-    /// Makes a tally for each worker, where there is none yet. Their maps hash by what stands in this batch.
+    /// Makes a tally for each worker, where there is none yet. Their maps hash by what stands in this batch, which isn't empty.
     fn begin(&mut self, batch: &[u8]) -> Result<(), NoMemory>
+        requires { 1 ≤ length batch.now }
         ensures start { OnOk result (self.new.start ≡ self.old.start) }
         ensures full { OnOk result (self.new.full ≡ self.old.full) }
         ensures some { OnOk result (1 ≤ length self.new.tallies) }

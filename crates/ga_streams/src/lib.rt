@@ -14,5 +14,6 @@ mod workers;
 
 pub use counting::Counting;
 pub use full::{CountingFault, Full};
+pub use keys::keyed_by;
 pub use streams::{count_taken, end, feed};
 pub use workers::Workers;

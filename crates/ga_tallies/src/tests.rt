@@ -3,13 +3,14 @@ ghost use Rattle.ga_tallies.specs.Agents.{AreAgents};
 use crate::agents::AgentRef;
 use crate::{Agents, Pair, Tally, pairs_of};
 use ga_agents::Rules;
-use ga_base::{FormatFault, NoMemory, PanelSet, Statuses, Sums, Text, Texts, Totals};
+use ga_base::{FormatFault, NoMemory, Panel, PanelSet, Statuses, Sums, Text, Texts, Totals};
 use ga_dates::{DEFAULT_DATE, DEFAULT_TIME, compile_date, compile_time};
 use ga_format::{compile, format_text};
 use ga_hosts::Ranges;
 use ga_line::LineSetup;
+use ga_numbers::{KeyNumbers, VisitorNumbers, VisitorRef};
 use ga_outcomes::Setup;
-use ga_panels::PanelSetup;
+use ga_panels::{KeyRef, PanelSetup};
 use ga_shards::Keyed;
 use std::alloc::Global;
 use std::test::Fail;
@@ -89,6 +90,63 @@ fn counts_lines(rt: HostRuntime) -> Result<(), Fail> {
         pairs_of(alloc, &parts.visits)?.as_slice(),
         [Pair { key: 0, visitor: 0 }].as_slice()
     );
+    Ok(())
+}
+
+/// One key, hashed by `keyed`.
+fn key_hashed_by(alloc: Global, keyed: Keyed) -> Result<KeyNumbers, NoMemory> {
+    let key = KeyRef {
+        panel: Panel::Hosts,
+        date: 20_240_101,
+        parent: "",
+        label: "192.0.2.1",
+        method: "",
+        protocol: "",
+    };
+    let mut keys = KeyNumbers::new(alloc, keyed);
+    keys.number(alloc, &key)?;
+    Ok(keys)
+}
+
+#[test]
+fn keys_are_hashed_by_the_words_given(rt: HostRuntime) -> Result<(), NoMemory> {
+    let alloc = rt.alloc();
+    let keyed = Keyed::new(1, 2);
+    let own = key_hashed_by(alloc, keyed)?;
+    let other = key_hashed_by(alloc, Keyed::new(2, 1))?;
+    assert_eq!(rt; own.is_keyed_by(&keyed), true);
+    assert_eq!(rt; other.is_keyed_by(&keyed), false);
+    // Keys that take others in hash as before.
+    let both = own.with(&rt, alloc, vec![in alloc; other]?)?.known;
+    assert_eq!(rt; both.is_keyed_by(&keyed), true);
+    assert_eq!(rt; both.into_dictionary(alloc)?.is_keyed_by(&keyed), true);
+    Ok(())
+}
+
+/// One visitor, hashed by `keyed`.
+fn visitor_hashed_by(alloc: Global, keyed: Keyed) -> Result<VisitorNumbers, NoMemory> {
+    let visitor = VisitorRef {
+        host: "192.0.2.1",
+        date: 20_240_101,
+        agent: "curl",
+    };
+    let mut visitors = VisitorNumbers::new(alloc, keyed);
+    visitors.number(alloc, &visitor)?;
+    Ok(visitors)
+}
+
+#[test]
+fn visitors_are_hashed_by_the_words_given(rt: HostRuntime) -> Result<(), NoMemory> {
+    let alloc = rt.alloc();
+    let keyed = Keyed::new(1, 2);
+    let own = visitor_hashed_by(alloc, keyed)?;
+    let other = visitor_hashed_by(alloc, Keyed::new(2, 1))?;
+    assert_eq!(rt; own.is_keyed_by(&keyed), true);
+    assert_eq!(rt; other.is_keyed_by(&keyed), false);
+    // Visitors that take others in hash as before.
+    let both = own.with(&rt, alloc, vec![in alloc; other]?)?.known;
+    assert_eq!(rt; both.is_keyed_by(&keyed), true);
+    assert_eq!(rt; both.into_dictionary(alloc)?.is_keyed_by(&keyed), true);
     Ok(())
 }
 

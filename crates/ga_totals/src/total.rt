@@ -60,6 +60,11 @@ impl Total {
         }
     }
 
+    /// Whether keys and visitors are hashed by `keyed`. No answer depends on it: it is for tests.
+    pub fn is_keyed_by(&self, keyed: &Keyed) -> bool {
+        self.parts.keys.is_keyed_by(keyed) && self.parts.visitors.is_keyed_by(keyed)
+    }
+
     /// What was counted over all lines. No counter passes `LIMIT`.
     pub fn totals(&self) -> Totals
         ensures value { result ≡ self.now.totals }
