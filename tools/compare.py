@@ -374,7 +374,7 @@ def make(rng, narrow):
 
 FOLDERS = [b"folder", b"folder.json"]
 # what a database's sides are called; tools/try-database looks into them
-SIDES = [b"goaccess-0.db", b"goaccess-1.db"]
+SIDES = [b"goaccess.side0", b"goaccess.side1"]
 
 
 def expected(words, files, library=oracle):

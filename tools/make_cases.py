@@ -1,8 +1,7 @@
 #!/usr/bin/env python3
-"""Writes tables of runs in the form of those in crates/ga_run/src/tests. The answers come from goaccess_oracle.py.
+"""Writes the tables of runs of crates/ga_run_tests/src, each case with its name. The answers come from goaccess_oracle.py.
 
-    make_cases.py lines FILE    runs over one log, in which the formats and the lines vary
-    make_cases.py words FOLDER  runs in which the options vary, over up to three files: reports.rt and faults.rt
+    make_cases.py words FOLDER  runs in which the options and the lines vary, over up to three files: reports.rt and faults.rt
     make_cases.py runs FILE     runs that keep what they counted, one after the other, over logs that grow and are renamed
 """
 import os
@@ -10,10 +9,8 @@ import sys
 
 import goaccess_oracle as oracle
 
-HERE = os.path.dirname(os.path.abspath(__file__))
-with open(os.path.join(HERE, os.pardir, "examples", "access.log"), "rb") as example:
-    EXAMPLE = example.read()
 NAMES = [b"a.log", b"b.log", b"agents.txt"]
+HEAD = "//! Written by tools/make_cases.py; don't edit by hand.\n\n"
 BETWEEN_FILES = b"\n+++++\n"
 
 
@@ -55,46 +52,6 @@ x\\" 10.0.0.1" [01/Jan/2024:09:00:00 +0000] "GET /b HTTP/2" 200 5 3
 192.0.2.7" [01/Jan/2024:10:00:00 +0000] "GET /c HTTP/2" 200 5 -
 unknown, 192.0.2" [01/Jan/2024:08:00:00 +0000] "GET /d HTTP/2" 200 10 17
 '''
-OVER_LINES = [
-    ([COMBINED, "-o", "csv", "a.log"], EXAMPLE),
-    ([COMBINED, "-o", "json", "a.log"], EXAMPLE),
-    ([COMBINED, "-o", "csv", "a.log"], ONE_LINE),
-    ([COMMON, "-o", "json", "a.log"], ""),
-    ([COMMON, "-o", "csv", "a.log"], A * 2 + line(date="02/Jan/2024") * 2),
-    ([COMMON, "-o", "csv", "a.log"], line("/x", 404, "5") + A),
-    ([COMMON, "-o", "csv", "a.log"], line(end="\r\n") + "# note\n\n"),
-    ([COMBINED, "-o", "csv", "a.log"], A),
-    ([COMMON, "-o", "json", "a.log"], '192.0.2.1 - - [01/Jan/2024:00:00:00 +0000] "-" 408 -\n'),
-    ([COMMON, "-o", "csv", "a.log"], line("/a.css?v=1")),
-    ([COMMON, "-o", "csv", "a.log"], line(size=BIG) * 4),
-    ([COMMON, "-o", "csv", "a.log"], line(size=BIG) * 5),
-    (['--log-format=~h{, } %^[%d:%t %^] "%r" %s %b', "-o", "csv", "a.log"],
-     '10.0.0.1, 192.0.2.7 - [01/Jan/2024:00:00:00 +0000] "GET / HTTP/1.0" 200 0\n'),
-    ([COMBINED, "-o", "csv", "a.log"], line(size="5", more=agent('Foo \\"bar\\" Baz'))),
-    ([COMMON, "-o", "csv", "a.log"], line("/a,b", size="1")),
-    ([TIMED + "%T", "-o", "csv", "a.log"], "".join(line(more=" " + t) for t in ("0.1234567", "-", "1000000000000", "1000000000001"))),
-    ([TIMED + "%L %D", "-o", "json", "a.log"], line(more=" 1.5 9") + line(more=" 17 9")),
-    (['--log-format=~h{, }" [%d:%t %^] "%r" %s %b %D', "-o", "csv", "a.log"], FORWARDED),
-    ([COMMON, "-o", "csv", "a.log"], line(ODD)),
-    ([COMMON, "-o", "r.json", "a.log"], line(ODD)),
-    ([COMMON, "-o", "csv", "a.log"], SECOND),
-    ([COMMON, "--date-format=%F", "--time-format=%R", "-o", "r.csv", "a.log"],
-     '192.0.2.1 - - [2024-01-01:13:05 z] "GET /b HTTP/1.0" 200 7\n' + A),
-    ([COMMON, "-o", "csv", "b.log"], A),
-    (['--log-format=%h%d "%r"', "-o", "nothing.csv", "a.log"], A),
-    (['--log-format=%h "%r"', "-o", "csv", "a.log"], A),
-    (['--log-format=%h [%d] "%r" %z', "-o", "csv", "a.log"], A),
-    ([COMMON, "--date-format=%d/%m", "--time-format=%Q", "-o", "csv", "a.log"], A),
-    ([COMMON, "--date-format=%F", "--time-format=%H:%M:%H", "-o", "csv", "a.log"], A),
-    ([""], A),
-    ([COMMON, "a.log"], A),
-    ([COMMON, "--time-format=%T", "--date-format=%F", "-o", "csv", "a.log"], A),
-    ([COMMON, "--output", "csv", "a.log"], A),
-    ([COMMON, "-o", ".json", "a.log"], A),
-    ([COMMON, "-o", "csv", "-a.log"], A),
-    ([COMMON, "-o", "csv", "a.log", "a.log"], A),
-]
-
 
 CSV = [COMMON, "-o", "csv", "a.log"]
 HIDE = "VISITORS REQUESTS REQUESTS_STATIC NOT_FOUND HOSTS OS BROWSERS VISIT_TIMES VIRTUAL_HOSTS REFERRERS REFERRING_SITES KEYPHRASES STATUS_CODES REMOTE_USER CACHE_STATUS MIME_TYPE TLS_TYPE".split()
@@ -119,66 +76,93 @@ EVERY_LOG = '''www.example.org alice HIT 192.0.2.1 [2024-01-01 08:05:09] GET /a 
 www.example.org bob MISS ::1 [2024-01-01 09:00:00] HEAD /c - HTTP/2 204 0 "-" "-" TLSv1.2 /x 500
 '''
 FAULTS = [
-    (["--bogus"], {}), (["--jobs"], {}), (["--jobs=17", "a"], {}), (["--jobs", "17", "a"], {}), (["a"], {}), ([""], {}),
-    (["--generate=5", "--persist"], {}), (["--restore"], {}), (["-o", "csv"], {}), (["-o=json", "a.log"], {}), (["-"], {}),
-    (["--persist=yes", "--bogus"], {}), (["--exclude-ip=192.0.2.9-192.0.2.1", "a.log"], {}), (["--ignore-status=99", "a.log"], {}),
-    (["--ignore-status=600", "a.log"], {}), (["--ignore-panel=hosts", "a.log"], {}), (["--max-items=4294967296", "a.log"], {}),
-    (["--chunk-size=0", "a.log"], {}), (["--static-file=", "a.log"], {}), (["--browsers-file=", "a.log"], {}),
-    (["--", "--bogus", ""], {}), (["--generate=00000000007"], {}), (["--generate", "5", "a.log", COMMON], {}),
-    (["--generate=0000000007"], {}), (["--generate=2", "--log-format=%h"], {}),
+    ("an option that there isn't", ["--bogus"], {}),
+    ("an option without its value", ["--jobs"], {}),
+    ("a value out of range", ["--jobs=17", "a"], {}),
+    ("a value out of range, in the word after its option", ["--jobs", "17", "a"], {}),
+    ("a log without a format", ["a"], {}),
+    ("an empty word", [""], {}),
+    ("nothing to read", ["-o", "csv"], {}),
+    ("words that can't stand together", ["--generate=5", "--persist"], {}),
+    ("a format of the generator's lines without a date", ["--generate=2", "--log-format=%h"], {}),
 ]
 
 
-def of(words, a="", b=None, agents=None):
+def of(name, words, a="", b=None, agents=None):
     files = {"a.log": a}
     if b is not None or agents is not None:
         files["b.log"] = b or ""
     if agents is not None:
         files["agents.txt"] = agents
-    return words, files
+    return name, words, files
 
 
 OVER_WORDS = [
-    of([COMMON, "a.log"]),
-    of([COMBINED, "a.log"], ONE_LINE),
-    of([*CSV, "b.log"], TWO_DAYS, TWO_DAYS + line(host="2001:db8::1", date="03/Jan/2024") + "broken\n"),
-    of(["a.log", "-o", "r.json", "--log-format", "COMMON", "--", "a.log"], A),
-    of(CSV, A + "192.0.2.1 - - [01/Jan/2024:00:00:0"),
-    of(["--4xx-to-unique-count", *CSV], line("/x", 404, "5") + A),
-    of(["--all-static-files", *CSV], line("/a.css?v=1")),
-    of(["--no-query-string", *CSV], line("/a.css?v=1") + line("?x")),
-    of(["--double-decode-url", *only("REQUESTS", "REQUESTS_STATIC"), *CSV], line("/%2541") + line("/b%252Ecss") + line("/c%253Fx.css")),
-    of([*only("REQUESTS", "NOT_FOUND", "STATUS_CODES"), "--444-as-404", *CSV], line("/x", 444, "1") + line("/y", 404, "2")),
-    of([*only("REQUESTS", "NOT_FOUND", "STATUS_CODES"), *CSV], line("/x", 444, "1") + line("/y", 404, "2")),
-    of(["--max-items=1", *CSV], TWO_DAYS),
-    of(["--max-items", "0000000002", *only("HOSTS", "STATUS_CODES"), COMMON, "-o", "json", "a.log"],
+    of("an empty log", [COMMON, "a.log"]),
+    of("one line in the combined format", [COMBINED, "-o", "csv", "a.log"], ONE_LINE),
+    of("the same as JSON", [COMBINED, "a.log"], ONE_LINE),
+    of("two days, and two logs", [*CSV, "b.log"], TWO_DAYS, TWO_DAYS + line(host="2001:db8::1", date="03/Jan/2024") + "broken\n"),
+    of("a log that is named twice, once after two dashes", ["a.log", "-o", "r.json", "--log-format", "COMMON", "--", "a.log"], A),
+    of("a line that isn't ended", CSV, A + "192.0.2.1 - - [01/Jan/2024:00:00:0"),
+    of("line ends of two bytes, a comment and an empty line", CSV, line(end="\r\n") + "# note\n\n"),
+    of("lines that fail, each for a cause of its own", CSV, SECOND),
+    of("lines without referrer and agent in the combined format", [COMBINED, "-o", "csv", "a.log"], A),
+    of("an agent with quotes", [COMBINED, "-o", "csv", "a.log"], line(size="5", more=agent('Foo \\"bar\\" Baz'))),
+    of("a request that is a dash", [COMMON, "a.log"], '192.0.2.1 - - [01/Jan/2024:00:00:00 +0000] "-" 408 -\n'),
+    of("a name with all that CSV quotes", CSV, line(ODD)),
+    of("a name with all that JSON escapes", [COMMON, "-o", "r.json", "a.log"], line(ODD)),
+    of("seconds that an answer took", [TIMED + "%T", "-o", "csv", "a.log"],
+       "".join(line(more=" " + t) for t in ("0.1234567", "-", "1000000000000", "1000000000001"))),
+    of("milliseconds before microseconds", [TIMED + "%L %D", "-o", "json", "a.log"], line(more=" 1.5 9") + line(more=" 17 9")),
+    of("forwarded hosts", ['--log-format=~h{, }" [%d:%t %^] "%r" %s %b %D', "-o", "csv", "a.log"], FORWARDED),
+    of("a chain of forwarded hosts", ['--log-format=~h{, } %^[%d:%t %^] "%r" %s %b', "-o", "csv", "a.log"],
+       '10.0.0.1, 192.0.2.7 - [01/Jan/2024:00:00:00 +0000] "GET / HTTP/1.0" 200 0\n'),
+    of("another date and another time format", [COMMON, "--date-format=%F", "--time-format=%R", "-o", "r.csv", "a.log"],
+       '192.0.2.1 - - [2024-01-01:13:05 z] "GET /b HTTP/1.0" 200 7\n' + A),
+    of("visitors of answers 400 to 499", ["--4xx-to-unique-count", *CSV], line("/x", 404, "5") + A),
+    of("no visitors of answers 400 to 499", CSV, line("/x", 404, "5") + A),
+    of("static files with a query", ["--all-static-files", *CSV], line("/a.css?v=1")),
+    of("queries that are cut off", ["--no-query-string", *CSV], line("/a.css?v=1") + line("?x")),
+    of("URLs that are decoded twice", ["--double-decode-url", *only("REQUESTS", "REQUESTS_STATIC"), *CSV],
+       line("/%2541") + line("/b%252Ecss") + line("/c%253Fx.css")),
+    of("status 444 as not found", [*only("REQUESTS", "NOT_FOUND", "STATUS_CODES"), "--444-as-404", *CSV], line("/x", 444, "1") + line("/y", 404, "2")),
+    of("status 444 as any other", [*only("REQUESTS", "NOT_FOUND", "STATUS_CODES"), *CSV], line("/x", 444, "1") + line("/y", 404, "2")),
+    of("one row a panel", ["--max-items=1", *CSV], TWO_DAYS),
+    of("two rows a panel, and the order of rows", ["--max-items", "0000000002", *only("HOSTS", "STATUS_CODES"), COMMON, "-o", "json", "a.log"],
        line(host="192.0.2.3") + line(host="192.0.2.20") + line(host="192.0.2.100") + line(status=301) + line(status=302) + line(status=303) + line(status=303)),
-    of(["--ignore-panel=HOSTS", "--enable-panel=HOSTS", "--ignore-panel", "VISITORS", *CSV], A),
-    of(["--enable-panel=HOSTS", "--ignore-panel=HOSTS", *only("HOSTS", "REQUESTS"), *CSV], A),
-    of([*only(), COMMON, "-o", "json", "a.log"], A),
-    of(["--exclude-ip=192.0.2.1-192.0.2.9", "--exclude-ip", "2001:db8::5", "--ignore-status=500", *only("HOSTS"), *CSV],
+    of("the last word on a panel shows it", ["--ignore-panel=HOSTS", "--enable-panel=HOSTS", "--ignore-panel", "VISITORS", *CSV], A),
+    of("the last word on a panel hides it", ["--enable-panel=HOSTS", "--ignore-panel=HOSTS", *only("HOSTS", "REQUESTS"), *CSV], A),
+    of("no panel", [*only(), COMMON, "-o", "json", "a.log"], A),
+    of("addresses and statuses that are excluded",
+       ["--exclude-ip=192.0.2.1-192.0.2.9", "--exclude-ip", "2001:db8::5", "--ignore-status=500", *only("HOSTS"), *CSV],
        "".join(line(host=h) for h in ("192.0.2.9", "192.0.2.10", "::ffff:192.0.2.9", "2001:db8:0::0:5", "2001:db8::6")) + line(status=500, host="192.0.2.10")),
-    of(["--no-ip-validation", *CSV], line(host="proxy,1") + line(host="-") + line(host="192.0.2.1")),
-    of(["--no-strict-status", *only("STATUS_CODES", "VISITORS"), *CSV], line(status="-") + line(status=99) + line(status="404") + line(status="0200")),
-    of(["--static-file=.php", "--static-file", ".CSS", *only("REQUESTS", "REQUESTS_STATIC"), *CSV], line("/a.php") + line("/a.CSS") + line("/a.Css") + line("/a.php?x")),
-    of(["--ignore-crawlers", *only("OS", "BROWSERS", "KEYPHRASES", "REFERRING_SITES"), COMBINED, "-o", "csv", "a.log"], AGENTS),
-    of(["--browsers-file=agents.txt", *only("OS", "BROWSERS"), COMBINED, "-o", "csv", "a.log"], AGENTS, None, "# ours\r\nFoobot\t\tCrawlers\r\n\nMozilla/5.0\tOurs, all"),
-    of(["--ignore-crawlers", "--browsers-file", "agents.txt", *only("BROWSERS"), COMBINED, "-o", "csv", "a.log"], AGENTS, None, "Foo\tCrawlers\nGooglebot\tFriends\n"),
-    of(["--browsers-file=agents.txt", *CSV], A, None, "# x\nFoo\n"),
-    of(["--log-format=VCOMMON", *only("VIRTUAL_HOSTS"), "-o", "csv", "a.log"], VHOSTS),
-    of([EVERY, "--date-format=%Y-%m-%d", "--time-format= %H:%M:%S", "--output=csv", "a.log"], EVERY_LOG),
-    of([COMMON, "-o", "json", "--jobs=16", "--chunk-size", "1", "--db-path=x", "--output", "csv", *only("HOSTS"), "a.log"], TWO_DAYS),
-    of(["--generate=1000"]),
-    of(["--generate", "30", "-o", "r.csv", "--ignore-status=404", "--browsers-file=agents.txt", "--max-items=2"], "", None, "Firefox\tCrawlers\n"),
-    of(["--generate=5", "--log-format=%h - - [%d:%t %^] \"%r\" %s %^"]),
-    of(["-o", "nothing.csv", COMMON, "a.log", "nothing.log"], A),
-    of([COMMON, "-o", "csv", "--browsers-file=nothing.txt", "a.log"], A),
-    of([COMMON, "--date-format=%d", "--browsers-file=nothing.txt", "a.log"], A),
-    of(['--log-format=%h%d "%r"', "nothing.log"], A),
-    of([COMMON, "a.log", "nothing.log"], line(size=BIG) * 5),
-    of([COMMON, "a.log", "b.log"], line(size=BIG) * 3, line(size=BIG) * 2),
-    of([COMMON, "a.log"], line(size=BIG) * 6),
-] + [(words, files) for words, files in FAULTS]
+    of("hosts that are no addresses", ["--no-ip-validation", *CSV], line(host="proxy,1") + line(host="-") + line(host="192.0.2.1")),
+    of("statuses that are none", ["--no-strict-status", *only("STATUS_CODES", "VISITORS"), *CSV], line(status="-") + line(status=99) + line(status="404") + line(status="0200")),
+    of("endings of the user's", ["--static-file=.php", "--static-file", ".CSS", *only("REQUESTS", "REQUESTS_STATIC"), *CSV],
+       line("/a.php") + line("/a.CSS") + line("/a.Css") + line("/a.php?x")),
+    of("crawlers that are excluded", ["--ignore-crawlers", *only("OS", "BROWSERS", "KEYPHRASES", "REFERRING_SITES"), COMBINED, "-o", "csv", "a.log"], AGENTS),
+    of("rules of a browsers file", ["--browsers-file=agents.txt", *only("OS", "BROWSERS"), COMBINED, "-o", "csv", "a.log"], AGENTS, None,
+       "# ours\r\nFoobot\t\tCrawlers\r\n\nMozilla/5.0\tOurs, all"),
+    of("crawlers by a browsers file", ["--ignore-crawlers", "--browsers-file", "agents.txt", *only("BROWSERS"), COMBINED, "-o", "csv", "a.log"], AGENTS, None,
+       "Foo\tCrawlers\nGooglebot\tFriends\n"),
+    of("a line of a browsers file that is no rule", ["--browsers-file=agents.txt", *CSV], A, None, "# x\nFoo\n"),
+    of("virtual hosts", ["--log-format=VCOMMON", *only("VIRTUAL_HOSTS"), "-o", "csv", "a.log"], VHOSTS),
+    of("every field", [EVERY, "--date-format=%Y-%m-%d", "--time-format= %H:%M:%S", "--output=csv", "a.log"], EVERY_LOG),
+    of("the last of several outputs", [COMMON, "-o", "json", "--db-path=x", "--output", "csv", *only("HOSTS"), "a.log"], TWO_DAYS),
+    of("a thousand lines of the generator", ["--generate=1000"]),
+    of("the generator with options", ["--generate", "30", "-o", "r.csv", "--ignore-status=404", "--browsers-file=agents.txt", "--max-items=2"], "", None, "Firefox\tCrawlers\n"),
+    of("the generator's lines under another format", ["--generate=5", "--log-format=%h - - [%d:%t %^] \"%r\" %s %^"]),
+    of("a log that isn't there, after one that is", ["-o", "nothing.csv", COMMON, "a.log", "nothing.log"], A),
+    of("a browsers file that isn't there", [COMMON, "-o", "csv", "--browsers-file=nothing.txt", "a.log"], A),
+    of("a bad format before a file that isn't there", [COMMON, "--date-format=%d", "--browsers-file=nothing.txt", "a.log"], A),
+    of("a field directly followed by a field", ['--log-format=%h%d "%r"', "nothing.log"], A),
+    of("a log format without a date", ['--log-format=%h "%r"', "a.log"], A),
+    of("a counter at four times 10^18", CSV, line(size=BIG) * 4),
+    of("a counter at its limit", CSV, line(size=BIG) * 4 + line(size="611686018427387903")),
+    of("a counter that is full before the next log is opened", [COMMON, "a.log", "nothing.log"], line(size=BIG) * 5),
+    of("a counter that is full in the second log", [COMMON, "a.log", "b.log"], line(size=BIG) * 3, line(size=BIG) * 2),
+    of("a counter that is full before the last line", [COMMON, "a.log"], line(size=BIG) * 6),
+] + FAULTS
 
 
 def quoted(text):
@@ -208,14 +192,14 @@ def answer(words, files):
 def texts_of(cases):
     """Each case as text."""
     texts = []
-    for words, files in cases:
+    for name, words, files in cases:
         assert not any("|" in word for word in words)
         files = {key.encode(): text if isinstance(text, bytes) else text.encode() for key, text in files.items()}
         said = answer(words, files)
         assert list(files) == NAMES[: len(files)], files
         middle = BETWEEN_FILES.join(files.values())
-        case = "|".join(words).encode() + b"\n-----\n" + middle + b"\n-----\n" + said
-        assert case.count(b"\n-----\n") == 2 and b"\n=====\n" not in case and middle.count(BETWEEN_FILES) == max(0, len(files) - 1)
+        case = name.encode() + b"\n-----\n" + "|".join(words).encode() + b"\n-----\n" + middle + b"\n-----\n" + said
+        assert case.count(b"\n-----\n") == 3 and b"\n=====\n" not in case and middle.count(BETWEEN_FILES) == max(0, len(files) - 1)
         texts.append(case)
     return texts
 
@@ -227,13 +211,13 @@ def const_of(doc, const, texts):
 
 def write(name, *consts):
     with open(name, "w", encoding="utf-8", newline="") as out:
-        out.write("\n".join(const_of(*const) for const in consts))
+        out.write(HEAD + "\n".join(const_of(*const) for const in consts))
     return sum(len(texts) for _, _, texts in consts)
 
 
 def status_of(text):
     """The exit status of the run of a case."""
-    return int(text.split(b"\n-----\n")[2].split(b"\n", 1)[0])
+    return int(text.split(b"\n-----\n")[3].split(b"\n", 1)[0])
 
 
 def write_words(folder):
@@ -251,28 +235,28 @@ TRACKED = [COMMON, "-o", "csv", "--restore", "--persist"]
 HIDDEN = [*TRACKED, "--ignore-panel=REQUESTS"]
 LONG = line("/" + "x" * 5000)
 HISTORIES = [
-    # rotated between the runs
-    [("a.log", line("/a") + line("/b")), [*TRACKED, "a.log"], ("a.log", line("/c")), ("a.log", "a.log.1"), ("a.log", line("/d")),
+    ("logs that are rotated between the runs",
+     [("a.log", line("/a") + line("/b")), [*TRACKED, "a.log"], ("a.log", line("/c")), ("a.log", "a.log.1"), ("a.log", line("/d")),
      [*TRACKED, "a.log.1", "a.log"], ("a.log", line("/e")), [*TRACKED, "a.log.1", "a.log"], [COMMON, "-o", "csv", "--restore"],
-     [COMMON, "-o", "csv", "--persist", "a.log"], [COMMON, "-o", "csv", "--restore", "--db-path=elsewhere"]],
-    # one log named twice
-    [("a.log", A), [*TRACKED, "a.log", "a.log"], [COMMON, "-o", "csv", "a.log", "a.log"]],
-    # a line that isn't ended yet
-    [("a.log", A + A[:31]), [*TRACKED, "a.log"], [COMMON, "-o", "csv", "--restore", "a.log"], ("a.log", A[31:]), [*TRACKED, "a.log"], [*TRACKED, "a.log"],
-     [COMMON, "-o", "csv", "a.log"]],
-    # logs with one front of 4,096 bytes, and a log that is shorter than what was counted of another with its front
-    [("a.log", LONG + line(size="1")), ("b.log", LONG), [*HIDDEN, "a.log"], [*HIDDEN, "b.log"], ("b.log", line(size="3")), [*HIDDEN, "b.log", "a.log"]],
-    # a run that stops keeps nothing
-    [("a.log", A), [*TRACKED, "a.log", "gone.log"], [*TRACKED, "a.log"], ("a.log", line(size=BIG) * 5), [*TRACKED, "a.log"], [COMMON, "-o", "csv", "--restore"],
-     [COMMON, "--date-format=%d", "--restore"], [*TRACKED, "--browsers-file=gone.txt"]],
-    # nothing stored, and logs of which no line was ended
-    [[COMMON, "-o", "json", "--restore", "--ignore-panel=HOSTS"], ("a.log", "broken"), [*TRACKED, "a.log"], ("a.log", "\n"), [*TRACKED, "a.log"]],
+     [COMMON, "-o", "csv", "--persist", "a.log"], [COMMON, "-o", "csv", "--restore", "--db-path=elsewhere"]]),
+    ("a log that is named twice",
+     [("a.log", A), [*TRACKED, "a.log", "a.log"], [COMMON, "-o", "csv", "a.log", "a.log"]]),
+    ("a line that isn't ended yet",
+     [("a.log", A + A[:31]), [*TRACKED, "a.log"], [COMMON, "-o", "csv", "--restore", "a.log"], ("a.log", A[31:]), [*TRACKED, "a.log"], [*TRACKED, "a.log"],
+     [COMMON, "-o", "csv", "a.log"]]),
+    ("logs with one front of 4,096 bytes, and one that is shorter than what was counted of another",
+     [("a.log", LONG + line(size="1")), ("b.log", LONG), [*HIDDEN, "a.log"], [*HIDDEN, "b.log"], ("b.log", line(size="3")), [*HIDDEN, "b.log", "a.log"]]),
+    ("a run that stops keeps nothing",
+     [("a.log", A), [*TRACKED, "a.log", "gone.log"], [*TRACKED, "a.log"], ("a.log", line(size=BIG) * 5), [*TRACKED, "a.log"], [COMMON, "-o", "csv", "--restore"],
+     [COMMON, "--date-format=%d", "--restore"], [*TRACKED, "--browsers-file=gone.txt"]]),
+    ("nothing stored, and logs of which no line was ended",
+     [[COMMON, "-o", "json", "--restore", "--ignore-panel=HOSTS"], ("a.log", "broken"), [*TRACKED, "a.log"], ("a.log", "\n"), [*TRACKED, "a.log"]]),
 ]
 
 
 DOC_RUNS = """\
-/// Histories, a line of `=` between two, of steps with a line of `~` between two. A step appends to a log, which begins with
-/// `+` and its name; renames one, which begins with `>` and both names; or is a run: its words with a bar between two, and
+/// Histories, a line of `=` between two: a name, and steps, with a line of `~` before each. A step appends to a log, which begins
+/// with `+` and its name; renames one, which begins with `>` and both names; or is a run: its words with a bar between two, and
 /// what it answers, which is its exit status and then what standard output, standard error and the report's file took. The
 /// answers were worked out by a program in another language.
 """
@@ -292,48 +276,32 @@ def step_text(step, files, db):
     return b">" + name + b"|" + more + b"\n-----\n"
 
 
-def write_runs(name):
+def write_runs(path):
     texts = []
-    for history in HISTORIES:
+    for name, history in HISTORIES:
         files, db = {}, oracle.Database()
         steps = [step_text(step, files, db) for step in history]
         assert not any(b"\n~~~~~\n" in text or b"\n=====\n" in text or text.count(b"\n-----\n") != 1 for text in steps)
-        texts.append(b"\n~~~~~\n".join(steps))
-    table = b"\n=====\n".join(texts).decode("utf-8")
-    with open(name, "w", encoding="utf-8", newline="") as out:
-        out.write(DOC_RUNS + 'pub const HISTORIES: &str = "\\\n' + quoted(table) + '";\n')
-    return sum(isinstance(step, list) for history in HISTORIES for step in history)
+        texts.append(b"\n~~~~~\n".join([name.encode(), *steps]))
+    write(path, (DOC_RUNS, "HISTORIES", texts))
+    return sum(isinstance(step, list) for _, history in HISTORIES for step in history)
 
 
-DOC_LINES = """\
-/// Runs, a line of `=` between two: the words with a bar between two, the log `a.log`, and what the run answers, which
-/// is its exit status and then what standard output, standard error and the report's file took. The answers were worked
-/// out by a program in another language; the first log is that of examples/access.log.
-"""
 DOC_FAULTS = """\
-/// Runs whose words say no run, in the form of `REPORTS`: the words with a bar between two; the files `a.log`, `b.log` and
-/// `agents.txt`, as many as are there, a line of `+` between two; and what the run answers, which is its exit status and
-/// then what standard output, standard error and the report's file took. A line of `=` stands between two runs. The answers
-/// were worked out by a program in another language.
+/// Runs whose words say no run, in the form of `REPORTS`.
 """
 DOC_WORDS = """\
-/// Runs that print, a line of `=` between two: the words with a bar between two; the files `a.log`, `b.log` and
-/// `agents.txt`, as many as are there, a line of `+` between two; and what the run answers, which is its exit status and
-/// then what standard output, standard error and the report's file took. The answers were worked out by a program in
-/// another language.
+/// Runs that print, a line of `=` between two. A run has four parts, with a line of `-` between two: its name; its words, with a
+/// bar between two; the files `a.log`, `b.log` and `agents.txt`, as many as are there, with a line of `+` between two; and what it
+/// answers, which is its exit status and then what standard output, standard error and the report's file took. The answers were
+/// worked out by a program in another language.
 """
 
 
 def main():
-    if len(sys.argv) != 3 or sys.argv[1] not in ("lines", "words", "runs"):
+    if len(sys.argv) != 3 or sys.argv[1] not in ("words", "runs"):
         sys.exit(__doc__)
-    if sys.argv[1] == "runs":
-        print(write_runs(sys.argv[2]), "runs")
-        return
-    if sys.argv[1] == "lines":
-        count = write(sys.argv[2], (DOC_LINES, "CASES", texts_of((words, {"a.log": log}) for words, log in OVER_LINES)))
-    else:
-        count = write_words(sys.argv[2])
+    count = write_words(sys.argv[2]) if sys.argv[1] == "words" else write_runs(sys.argv[2])
     print(count, "runs")
 
 

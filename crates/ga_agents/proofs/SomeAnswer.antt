@@ -10,7 +10,8 @@ use Rattle.ga_agents.specs.declared.agent.Agent.{Agent}
 use Rattle.ga_agents.specs.declared.row.Rule.{Rule}
 use Rattle.ga_agents.specs.Classes.{unknown, crawlers, is_delimiter, HasBrowser, HasSystem, IsAgent}
 use Rattle.ga_agents.specs.Occurs.{Occurs, StandsFirst, NoneOccurs, IsFirstEntry}
-use Rattle.ga_agents.specs.RulesFile.{tab, number_sign, longest_line, IsPart, SpellsRule, IsPassedOver, LineGives, LinesGive, IsAnswered}
+use Rattle.ga_agents.specs.RulesFile.{tab, number_sign, IsPart, SpellsRule, IsPassedOver, LineGives, LinesGive, IsAnswered}
+use Rattle.ga_agents.specs.declared.row.TheConstants.{MAX_RULE_LINE}
 use Rattle.ga_agents.specs.Steps.{Begins, IsCut}
 use Rattle.ga_agents.specs.Tables.{rule, System, builtin_rules, systems}
 use Rattle.ga_agents.proofs.CutLemmas.{NoTab, AllTabs, first_tab, bad_token_spells_none, bad_category_spells_none, uncut_spells_none}
@@ -204,7 +205,7 @@ line_or_not line =
     (λ none. inr (λ given gives. ⊎_elim (λ over. lives over.0) (λ spells. none spells.1.0 spells.1.1) gives.1))
     (rule_or_not line))
     (over_or_not line))
-    (cases_lt longest_line (length line))
+    (cases_lt MAX_RULE_LINE (length line))
 
 -- the first line of a list that gives nothing, where there is one
 record HasBad (ls : List (List ℕ)) : Type 0 where

@@ -2,6 +2,7 @@
 -- is a crawler. By first occurrence; the ends of a browser's text are our own rule.
 use Rattle.std.specs.Prelude.{◌≡◌, ◌≢◌, ℕ, ◌↔◌, ◌⊎◌, Bool, ◌||◌, ◌==◌, List, [], ◌++◌, codes, IsTrue}
 use Rattle.std.specs.List.{AllByRecursion, before_first}
+use Rattle.ga_base.specs.Bytes.{byte_of}
 use Rattle.ga_agents.specs.declared.agent.Agent.{Agent}
 use Rattle.ga_agents.specs.declared.agent.Class.{Class}
 use Rattle.ga_agents.specs.declared.row.Rule.{Rule}
@@ -16,9 +17,10 @@ unknown = codes "Unknown"
 abbrev pub crawlers : List ℕ
 crawlers = codes "Crawlers"
 
--- the bytes at which a browser's text ends: a space, `;`, `,`, `(` and `)`
+-- the bytes at which a browser's text ends
 abbrev pub is_delimiter : ℕ → Bool
-is_delimiter b = b == 32 || b == 59 || b == 44 || b == 40 || b == 41
+is_delimiter b =
+    b == byte_of (codes " ") || b == byte_of (codes ";") || b == byte_of (codes ",") || b == byte_of (codes "(") || b == byte_of (codes ")")
 
 -- the text from the token's first place up to the first delimiter at or after the token's end, or to the end
 pub record IsBrowserText (token agent browser : List ℕ) : Type 0 where

@@ -4,20 +4,18 @@ use Rattle.std.specs.Prelude.{◌≡◌, ◌≢◌, ℕ, ◌+◌, ◌≤◌, ◌
 use Rattle.std.specs.List.{AllByRecursion}
 use Rattle.std.specs.Str.{IsUtf8}
 use Rattle.std.specs.Str.Lines.{lines}
+use Rattle.ga_base.specs.Bytes.{byte_of}
 use Rattle.ga_agents.specs.declared.fault.RuleFault.{RuleFault}
 use Rattle.ga_agents.specs.declared.fault.RuleFault.TheVariants.{RuleFault as BadLine, NoMemory}
 use Rattle.ga_agents.specs.declared.row.Rule.{Rule}
+use Rattle.ga_agents.specs.declared.row.TheConstants.{MAX_RULE_LINE}
 
 abbrev pub tab : ℕ
 tab = 9
 
--- the byte that begins a comment, '#'
+-- the byte that begins a comment
 abbrev pub number_sign : ℕ
-number_sign = 35
-
--- the longest line, in bytes without its end
-abbrev pub longest_line : ℕ
-longest_line = 1024
+number_sign = byte_of (codes "#")
 
 -- a token or a category: text with no tab, and not empty
 pub record IsPart (text : List ℕ) : Type 0 where
@@ -40,7 +38,7 @@ IsPassedOver line = (line ≡ []) ⊎ ((comment : List ℕ) × (line ≡ number_
 -- the rules that a line gives: none where it is passed over, or else the one that it spells
 abbrev pub LineGives : List ℕ → List Rule → Type 0
 LineGives line given =
-    (length line ≤ longest_line)
+    (length line ≤ MAX_RULE_LINE)
     × ((IsPassedOver line × (given ≡ []))
     ⊎ (¬ IsPassedOver line × ((rule : Rule) × SpellsRule line rule × (given ≡ rule ∷ []))))
 

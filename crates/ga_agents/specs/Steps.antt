@@ -6,8 +6,8 @@ use Rattle.ga_agents.specs.declared.classes.Found.{Found}
 use Rattle.ga_agents.specs.declared.fault.RuleFault.{RuleFault}
 use Rattle.ga_agents.specs.declared.fault.RuleFault.TheVariants.{RuleFault as BadLine, NoMemory}
 use Rattle.ga_agents.specs.declared.pair_set.PairSet.{PairSet}
-use Rattle.ga_agents.specs.declared.row.Row.{Row}
-use Rattle.ga_agents.specs.declared.row.Row.TheVariants.{PassedOver, Entry}
+use Rattle.ga_agents.specs.declared.row.RulesLine.{RulesLine}
+use Rattle.ga_agents.specs.declared.row.RulesLine.TheVariants.{PassedOver, Entry}
 use Rattle.ga_agents.specs.declared.row.Rule.{Rule}
 use Rattle.ga_agents.specs.declared.tables.BrowserEntry.{BrowserEntry}
 use Rattle.ga_agents.specs.declared.tables.SystemEntry.{SystemEntry}
@@ -71,7 +71,7 @@ pub record IsCut (line token category : List ℕ) : Type 0 where
   pub begins : Begins category
 
 -- the rules that a row of the file adds
-abbrev pub rules_of_row : Row → List Rule
+abbrev pub rules_of_row : RulesLine → List Rule
 rules_of_row PassedOver = []
 rules_of_row (Entry token category) = rule token.now category.now ∷ []
 

@@ -17,8 +17,6 @@ mod pair_set;
 mod row;
 mod rules;
 mod tables;
-#[cfg(test)]
-mod tests;
 
 pub use agent::{Agent, Class};
 pub use fault::RuleFault;

@@ -8,7 +8,7 @@ use bstr::ByteSlice;
 use ga_base::Text;
 
 /// The longest line of a browsers file, in bytes without its end (own profile).
-const MAX_LINE: usize = 1_024;
+const MAX_RULE_LINE: usize = 1_024;
 
 /// The byte that begins a comment.
 const COMMENT: u8 = b'#';
@@ -35,7 +35,7 @@ impl HasToken for Rule {
 
 /// A line of a browsers file.
 #[derive(Clone, Copy)]
-pub(crate) enum Row<'a> {
+pub(crate) enum RulesLine<'a> {
     /// An empty line or a comment.
     PassedOver,
     /// A rule.
@@ -43,17 +43,17 @@ pub(crate) enum Row<'a> {
 }
 
 /// What a line says, given without its end. `None` where it is no row, or too long.
-pub(crate) fn row_of(line: &[u8]) -> Option<Row<'_>>
+pub(crate) fn row_of(line: &[u8]) -> Option<RulesLine<'_>>
     ensures { MatchOption result ((given : List RuleSpec) → ¬ LineGives line.now given) (λ row. LineGives line.now (rules_of_row row)) }
 {
-    if line.len() > MAX_LINE {
+    if line.len() > MAX_RULE_LINE {
         return None;
     }
     if is_passed_over(line) {
-        return Some(Row::PassedOver);
+        return Some(RulesLine::PassedOver);
     }
     let (token, category) = cut(line)?;
-    Some(Row::Entry {
+    Some(RulesLine::Entry {
         token: part(token)?,
         category: part(category)?,
     })

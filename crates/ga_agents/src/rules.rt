@@ -7,7 +7,7 @@ ghost use Rattle.ga_agents.specs.Steps.{IsLineFault};
 
 use crate::agent_text::AgentText;
 use crate::classes::{browser_in, found_in, system_in};
-use crate::row::{Row, row_of};
+use crate::row::{RulesLine, row_of};
 use crate::{Agent, Class, Rule, RuleFault};
 use bstr::ByteSlice;
 use ga_base::{Listing, NoMemory, Text};
@@ -143,8 +143,8 @@ fn read_line(
 {
     match row_of(line) {
         None => Err(RuleFault::RuleFault { line: number }),
-        Some(Row::PassedOver) => Ok(()),
-        Some(Row::Entry { token, category }) => {
+        Some(RulesLine::PassedOver) => Ok(()),
+        Some(RulesLine::Entry { token, category }) => {
             rules.push(Rule {
                 token: Text::of(alloc, token)?,
                 category: Text::of(alloc, category)?,

@@ -1,1 +1,3 @@
 pub mod OrderLemmas
+pub mod InPieces
+pub mod InParts

@@ -1,3 +1,6 @@
+ghost use Rattle.std.specs.Prelude.{◌≡◌};
+ghost use Rattle.ga_base.specs.Totals.{LinesAdd, TotalsFit, totals_plus};
+
 /// The greatest value of a counter, `2^62 - 1` (own profile).
 pub const LIMIT: u64 = 4_611_686_018_427_387_903;
 
@@ -32,6 +35,35 @@ pub struct Totals {
     pub bytes: u64,
     /// The sum of the counted lines' times in microseconds.
     pub micros: u64,
+}
+
+impl Totals {
+    /// The totals of no lines.
+    pub const ZERO: Totals = Totals {
+        lines: 0,
+        failed: 0,
+        excluded: 0,
+        hits: 0,
+        bytes: 0,
+        micros: 0,
+    };
+
+    /// The totals of these lines and of `more`, each within its limit. The sum may pass a limit.
+    pub fn plus(&self, more: &Totals) -> Totals
+        requires fit { TotalsFit self.now × TotalsFit more.now }
+        requires lines { LinesAdd self.now × LinesAdd more.now }
+        ensures value { result ≡ totals_plus self.now more.now }
+        ensures lines { LinesAdd result }
+    {
+        Totals {
+            lines: self.lines + more.lines,
+            failed: self.failed + more.failed,
+            excluded: self.excluded + more.excluded,
+            hits: self.hits + more.hits,
+            bytes: self.bytes + more.bytes,
+            micros: self.micros + more.micros,
+        }
+    }
 }
 
 /// What a summary says of one key.

@@ -12,6 +12,7 @@ ghost use Rattle.ga_base.specs.contracts.panel.PanelPartialEq.TheImpl.{ghosts as
 ghost use Rattle.ga_base.specs.declared.counts.TheConstants.{BIG, LIMIT};
 ghost use Rattle.ga_base.specs.declared.key.Key.{Key};
 ghost use Rattle.ga_base.specs.declared.key.Visitor.{Visitor};
+ghost use Rattle.ga_base.specs.declared.limits.TheConstants.{FRONT, LINE_FEED, MAX_BATCH, MAX_CHUNK, MAX_JOBS};
 ghost use Rattle.ga_base.specs.declared.name.Name.{Name};
 ghost use Rattle.ga_base.specs.declared.panel.Panel.{Panel};
 ghost use Rattle.ga_base.specs.declared.record.TheConstants.{MAX_LINE};
@@ -23,6 +24,11 @@ pub fn limits()
     ensures counters { LIMIT ≡ 2 ^ 62 - 1 }
     ensures amounts { BIG ≡ 10 ^ 18 }
     ensures lines { MAX_LINE ≡ 65535 }
+    ensures line_feed { LINE_FEED ≡ 10 }
+    ensures front { FRONT ≡ 4096 }
+    ensures batch { MAX_BATCH ≡ 2 ^ 24 }
+    ensures jobs { MAX_JOBS ≡ 16 }
+    ensures chunk { MAX_CHUNK ≡ 32768 }
 {}
 
 /// Panels are ordered by their numbers, which tell them apart.

@@ -1,5 +1,7 @@
-ghost use Rattle.std.specs.Prelude.{◌≡◌};
+ghost use Rattle.std.specs.Prelude.{◌≡◌, MatchOption};
+ghost use Rattle.ga_base.specs.Layers.{has_groups};
 ghost use Rattle.ga_base.specs.Panels.{panel_number};
+ghost use Rattle.ga_base.specs.declared.panel.Panel.{Panel as ThePanel};
 
 /// A panel of the report, in the report's order.
 #[derive(Clone, Copy, Debug, PartialEq, Eq, PartialOrd, Ord, Hash)]
@@ -43,6 +45,44 @@ pub enum Panel {
 impl Panel {
     /// The number of panels.
     pub const COUNT: usize = 17;
+
+    /// All panels, in the report's order.
+    pub const ALL: [Panel; Panel::COUNT] = [
+        Panel::Visitors,
+        Panel::Requests,
+        Panel::RequestsStatic,
+        Panel::NotFound,
+        Panel::Hosts,
+        Panel::Os,
+        Panel::Browsers,
+        Panel::VisitTimes,
+        Panel::VirtualHosts,
+        Panel::Referrers,
+        Panel::ReferringSites,
+        Panel::Keyphrases,
+        Panel::StatusCodes,
+        Panel::RemoteUser,
+        Panel::CacheStatus,
+        Panel::MimeType,
+        Panel::TlsType,
+    ];
+
+    /// The panel at a place of the report's order, from 0; `None` past the last.
+    pub fn from_number(number: usize) -> Option<Panel>
+        ensures { MatchOption result ((panel : ThePanel) → panel_number panel ≡ number → ⊥) (λ panel. panel_number panel ≡ number) }
+    {
+        Panel::ALL.get(number).copied()
+    }
+
+    /// Whether the panel's entries stand in groups, each with a row of its own.
+    pub fn has_groups(&self) -> bool
+        ensures { result ≡ has_groups self.now }
+    {
+        matches!(
+            self,
+            Panel::Os | Panel::Browsers | Panel::StatusCodes | Panel::MimeType
+        )
+    }
 
     /// The panel's place in the report's order, from 0.
     pub fn number(&self) -> usize

@@ -9,17 +9,18 @@ use std::marker::Model;
 #[derive(Clone, Copy, Debug, PartialEq, Eq)]
 pub struct PanelSet {
     /// Whether the panel of each number is in the set.
-    flags: [bool; 17],
+    flags: [bool; Panel::COUNT],
 }
 
 impl Model for PanelSet {
     ghost use Rattle.std.specs.Prelude.{◌≡◌, Bool, List, length};
+    ghost use Rattle.ga_base.specs.declared.panel.TheConstants.Panel.{COUNT};
 
     ghost Value = { List Bool };
 
     ghost view = { λ s. s.flags };
 
-    ghost invariant = { λ s. length s.flags ≡ 17 };
+    ghost invariant = { λ s. length s.flags ≡ COUNT };
 
     ghost inverse = { λ flags. record { flags = flags } };
 }
@@ -27,18 +28,22 @@ impl Model for PanelSet {
 impl PanelSet {
     /// All panels.
     pub fn all() -> PanelSet
-        ensures flags { result ≡ replicate 17 true }
+        ensures flags { result ≡ replicate Panel.COUNT true }
         ensures panels { (panel : ThePanel) → has_panel result panel ≡ true }
     {
-        PanelSet { flags: [true; 17] }
+        PanelSet {
+            flags: [true; Panel::COUNT],
+        }
     }
 
     /// No panel.
     pub fn none() -> PanelSet
-        ensures flags { result ≡ replicate 17 false }
+        ensures flags { result ≡ replicate Panel.COUNT false }
         ensures panels { (panel : ThePanel) → has_panel result panel ≡ false }
     {
-        PanelSet { flags: [false; 17] }
+        PanelSet {
+            flags: [false; Panel::COUNT],
+        }
     }
 
     /// Puts a panel in, where `on`, or takes it out. The others stay as they are.

@@ -6,9 +6,11 @@ use Rattle.std.proofs.lemmas.List.Splits.{slice_split-cons_yes, slice_split-cons
 use Rattle.std.proofs.lemmas.List.Elements.{All-from_get_or, All-contains, All-nil, All-push, All-take, Contains-get_or, Contains-append_cases}
 use Rattle.std.specs.Prelude.{◌==◌}
 use Rattle.std.specs.List.{onto_first, join_with_byte, All, Contains}
-use Rattle.ga_batches.specs.Lines.{pieces, cut_line, cut_lines, IsEnded}
+use Rattle.ga_batches.specs.Lines.{pieces, cut_line, cut_lines}
+use Rattle.ga_base.specs.Lines.{IsEnded}
 use Rattle.ga_batches.specs.Laws.{CutsEachPiece, CutsOnce, CutsApart}
-use Rattle.ga_batches.specs.declared.batcher.TheConstants.{LINE_FEED, LINE_HELD}
+use Rattle.ga_base.specs.declared.limits.TheConstants.{LINE_FEED}
+use Rattle.ga_batches.specs.declared.batcher.TheConstants.{LINE_HELD}
 
 abbrev pub feeds : ℕ → Bool
 feeds b = b == LINE_FEED

@@ -4,10 +4,12 @@ use Rattle.std.proofs.lemmas.Bool.{false≢true, true≢false, cases_Bool, cases
 use Rattle.std.proofs.lemmas.List.{append-nil, length-take-le, take-append-drop, take-append-le, drop-append-le, drop_all, drop-take, take-take, take_rest, take_at, get_or-append_right}
 use Rattle.std.proofs.lemmas.List.Elements.{Contains-get_or}
 use Rattle.std.specs.List.{Contains}
-use Rattle.ga_batches.specs.Lines.{cut_line, cut_lines, IsEnded, AreEnded}
+use Rattle.ga_batches.specs.Lines.{cut_line, cut_lines}
+use Rattle.ga_base.specs.Lines.{IsEnded, AreEnded}
 use Rattle.ga_batches.specs.Batches.{BatcherSeen, IsBatcher, IsFull, Feeds, Holds, HoldsLast, held, fresh}
 use Rattle.ga_batches.specs.Steps.{GoesOn, with_line_ended}
-use Rattle.ga_batches.specs.declared.batcher.TheConstants.{LINE_FEED, LINE_HELD, LEAST_LIMIT, MOST_LIMIT}
+use Rattle.ga_base.specs.declared.limits.TheConstants.{LINE_FEED, MAX_BATCH}
+use Rattle.ga_batches.specs.declared.batcher.TheConstants.{LINE_HELD, LEAST_LIMIT}
 use Rattle.ga_batches.proofs.Cutting.{NoFeed, none-nil, none-take, none-append, cut-none, cut-first, cut-short, cuts-once, cuts-apart, ended-cut, ended-append}
 
 -- ---- counts of ended bytes
@@ -175,7 +177,7 @@ holds-fresh limit = record {
   ended = record { within = omega arith; ended = inl refl; last = none-nil };
 }
 
-pub fresh-batcher : (limit : ℕ) → LEAST_LIMIT ≤ limit → limit ≤ MOST_LIMIT → IsBatcher (fresh limit)
+pub fresh-batcher : (limit : ℕ) → LEAST_LIMIT ≤ limit → limit ≤ MAX_BATCH → IsBatcher (fresh limit)
 fresh-batcher limit least most = record {
   limit = (least, most);
   room = omega arith;

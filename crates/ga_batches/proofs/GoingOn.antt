@@ -6,7 +6,8 @@ use Rattle.std.proofs.lemmas.List.{take_min, take-append-le, drop-append-le, tak
 use Rattle.ga_batches.specs.Lines.{cut_line}
 use Rattle.ga_batches.specs.Batches.{BatcherSeen, IsBatcher, held}
 use Rattle.ga_batches.specs.Steps.{GoesOn, with_line_ended}
-use Rattle.ga_batches.specs.declared.batcher.TheConstants.{LINE_FEED, LINE_HELD}
+use Rattle.ga_base.specs.declared.limits.TheConstants.{LINE_FEED}
+use Rattle.ga_batches.specs.declared.batcher.TheConstants.{LINE_HELD}
 use Rattle.ga_batches.proofs.Cutting.{NoFeed, none-append}
 use Rattle.ga_batches.proofs.Feeding.{end-batcher, kept-batcher, dropped-batcher}
 use Rattle.std.specs.Prelude.{Result, Ok, Err, IsOk, is_ok, if◌then◌else◌}

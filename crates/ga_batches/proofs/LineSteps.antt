@@ -7,7 +7,8 @@ use Rattle.memchr.specs.Find.{IsFirstByte, is_byte}
 use Rattle.ga_batches.specs.Lines.{cut_line, cut_lines}
 use Rattle.ga_batches.specs.Batches.{BatcherSeen, IsBatcher, IsFull, Feeds, held}
 use Rattle.ga_batches.specs.Steps.{GoesOn, with_line_ended}
-use Rattle.ga_batches.specs.declared.batcher.TheConstants.{LINE_FEED, LINE_HELD}
+use Rattle.ga_base.specs.declared.limits.TheConstants.{LINE_FEED}
+use Rattle.ga_batches.specs.declared.batcher.TheConstants.{LINE_HELD}
 use Rattle.ga_batches.proofs.Cutting.{NoFeed, feeds, all-none, none-take}
 use Rattle.ga_batches.proofs.Feeding.{begun-more, feeds-then, on-feeds, on-batcher, end-feeds}
 

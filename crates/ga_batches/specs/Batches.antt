@@ -1,8 +1,10 @@
 -- What a batcher holds, and how that follows from the stream that it was fed.
 use Rattle.std.specs.Prelude.{◌≡◌, ◌≤◌, ◌+◌, ℕ, Bool, true, false, List, [], ◌++◌, length}
 use Rattle.std.specs.List.{Contains}
-use Rattle.ga_batches.specs.Lines.{AreEnded, IsEnded, cut_lines, kept_part}
-use Rattle.ga_batches.specs.declared.batcher.TheConstants.{LEAST_LIMIT, LINE_FEED, LINE_HELD, MOST_LIMIT}
+use Rattle.ga_batches.specs.Lines.{cut_lines, kept_part}
+use Rattle.ga_base.specs.Lines.{AreEnded, IsEnded}
+use Rattle.ga_base.specs.declared.limits.TheConstants.{LINE_FEED, MAX_BATCH}
+use Rattle.ga_batches.specs.declared.batcher.TheConstants.{LEAST_LIMIT, LINE_HELD}
 
 -- a batcher as contracts see it
 pub record BatcherSeen : Type 0 where
@@ -33,7 +35,7 @@ fresh limit = record { batch = []; begun = []; fed = 0; ended = 0; limit = limit
 
 -- what holds of each batcher
 pub record IsBatcher (v : BatcherSeen) : Type 0 where
-  pub limit : (LEAST_LIMIT ≤ v.limit) × (v.limit ≤ MOST_LIMIT)
+  pub limit : (LEAST_LIMIT ≤ v.limit) × (v.limit ≤ MAX_BATCH)
   pub room : length (held v) ≤ v.limit
   pub within : v.ended ≤ v.fed
   -- the begun line has no line feed, and is held as far as a line is

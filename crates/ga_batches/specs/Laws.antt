@@ -1,6 +1,7 @@
 -- What holds of all texts with their lines cut. Whoever reads lines needs these, and that a line and its front say the same.
 use Rattle.std.specs.Prelude.{◌≡◌, List, ◌++◌, map, ℕ}
-use Rattle.ga_batches.specs.Lines.{IsEnded, cut_line, cut_lines, pieces}
+use Rattle.ga_batches.specs.Lines.{cut_line, cut_lines, pieces}
+use Rattle.ga_base.specs.Lines.{IsEnded}
 
 -- the pieces of a text with its lines cut are those of the text, each cut
 abbrev pub CutsEachPiece : Type 0

@@ -1,7 +1,8 @@
 -- A text with each of its lines cut to a length that no line has that is read: a longer one fails, and the front of it too.
-use Rattle.std.specs.Prelude.{◌≡◌, ◌≤◌, ◌==◌, ◌⊎◌, ℕ, Bool, true, false, List, [], ◌∷◌, ◌++◌, length, take, drop, map}
-use Rattle.std.specs.List.{Contains, join_with_byte, slice_split}
-use Rattle.ga_batches.specs.declared.batcher.TheConstants.{LINE_FEED, LINE_HELD}
+use Rattle.std.specs.Prelude.{◌==◌, ℕ, Bool, true, false, List, take, map}
+use Rattle.std.specs.List.{join_with_byte, slice_split}
+use Rattle.ga_base.specs.declared.limits.TheConstants.{LINE_FEED}
+use Rattle.ga_batches.specs.declared.batcher.TheConstants.{LINE_HELD}
 
 -- what stands before, between and behind the line feeds of a text
 abbrev pub pieces : List ℕ → List (List ℕ)
@@ -14,16 +15,6 @@ cut_line line = take LINE_HELD line
 -- the text with each line as it is held
 abbrev pub cut_lines : List ℕ → List ℕ
 cut_lines text = join_with_byte LINE_FEED (map cut_line (pieces text))
-
--- the text is empty or ends in a line feed
-abbrev pub IsEnded : List ℕ → Type 0
-IsEnded text = (text ≡ []) ⊎ ((front : List ℕ) × (text ≡ front ++ LINE_FEED ∷ []))
-
--- so many bytes of the text are those of its ended lines
-pub record AreEnded (text : List ℕ) (count : ℕ) : Type 0 where
-  pub within : count ≤ length text
-  pub ended : IsEnded (take count text)
-  pub last : ¬ Contains (drop count text) LINE_FEED
 
 -- what of a text is counted: all of it, or its ended lines alone
 abbrev pub kept_part : List ℕ → ℕ → Bool → List ℕ

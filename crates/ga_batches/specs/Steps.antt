@@ -2,7 +2,7 @@
 use Rattle.std.specs.Prelude.{◌≡◌, ◌<◌, ◌≤◌, ◌+◌, ℕ, List, [], ◌∷◌, ◌++◌, length, take}
 use Rattle.ga_batches.specs.Batches.{BatcherSeen, IsFull, held}
 use Rattle.ga_batches.specs.Lines.{cut_line}
-use Rattle.ga_batches.specs.declared.batcher.TheConstants.{LINE_FEED}
+use Rattle.ga_base.specs.declared.limits.TheConstants.{LINE_FEED}
 
 -- so many of these bytes, which have no line feed, were added to the begun line
 pub record GoesOn (taken : ℕ) (bytes : List ℕ) (old new : BatcherSeen) : Type 0 where

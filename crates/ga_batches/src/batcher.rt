@@ -1,18 +1,16 @@
 ghost use Rattle.std.specs.Prelude.{◌≡◌, ◌≤◌, ◌<◌, ◌+◌, ◌^◌, ◌++◌, ℕ, List, [], IfOk, OnErr, OnOk, IsTrue, ◌↔◌, true, false, length, min, take, ◌-◌, if◌then◌else◌};
 ghost use Rattle.std.specs.List.{Contains};
 ghost use Rattle.std.specs.Vec.{vec_capacity};
+ghost use Rattle.ga_base.specs.declared.limits.TheConstants.{LINE_FEED, MAX_BATCH};
 ghost use Rattle.ga_batches.specs.Lines.{cut_lines};
 ghost use Rattle.ga_batches.specs.Batches.{Feeds, Holds, HoldsLast, IsBatcher, IsFull, fresh, held};
 ghost use Rattle.ga_batches.specs.Steps.{GoesOn, with_line_ended};
 
-use ga_base::NoMemory;
+use ga_base::{LINE_FEED, NoMemory};
 use memchr::memchr;
 use std::alloc::Global;
 use std::marker::Model;
 use std::mem;
-
-/// The byte that ends a line.
-pub const LINE_FEED: u8 = 10;
 
 /// How many bytes of a line are held, without its line feed: two more than a line may have that is read, one of them for a
 /// carriage return.
@@ -20,9 +18,6 @@ pub const LINE_HELD: usize = 65_537;
 
 /// The least number of bytes that a batcher can hold.
 pub const LEAST_LIMIT: u64 = 1_048_576;
-
-/// The greatest number of bytes that a batcher can hold.
-pub const MOST_LIMIT: u64 = 16_777_216;
 
 /// Whole lines of a stream, and the line that is begun behind them.
 #[derive(Drop)]
@@ -68,10 +63,10 @@ impl Model for Batcher {
 }
 
 impl Batcher {
-    /// A batcher that holds up to `limit` bytes. All its memory is taken here.
+    /// A batcher that holds up to `limit` bytes, which is `LEAST_LIMIT` to `MAX_BATCH`. All its memory is taken here.
     pub fn new(alloc: Global, limit: u64) -> Result<Batcher, NoMemory>
         requires least { LEAST_LIMIT ≤ limit }
-        requires most { limit ≤ MOST_LIMIT }
+        requires most { limit ≤ MAX_BATCH }
         ensures fresh { IfOk result (λ b. b ≡ fresh limit) }
         ensures stream { IfOk result (λ b. Holds [] [] b) }
     {
@@ -131,7 +126,7 @@ impl Batcher {
         ensures whole { length (held self.old) + length piece.now ≤ self.old.limit → result ≡ length piece.now }
         ensures stream { (stream taken : List ℕ) → Holds stream taken self.old → Holds (stream ++ take result piece.now) taken self.new }
     {
-        self.known();
+        self.recall_invariant();
         let mut at = 0;
         while at < piece.len() && !self.is_full() {
             at += self.feed_line(&piece[at..]);
@@ -151,7 +146,7 @@ impl Batcher {
         ensures before { (n : ℕ) → n < result → length (cut_lines (held self.old ++ take n piece.now)) < self.old.limit }
         ensures moves { 0 < result }
     {
-        self.known();
+        self.recall_invariant();
         match memchr(LINE_FEED, piece) {
             None => self.go_on(piece),
             Some(end) => {
@@ -159,7 +154,7 @@ impl Batcher {
                 if self.is_full() {
                     return taken;
                 }
-                self.known();
+                self.recall_invariant();
                 self.end_line();
                 end + 1
             }
@@ -175,7 +170,7 @@ impl Batcher {
         requires room { length (held self.old) < self.old.limit }
         ensures goes_on { GoesOn result bytes.now self.old self.new }
     {
-        self.known();
+        self.recall_invariant();
         let kept = self.kept_of(bytes.len());
         self.hold(&bytes[..kept]);
         let taken = self.taken_of(bytes.len(), kept);
@@ -241,7 +236,7 @@ impl Batcher {
         ensures batcher { IsBatcher self.new }
         ensures stream { (stream taken : List ℕ) → Holds stream taken self.old → Holds stream (taken ++ self.old.batch) self.new }
     {
-        self.known();
+        self.recall_invariant();
         self.drop_batch();
     }
 
@@ -250,13 +245,13 @@ impl Batcher {
     /// batcher is as it was.
     pub fn take_into(&mut self, spare: &mut Vec<u8>) -> Result<(), NoMemory>
         ensures batch { OnOk result (spare.new.items ≡ self.old.batch) }
-        ensures small { OnOk result (length spare.new.items ≤ MOST_LIMIT) }
+        ensures small { OnOk result (length spare.new.items ≤ MAX_BATCH) }
         ensures value { OnOk result (self.new ≡ record self.old { batch = [] }) }
         ensures batcher { IsBatcher self.new }
         ensures stream { OnOk result ((stream taken : List ℕ) → Holds stream taken self.old → Holds stream (taken ++ spare.new.items) self.new) }
         ensures err { OnErr result (self.new ≡ self.old) }
     {
-        self.known();
+        self.recall_invariant();
         spare.clear();
         spare.reserve(self.limit)?;
         self.exchange(spare);
@@ -297,7 +292,7 @@ impl Batcher {
         ensures batcher { IsBatcher self.new }
         ensures stream { (stream taken : List ℕ) → Holds stream taken self.old → HoldsLast stream keep taken self.new }
     {
-        self.known();
+        self.recall_invariant();
         if keep {
             self.keep_begun();
             return;
@@ -322,7 +317,7 @@ impl Batcher {
     }
 
     /// What holds of each batcher, for the proofs alone: the call does nothing.
-    fn known(&self)
+    fn recall_invariant(&self)
         ensures { IsBatcher self.now }
     {
         let _ = &self.bytes;

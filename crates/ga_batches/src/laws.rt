@@ -2,7 +2,8 @@
 
 ghost use Rattle.std.specs.Prelude.{◌≡◌, ◌^◌};
 ghost use Rattle.ga_batches.specs.Laws.{CutsApart, CutsEachPiece, CutsOnce};
-ghost use Rattle.ga_batches.specs.declared.batcher.TheConstants.{LINE_FEED, LINE_HELD, MOST_LIMIT};
+ghost use Rattle.ga_base.specs.declared.limits.TheConstants.{LINE_FEED, MAX_BATCH};
+ghost use Rattle.ga_batches.specs.declared.batcher.TheConstants.{LINE_HELD};
 
 /// A text with its lines cut has the pieces of the text, each cut; and lines may be cut before more is added, or behind it.
 pub fn lines_are_cut_one_by_one()
@@ -15,5 +16,5 @@ pub fn lines_are_cut_one_by_one()
 pub fn sizes()
     ensures ends { LINE_FEED ≡ 10 }
     ensures held { LINE_HELD ≡ 65537 }
-    ensures most { MOST_LIMIT ≡ 2 ^ 24 }
+    ensures most { MAX_BATCH ≡ 2 ^ 24 }
 {}

@@ -8,7 +8,4 @@
 mod batcher;
 pub mod laws;
 
-pub use batcher::{Batcher, LEAST_LIMIT, LINE_FEED, LINE_HELD, MOST_LIMIT};
-
-#[cfg(test)]
-mod tests;
+pub use batcher::{Batcher, LEAST_LIMIT, LINE_HELD};

@@ -8,7 +8,7 @@ use Rattle.ga_base.specs.declared.name.Name.{Name}
 use Rattle.ga_base.specs.declared.panel.Panel.{Panel}
 use Rattle.ga_base.specs.declared.panel.Panel.TheVariants.{Visitors}
 use Rattle.ga_base.specs.Panels.{panel_number}
-use Rattle.ga_summary.specs.Rows.{Row, SummaryValue}
+use Rattle.ga_summary.specs.SummaryRows.{SummaryRow, SummaryValue}
 use Rattle.ga_codec.specs.Values.{EntryValue, SnapshotValue, DeltaValue}
 use Rattle.ga_codec.specs.Spelling.{two_bytes, four_bytes, eight_bytes, text_bytes, list_bytes, panel_bytes, key_bytes, sums_bytes, name_bytes, summary_bytes, entry_bytes, version_bytes}
 use Rattle.ga_codec.specs.Steps.Parts.{Part, followed_by, listed}
@@ -200,7 +200,7 @@ names_are_part = listed_is_part name name_is_part
 pub is_row_2 : IsPart row_2
 is_row_2 = beside_is_part sums (listed name) sums_is_part names_are_part
 
-abbrev pub row_of : Key × (Sums × List Name) → Row
+abbrev pub row_of : Key × (Sums × List Name) → SummaryRow
 row_of v = record { key = v.0; sums = v.1.0; names = v.1.1 }
 
 pub row_made : IsMade row row_inner row_of
@@ -216,10 +216,10 @@ row_is_part = made_is_part row row_inner row_of row_made (beside_is_part key row
 pub rows_are_part : IsPart (listed row)
 rows_are_part = listed_is_part row row_is_part
 
-abbrev pub summary_inner : Part (Totals × List Row)
+abbrev pub summary_inner : Part (Totals × List SummaryRow)
 summary_inner = beside totals (listed row)
 
-abbrev pub summary_of : Totals × List Row → SummaryValue
+abbrev pub summary_of : Totals × List SummaryRow → SummaryValue
 summary_of v = record { totals = v.0; rows = v.1 }
 
 pub summary_made : IsMade summary summary_inner summary_of

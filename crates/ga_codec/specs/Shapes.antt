@@ -9,8 +9,9 @@ use Rattle.ga_base.specs.declared.counts.TheConstants.{LIMIT}
 use Rattle.ga_base.specs.declared.counts.Sums.{Sums}
 use Rattle.ga_base.specs.declared.counts.Totals.{Totals}
 use Rattle.ga_base.specs.declared.key.Key.{Key}
+use Rattle.ga_base.specs.declared.limits.TheConstants.{FRONT}
 use Rattle.ga_base.specs.declared.name.Name.{Name}
-use Rattle.ga_summary.specs.Rows.{Row, SummaryValue}
+use Rattle.ga_summary.specs.SummaryRows.{SummaryRow, SummaryValue}
 use Rattle.ga_summary.specs.Sound.{IsSummary}
 use Rattle.ga_codec.specs.Values.{EntryValue, SnapshotValue, DeltaValue}
 use Rattle.ga_codec.specs.Spelling.{snapshot_bytes, delta_bytes}
@@ -54,7 +55,7 @@ pub record FitsList {A : Type 0} (FitsItem : A → Type 0) (items : List A) : Ty
   pub number : Fits64 (length items)
   pub each : AllByRecursion FitsItem items
 
-pub record FitsRow (row : Row) : Type 0 where
+pub record FitsRow (row : SummaryRow) : Type 0 where
   pub key : FitsKey row.key
   pub sums : FitsSums row.sums
   pub names : FitsList FitsName row.names
@@ -84,10 +85,10 @@ pub record FitsDelta (d : DeltaValue) : Type 0 where
 
 -- ---- what may be read
 
--- a log of which something was counted, known again by its first 4096 bytes or all that were counted
+-- a log of which something was counted, known again by its first FRONT bytes or all that were counted
 pub record IsEntry (e : EntryValue) : Type 0 where
   pub counted : 1 ≤ e.offset
-  pub lead : e.lead ≡ min e.offset 4096
+  pub lead : e.lead ≡ min e.offset FRONT
 
 -- the bytes are the spelling of this snapshot, which is in order and sound
 pub record SpellSnapshot (bytes : List ℕ) (s : SnapshotValue) : Type 0 where

@@ -8,7 +8,7 @@ use Rattle.ga_base.specs.declared.key.Key.{Key}
 use Rattle.ga_base.specs.declared.name.Name.{Name}
 use Rattle.ga_base.specs.declared.panel.Panel.{Panel}
 use Rattle.ga_base.specs.Panels.{panel_number}
-use Rattle.ga_summary.specs.Rows.{Row, SummaryValue}
+use Rattle.ga_summary.specs.SummaryRows.{SummaryRow, SummaryValue}
 use Rattle.ga_codec.specs.Values.{EntryValue, SnapshotValue, DeltaValue}
 
 abbrev pub two_bytes : ℕ → List ℕ
@@ -44,7 +44,7 @@ sums_bytes s = eight_bytes s.hits ++ eight_bytes s.bytes ++ eight_bytes s.micros
 abbrev pub name_bytes : Name → List ℕ
 name_bytes n = text_bytes n.host ++ text_bytes n.agent
 
-abbrev pub row_bytes : Row → List ℕ
+abbrev pub row_bytes : SummaryRow → List ℕ
 row_bytes row = key_bytes row.key ++ sums_bytes row.sums ++ list_bytes name_bytes row.names
 
 abbrev pub summary_bytes : SummaryValue → List ℕ

@@ -1,7 +1,7 @@
 -- What a snapshot and a run record say.
 use Rattle.std.specs.Prelude.{ℕ, List, map}
 use Rattle.ga_base.specs.declared.entry.Entry.{Entry}
-use Rattle.ga_summary.specs.Rows.{SummaryValue}
+use Rattle.ga_summary.specs.SummaryRows.{SummaryValue}
 use Rattle.ga_codec.specs.declared.snapshot.Snapshot.{Snapshot}
 use Rattle.ga_codec.specs.declared.snapshot.Delta.{Delta}
 

@@ -73,7 +73,7 @@ impl<'a> Cursor<'a> {
     }
 
     /// The fault of bytes that end too early.
-    pub(crate) fn ended(&self) -> CodecFault
+    pub(crate) fn fault_at_end(&self) -> CodecFault
         ensures { result ≡ CodecFault.NotInGrammar (self.now.place + length self.now.rest) }
     {
         self.fault(self.rest.len())
@@ -108,7 +108,7 @@ impl<'a> Cursor<'a> {
                 self.skip(N);
                 Ok(*front)
             }
-            None => Err(self.ended()),
+            None => Err(self.fault_at_end()),
         }
     }
 

@@ -8,14 +8,11 @@ ghost use Rattle.ga_codec.specs.Values.{entry_value};
 
 use crate::CodecFault;
 use crate::cursor::Cursor;
-use ga_base::Entry;
+use ga_base::{Entry, FRONT};
 use std::alloc::Global;
 
 /// The size of an entry: a lead, a digest and an offset.
 const ENTRY_SIZE: usize = 42;
-
-/// How many of a log's first bytes a digest is of, at most.
-const MOST_LEAD: u64 = 4096;
 
 /// What is spelled where an entry stands, whether its lead goes with its offset or not.
 #[derive(Clone, Copy, Debug)]
@@ -38,7 +35,7 @@ impl EntryShape {
         if offset < 1 {
             return None;
         }
-        if u64::from(lead) != offset.min(MOST_LEAD) {
+        if u64::from(lead) != offset.min(FRONT) {
             return None;
         }
         Some(Entry {

@@ -8,17 +8,14 @@ mod cursor;
 mod entry_shape;
 mod fault;
 pub mod laws;
-mod reading;
 mod snapshot;
+mod snapshot_reading;
 mod summary_reading;
 mod text_reading;
 mod utf8;
 mod writing;
 
 pub use fault::CodecFault;
-pub use reading::{read_delta, read_snapshot};
 pub use snapshot::{Delta, Snapshot};
+pub use snapshot_reading::{read_delta, read_snapshot};
 pub use writing::{write_delta, write_snapshot};
-
-#[cfg(test)]
-mod tests;

@@ -1,7 +1,7 @@
 ghost use Rattle.std.specs.Prelude.{◌≡◌, ◌+◌, MatchOption};
 ghost use Rattle.ga_base.specs.declared.panel.Panel.{Panel as ThePanel};
 ghost use Rattle.ga_base.specs.Panels.{panel_number};
-ghost use Rattle.ga_summary.specs.Parts.{row_of_part, rows_in, value_of};
+ghost use Rattle.ga_summary.specs.SummaryParts.{row_of_part, rows_in, value_of};
 ghost use Rattle.ga_codec.specs.Steps.Grammar.{key, name, panel, row, summary, sums, totals};
 ghost use Rattle.ga_codec.specs.Steps.Parts.{Reads, listed, times};
 
@@ -21,26 +21,7 @@ const ROW_SIZE: usize = 77;
 fn panel_of(byte: u8) -> Option<Panel>
     ensures { MatchOption result ((p : ThePanel) → panel_number p + 1 ≡ byte → ⊥) (λ p. panel_number p + 1 ≡ byte) }
 {
-    match byte {
-        1 => Some(Panel::Visitors),
-        2 => Some(Panel::Requests),
-        3 => Some(Panel::RequestsStatic),
-        4 => Some(Panel::NotFound),
-        5 => Some(Panel::Hosts),
-        6 => Some(Panel::Os),
-        7 => Some(Panel::Browsers),
-        8 => Some(Panel::VisitTimes),
-        9 => Some(Panel::VirtualHosts),
-        10 => Some(Panel::Referrers),
-        11 => Some(Panel::ReferringSites),
-        12 => Some(Panel::Keyphrases),
-        13 => Some(Panel::StatusCodes),
-        14 => Some(Panel::RemoteUser),
-        15 => Some(Panel::CacheStatus),
-        16 => Some(Panel::MimeType),
-        17 => Some(Panel::TlsType),
-        _ => None,
-    }
+    Panel::from_number(usize::from(byte.checked_sub(1)?))
 }
 
 impl<'a> Cursor<'a> {

@@ -3,7 +3,7 @@ ghost use Rattle.ga_codec.specs.Steps.Parts.{Reads};
 
 use crate::CodecFault;
 use crate::cursor::Cursor;
-use crate::utf8::begun;
+use crate::utf8::bytes_begun;
 use ga_base::Text;
 use std::alloc::Global;
 use std::str::from_utf8;
@@ -26,14 +26,14 @@ impl<'a> Cursor<'a> {
         match from_utf8(front) {
             Ok(text) => {
                 if (front.len() as u64) < size {
-                    return Err(self.ended());
+                    return Err(self.fault_at_end());
                 }
                 self.skip(front.len());
                 Ok(text)
             }
             Err(error) => {
                 let valid = error.valid_up_to();
-                Err(self.fault(valid + begun(&front[valid..], size - valid as u64)))
+                Err(self.fault(valid + bytes_begun(&front[valid..], size - valid as u64)))
             }
         }
     }

@@ -47,7 +47,7 @@ fn continues(byte: u8) -> bool
 }
 
 /// How many of the bytes begin a text of `size` bytes, where no character begins them whole.
-pub(crate) fn begun(bytes: &[u8], size: u64) -> usize
+pub(crate) fn bytes_begun(bytes: &[u8], size: u64) -> usize
     requires some { 0 < length bytes.now }
     requires no_char { StartsWithNoChar bytes.now }
     ensures { IsLongest (IsTextOf size) bytes.now result }

@@ -7,8 +7,8 @@ use Rattle.std.proofs.lemmas.List.Elements.{All-weaker, All-get_or}
 use mathlib.Core.Option.{some}
 use lib.ListN.{get_elem?}
 use Rattle.atomic_table.specs.Table.{Final, Seen}
-use Rattle.ga_shares.proofs.Views.{seat-there, seat-is, sum-whole}
-use Rattle.ga_shares.proofs.Greatest.{greatest-whole}
+use Rattle.ga_draws.proofs.Views.{seat-there, seat-is, sum-whole}
+use Rattle.ga_counts.proofs.Greatest.{greatest-whole}
 use Rattle.ga_counts.specs.Counts.{Inv, IsRow, IsSpent, tally_at, maximum_at, nothing}
 use Rattle.ga_counts.specs.Running.{Holds}
 use Rattle.ga_counts.specs.declared.view.CountView.{CountView}

@@ -5,9 +5,10 @@ use Rattle.std.specs.List.{sum_by}
 use Rattle.std.proofs.lemmas.List.{get_or-set_same, get_or-set_other, length-replicate}
 use Rattle.std.proofs.lemmas.List.Elements.{All-set, All-get_or}
 use Rattle.std.proofs.lemmas.List.Sums.{sum_by-set}
-use Rattle.ga_shares.specs.Views.{after_split, after_join, greatest_by}
-use Rattle.ga_shares.proofs.Views.{all-split, all-join, sum-split, sum-join}
-use Rattle.ga_shares.proofs.Greatest.{greatest-set, greatest-same, greatest-split, greatest-join}
+use Rattle.ga_draws.specs.SeatViews.{after_split, after_join}
+use Rattle.ga_counts.specs.Greatest.{greatest_by}
+use Rattle.ga_draws.proofs.Views.{all-split, all-join, sum-split, sum-join}
+use Rattle.ga_counts.proofs.Greatest.{greatest-set, greatest-same, greatest-split, greatest-join}
 use Rattle.ga_counts.specs.Counts.{CountState, Inv, IsRow, IsSpent, tally_at, maximum_at, tallied, raised, given, left, joined, nothing}
 use Rattle.ga_counts.specs.Events.{CountEvent, adds, raises, splits, joins, IsLawful, AreLawful, after, after_all}
 use Rattle.ga_counts.specs.declared.view.CountView.{CountView}

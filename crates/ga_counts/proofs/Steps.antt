@@ -6,7 +6,7 @@ use mathlib.Core.Option.{none, some}
 use lib.ListN.{get_elem?}
 use Rattle.atomic_table.specs.Table.{Me, step, keeps, Allows, Splits, Joins}
 use Rattle.atomic_table.proofs.Lists.{set_else}
-use Rattle.ga_shares.proofs.Views.{seat-there, seat-is, sum-below}
+use Rattle.ga_draws.proofs.Views.{seat-there, seat-is, sum-below}
 use Rattle.ga_counts.specs.Counts.{Inv, tally_at, tallied, raised, given, left, joined, nothing}
 use Rattle.ga_counts.specs.Running.{Holds, Adds, Raises}
 use Rattle.ga_counts.specs.declared.view.CountView.{CountView}

@@ -2,7 +2,7 @@
 use Rattle.std.specs.Prelude.{◌≡◌, ℕ, ◌+◌, ◌-◌, ◌*◌, ◌≤◌, max, List, [], ◌∷◌, length, slice_index, slice_set, replicate, sum_by, All}
 use Rattle.atomic_table.specs.Seated.{TableId}
 use Rattle.ga_base.specs.declared.counts.TheConstants.{LIMIT}
-use Rattle.ga_shares.specs.Views.{greatest_by}
+use Rattle.ga_counts.specs.Greatest.{greatest_by}
 use Rattle.ga_counts.specs.declared.view.CountView.{CountView}
 use Rattle.ga_counts.specs.declared.view.Opening.{Opening}
 

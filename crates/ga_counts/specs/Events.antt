@@ -1,6 +1,6 @@
 -- What can happen to counts, one event at a time. A seat is a place in the list of views.
 use Rattle.std.specs.Prelude.{◌≢◌, ℕ, ◌+◌, ◌<◌, ◌≤◌, max, ⊤, List, [], ◌∷◌, length, slice_index, slice_set, slice_index_or}
-use Rattle.ga_shares.specs.Views.{after_split, after_join}
+use Rattle.ga_draws.specs.SeatViews.{after_split, after_join}
 use Rattle.ga_counts.specs.Counts.{CountState, tally_at, tallied, raised, given, left, joined, nothing}
 use Rattle.ga_counts.specs.declared.view.CountView.{CountView}
 

@@ -17,10 +17,10 @@ Holds opening s = (length s.words ≡ opening.words + opening.maxima + 1) × Inv
 abbrev pub first_view : Opening → CountView
 first_view opening = blank opening.words opening.maxima opening.shares opening.allowance
 
--- what an addition tells
+-- what an addition says
 abbrev pub Adds : Step (Unit {0}) → Me (Unit {0}) CountView → ℕ → Me (Unit {0}) CountView → Type 0
 Adds step before found seat = seat ≡ (tallied before.0 step.word step.first, before.1)
 
--- what it tells to raise a place
+-- what it says to raise a place
 abbrev pub Raises : ℕ → Step (Unit {0}) → Me (Unit {0}) CountView → ℕ → Me (Unit {0}) CountView → Type 0
 Raises place step before found seat = seat ≡ (raised before.0 place step.first, before.1)

@@ -6,15 +6,12 @@
 //! `specs/Counts.antt` has the state and its invariant, `specs/Events.antt` what can happen to it.
 #![tactic(auto)]
 
-mod closed;
+mod count_closed;
 pub mod laws;
 mod rule;
 mod table;
 mod view;
 
-pub use closed::CountClosed;
+pub use count_closed::CountClosed;
 pub use table::{CountSeat, CountTable};
 pub use view::{CountView, Opening};
-
-#[cfg(test)]
-mod tests;

@@ -1,14 +1,14 @@
-//! The rule of the running table, and what its steps tell. These types are for the proofs alone.
+//! The rule of the running table, and what its steps say. These types are for the proofs alone.
 
 use crate::view::{CountView, Opening};
 use atomic_table::{Join, Play, Split, TableRule};
-use ga_shares::{Cut, Told};
+use ga_draws::{Cut, Witness};
 use std::marker::PhantomData;
 
 /// The state that words and views stand for keeps its invariant.
-pub struct Counted;
+pub struct CountRule;
 
-impl TableRule<(), CountView, Opening> for Counted {
+impl TableRule<(), CountView, Opening> for CountRule {
     ghost use Rattle.ga_counts.specs.Running.{Holds, first_view};
 
     ghost holds = { Holds };
@@ -25,12 +25,12 @@ impl Play<(), CountView> for Add {
     ghost then = { Adds };
 }
 
-/// A place, which `P` tells, is raised to a number.
+/// The place `P` is raised to a number.
 pub struct Raise<P> {
     of: PhantomData<P>,
 }
 
-impl<P: Told> Play<(), CountView> for Raise<P> {
+impl<P: Witness> Play<(), CountView> for Raise<P> {
     ghost use Rattle.ga_counts.specs.Running.{Raises};
 
     ghost then = { Raises P.number };

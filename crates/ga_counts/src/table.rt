@@ -2,12 +2,12 @@ ghost use Rattle.std.specs.Prelude.{◌≡◌, ◌+◌, ◌*◌, ◌<◌, ◌≤
 ghost use Rattle.ga_base.specs.declared.counts.TheConstants.{LIMIT};
 ghost use Rattle.ga_counts.specs.Counts.{IsRow, SeatSeen, tally_at, tallied, raised, given, joined, left, blank};
 
-use crate::closed::CountClosed;
-use crate::rule::{Add, Both, Counted, CutOff, Raise};
+use crate::count_closed::CountClosed;
+use crate::rule::{Add, Both, CountRule, CutOff, Raise};
 use crate::view::{CountView, Opening};
 use atomic_table::{Seat, Table};
 use ga_base::NoMemory;
-use ga_shares::{Cut, Told};
+use ga_draws::{Cut, Witness};
 use std::alloc::Global;
 use std::marker::{Brand, Model};
 
@@ -15,7 +15,7 @@ use std::marker::{Brand, Model};
 #[derive(Drop)]
 pub struct CountTable {
     /// The sums, then the maxima, and then one word that is never used.
-    table: Table<(), CountView, Opening, Counted, Global>,
+    table: Table<(), CountView, Opening, CountRule, Global>,
     /// How many sums there are.
     words: u32,
     /// How many maxima there are.
@@ -101,8 +101,8 @@ impl CountTable {
         self.raise_by::<Brand>(seat, place, n)
     }
 
-    /// Raises a place, which `P` tells.
-    fn raise_by<P: Told>(&self, seat: &mut CountSeat, place: u32, n: u64)
+    /// Raises the place `P`.
+    fn raise_by<P: Witness>(&self, seat: &mut CountSeat, place: u32, n: u64)
         requires told { P.number ≡ place }
         requires table { seat.old.table ≡ self.now.table }
         requires place { place < self.now.opening.maxima }

@@ -11,7 +11,7 @@ use Rattle.ga_dates.specs.declared.item.Item.TheVariants.{Literal, Day, SpacedDa
 use Rattle.ga_dates.specs.declared.item.Part.{Part}
 use Rattle.ga_dates.specs.declared.item.Part.TheVariants.{Day as PartDay, Month as PartMonth, Year as PartYear, Hour as PartHour, Minute as PartMinute, Second as PartSecond}
 use Rattle.ga_dates.specs.declared.kind.Kind.TheVariants.{Date, Time}
-use Rattle.ga_dates.specs.declared.parts.Parts.{Parts}
+use Rattle.ga_dates.specs.declared.date_parts.DateParts.{DateParts}
 use Rattle.ga_dates.specs.Calendar.{is_leap_year, days_in_month}
 use Rattle.ga_dates.specs.Items.{part_of, is_part, gives, IsComplete, number_at, number_of}
 use Rattle.ga_dates.specs.Spelling.{IsTwoDigits, IsSpacedDigits, IsFourDigits, IsMonthName, SpellsNumber, Spells, SpellsDate, SpellsTime, SpellsBoth, long_year}
@@ -61,7 +61,7 @@ number-unique Minute n m piece one two = two-unique n m piece one.0 two.0
 number-unique Second n m piece one two = two-unique n m piece one.0 two.0
 
 -- the number of an item that gives a part is the part's
-part-number : (part other : Part) (p : Parts) → is_part part other ≡ true → number_at other p ≡ number_at part p
+part-number : (part other : Part) (p : DateParts) → is_part part other ≡ true → number_at other p ≡ number_at part p
 part-number PartDay PartDay p h = refl
 part-number PartMonth PartMonth p h = refl
 part-number PartYear PartYear p h = refl
@@ -70,13 +70,13 @@ part-number PartMinute PartMinute p h = refl
 part-number PartSecond PartSecond p h = refl
 part-number _ _ p h = cc
 
-given-number : (part : Part) (given : Option Part) (p : Parts) → option_map_or (is_part part) given false ≡ true
+given-number : (part : Part) (given : Option Part) (p : DateParts) → option_map_or (is_part part) given false ≡ true
     → option_map_or (λ other. number_at other p) given 0 ≡ number_at part p
 given-number part None p h = cc
 given-number part (Some other) p h = part-number part other p h
 
 -- the parts that a text spells are the same, where the items give them
-same-parts : (items : List Item) (p q : Parts) (text : List ℕ) → Spells items p text → Spells items q text → AreSameParts items p q
+same-parts : (items : List Item) (p q : DateParts) (text : List ℕ) → Spells items p text → Spells items q text → AreSameParts items p q
 same-parts [] p q text one two part given = absurd (omega (arith, given))
 same-parts (item ∷ items) p q text (piece, rest, e, spells, later) (piece', rest', e', spells', later') part given =
     let w = width_of item in
@@ -106,7 +106,7 @@ abbrev wide : List Item → ℕ
 wide [] = 0
 wide (item ∷ items) = width_of item + wide items
 
-length-spelt : (items : List Item) (p : Parts) (text : List ℕ) → Spells items p text → length text ≡ wide items
+length-spelt : (items : List Item) (p : DateParts) (text : List ℕ) → Spells items p text → length text ≡ wide items
 length-spelt [] p text e = ap length e
 length-spelt (item ∷ items) p text (piece, rest, e, spells, later) =
     ap length e ∙ omega (arith, length-append piece rest, length-spelling item (number_of item p) piece spells, length-spelt items p rest later)
@@ -126,7 +126,7 @@ both-unique dates times whole_date whole_time text day minute day' minute' one t
     )
 
 -- some item spells the number of a part that is given
-spelt-part : (part : Part) (items : List Item) (p : Parts) (text : List ℕ) → Spells items p text → 1 ≤ count_by (gives part) items
+spelt-part : (part : Part) (items : List Item) (p : DateParts) (text : List ℕ) → Spells items p text → 1 ≤ count_by (gives part) items
     → (item : Item) × (piece : List ℕ) × (gives part item ≡ true) × SpellsNumber item (number_at part p) piece
 spelt-part part [] p text e given = absurd (omega (arith, given))
 spelt-part part (item ∷ items) p text (piece, rest, e, spells, later) given =

@@ -13,7 +13,7 @@ use Rattle.ga_dates.specs.declared.item.Item.{Item}
 use Rattle.ga_dates.specs.declared.item.Item.TheVariants.{Literal, Day, SpacedDay, Month, MonthName, Year, ShortYear, Hour, Minute, Second}
 use Rattle.ga_dates.specs.declared.item.Part.{Part}
 use Rattle.ga_dates.specs.declared.item.Part.TheVariants.{Day as PartDay, Month as PartMonth, Year as PartYear, Hour as PartHour, Minute as PartMinute, Second as PartSecond}
-use Rattle.ga_dates.specs.declared.parts.Parts.{Parts}
+use Rattle.ga_dates.specs.declared.date_parts.DateParts.{DateParts}
 use Rattle.ga_dates.specs.declared.kind.Kind.TheVariants.{Date, Time}
 use Rattle.ga_dates.specs.Calendar.{IsDay, number_of_day}
 use Rattle.ga_dates.specs.Items.{part_of, is_part, gives, AreOnce, IsComplete, number_at, number_of}
@@ -22,7 +22,7 @@ use Rattle.ga_dates.specs.Spelling.{SpellsNumber, IsMonthName, month_names, Spel
 use Rattle.ga_dates.specs.Steps.Reading.{BeginsWith, AreSameParts}
 
 -- from the parts p the items of the text's front make g, and leave the rest
-abbrev pub Reads : List Item → List ℕ → Parts → Parts → List ℕ → Type 0
+abbrev pub Reads : List Item → List ℕ → DateParts → DateParts → List ℕ → Type 0
 Reads [] text p g rest = (g ≡ p) × (rest ≡ text)
 Reads (item ∷ items) text p g rest =
     (piece more : List ℕ) × (n : ℕ) × (text ≡ piece ++ more) × SpellsNumber item n piece × Reads items more (with_number item n p) g rest
@@ -63,7 +63,7 @@ length-spelling Minute n piece h = ap length h.0.1
 length-spelling Second n piece h = ap length h.0.1
 
 -- one step forth: what the items make, the other items make after the first
-pub step_forth : (item : Item) (items : List Item) (text : List ℕ) (p g : Parts) (rest : List ℕ) (n : ℕ)
+pub step_forth : (item : Item) (items : List Item) (text : List ℕ) (p g : DateParts) (rest : List ℕ) (n : ℕ)
     → ((m : ℕ) → SpellsNumber item m (take (width_of item) text) → Some n ≡ Some m)
     → Reads (item ∷ items) text p g rest → Reads items (drop (width_of item) text) (with_number item n p) g rest
 step_forth item items text p g rest n only (piece, more, m, e, spells, reads) =
@@ -75,13 +75,13 @@ step_forth item items text p g rest n only (piece, more, m, e, spells, reads) =
     (subst (λ (k : ℕ). Reads items more (with_number item k p) g rest) (sym same) reads)
 
 -- and one back
-pub step_back : (item : Item) (items : List Item) (text : List ℕ) (p g : Parts) (rest : List ℕ) (n : ℕ)
+pub step_back : (item : Item) (items : List Item) (text : List ℕ) (p g : DateParts) (rest : List ℕ) (n : ℕ)
     → SpellsNumber item n (take (width_of item) text)
     → Reads items (drop (width_of item) text) (with_number item n p) g rest → Reads (item ∷ items) text p g rest
 step_back item items text p g rest n spells reads =
     (take (width_of item) text, drop (width_of item) text, n, sym (take-append-drop (width_of item) text), spells, reads)
 
-number_at-with_same : (q r : Part) (n : ℕ) (p : Parts) → is_part q r ≡ true → number_at q (with_part r n p) ≡ n
+number_at-with_same : (q r : Part) (n : ℕ) (p : DateParts) → is_part q r ≡ true → number_at q (with_part r n p) ≡ n
 number_at-with_same PartDay PartDay n p h = refl
 number_at-with_same PartMonth PartMonth n p h = refl
 number_at-with_same PartYear PartYear n p h = refl
@@ -90,7 +90,7 @@ number_at-with_same PartMinute PartMinute n p h = refl
 number_at-with_same PartSecond PartSecond n p h = refl
 number_at-with_same _ _ n p h = cc
 
-number_at-with_other : (q r : Part) (n : ℕ) (p : Parts) → is_part q r ≡ false → number_at q (with_part r n p) ≡ number_at q p
+number_at-with_other : (q r : Part) (n : ℕ) (p : DateParts) → is_part q r ≡ false → number_at q (with_part r n p) ≡ number_at q p
 number_at-with_other PartDay PartDay n p h = cc
 number_at-with_other PartMonth PartMonth n p h = cc
 number_at-with_other PartYear PartYear n p h = cc
@@ -99,7 +99,7 @@ number_at-with_other PartMinute PartMinute n p h = cc
 number_at-with_other PartSecond PartSecond n p h = cc
 number_at-with_other _ _ n p h = refl
 
-same_number : (q r : Part) (f : Parts) → is_part q r ≡ true → number_at r f ≡ number_at q f
+same_number : (q r : Part) (f : DateParts) → is_part q r ≡ true → number_at r f ≡ number_at q f
 same_number PartDay PartDay f h = refl
 same_number PartMonth PartMonth f h = refl
 same_number PartYear PartYear f h = refl
@@ -109,7 +109,7 @@ same_number PartSecond PartSecond f h = refl
 same_number _ _ f h = cc
 
 -- the number that is set stays, where no later item gives the part
-number_stays : (o : Option Part) (n : ℕ) (p g : Parts) (later : Part → ℕ)
+number_stays : (o : Option Part) (n : ℕ) (p g : DateParts) (later : Part → ℕ)
     → (o ≡ None → n ≡ 0)
     → ((q : Part) → cond (option_map_or (is_part q) o false) 1 0 + later q ≤ 1)
     → ((q : Part) → later q ≡ 0 → number_at q g ≡ number_at q (option_map_or (λ r. with_part r n p) o p))
@@ -121,13 +121,13 @@ number_stays (Some q) n p g later zero_else once kept =
     kept q none ∙ number_at-with_same q q n p (is_part-same q)
 
 -- an item that doesn't give a part keeps its number
-others_stay : (o : Option Part) (n : ℕ) (p : Parts) (q : Part) → option_map_or (is_part q) o false ≡ false
+others_stay : (o : Option Part) (n : ℕ) (p : DateParts) (q : Part) → option_map_or (is_part q) o false ≡ false
     → number_at q (option_map_or (λ r. with_part r n p) o p) ≡ number_at q p
 others_stay None n p q h = refl
 others_stay (Some r) n p q h = number_at-with_other q r n p h
 
 -- an item that gives a part sets its number
-one_is_set : (o : Option Part) (f p : Parts) (q : Part) → option_map_or (is_part q) o false ≡ true
+one_is_set : (o : Option Part) (f p : DateParts) (q : Part) → option_map_or (is_part q) o false ≡ true
     → number_at q (option_map_or (λ r. with_part r (option_map_or (λ s. number_at s f) o 0) p) o p) ≡ number_at q f
 one_is_set None f p q h = cc
 one_is_set (Some r) f p q h = number_at-with_same q r (number_at r f) p h ∙ same_number q r f h
@@ -151,7 +151,7 @@ given_now true later low high = inr (refl, omega arith)
 given_now false later low high = inl (omega arith)
 
 -- what is made is spelt by the front, and a part that no item gives is as it was
-pub reads_found : (items : List Item) (text : List ℕ) (p g : Parts) (rest : List ℕ) → AreOnce items → Reads items text p g rest
+pub reads_found : (items : List Item) (text : List ℕ) (p g : DateParts) (rest : List ℕ) → AreOnce items → Reads items text p g rest
     → BeginsWith items g text rest × ((q : Part) → count_by (gives q) items ≡ 0 → number_at q g ≡ number_at q p)
 reads_found [] text p g rest once (same, over) = (([], sym over, refl), λ q h. ap (number_at q) same)
 reads_found (item ∷ items) text p g rest once (piece, more, n, e, spells, reads) =
@@ -167,8 +167,8 @@ reads_found (item ∷ items) text p g rest once (piece, more, n, e, spells, read
     )
 
 -- what the front spells is made
-pub reads_only : (items : List Item) (f : Parts) (front rest text : List ℕ) (p : Parts) → AreOnce items → text ≡ front ++ rest → Spells items f front
-    → (g : Parts) × Reads items text p g rest × AreSameParts items g f
+pub reads_only : (items : List Item) (f : DateParts) (front rest text : List ℕ) (p : DateParts) → AreOnce items → text ≡ front ++ rest → Spells items f front
+    → (g : DateParts) × Reads items text p g rest × AreSameParts items g f
 reads_only [] f front rest text p once e spells =
     (p, (refl, sym (e ∙ ap (λ (s : List ℕ). s ++ rest) spells)), λ q h. absurd (omega (arith, h)))
 reads_only (item ∷ items) f front rest text p once e (piece, more, e', spells, later) =
@@ -184,24 +184,24 @@ reads_only (item ∷ items) f front rest text p once e (piece, more, e', spells,
     )
 
 -- what the first item needs of the text
-pub needs_width : (item : Item) (items : List Item) (text : List ℕ) (p g : Parts) (rest : List ℕ) → Reads (item ∷ items) text p g rest → width_of item ≤ length text
+pub needs_width : (item : Item) (items : List Item) (text : List ℕ) (p g : DateParts) (rest : List ℕ) → Reads (item ∷ items) text p g rest → width_of item ≤ length text
 needs_width item items text p g rest (piece, more, m, e, spells, reads) =
     let wide = length-spelling item m piece spells in
     omega (arith, wide, ap length e, length-append piece more)
 
-pub needs_number : (item : Item) (items : List Item) (w : ℕ) (text s : List ℕ) (p g : Parts) (rest : List ℕ) → w ≡ width_of item → s ≡ take w text
+pub needs_number : (item : Item) (items : List Item) (w : ℕ) (text s : List ℕ) (p g : DateParts) (rest : List ℕ) → w ≡ width_of item → s ≡ take w text
     → Reads (item ∷ items) text p g rest → (m : ℕ) × SpellsNumber item m s
 needs_number item items w text s p g rest width piece_is (piece, more, m, e, spells, reads) =
     let front : s ≡ piece = piece_is ∙ (ap (λ (k : ℕ). take k text) width ∙ (ap (take (width_of item)) e ∙ take_at piece more (width_of item) (length-spelling item m piece spells))) in
     (m, subst (λ (x : List ℕ). SpellsNumber item m x) (sym front) spells)
 
 -- the item at a place, and those after it
-pub item_at : (items : List Item) (i : ℕ) (text : List ℕ) (p g : Parts) (rest : List ℕ) → i < length items
+pub item_at : (items : List Item) (i : ℕ) (text : List ℕ) (p g : DateParts) (rest : List ℕ) → i < length items
     → Reads (drop i items) text p g rest → Reads (get_or items i (Literal 0) ∷ drop (i + 1) items) text p g rest
 item_at items i text p g rest lt reads = subst (λ (xs : List Item). Reads xs text p g rest) (drop_more items i (Literal 0) lt) reads
 
 -- the loop's step, whose text, piece, rest and parts are t, s, more and q
-pub forth_more : (items : List Item) (i w n : ℕ) (t s more : List ℕ) (p q g : Parts) (rest : List ℕ) → i < length items
+pub forth_more : (items : List Item) (i w n : ℕ) (t s more : List ℕ) (p q g : DateParts) (rest : List ℕ) → i < length items
     → w ≡ width_of (get_or items i (Literal 0)) → s ≡ take w t → more ≡ drop w t → q ≡ with_number (get_or items i (Literal 0)) n p
     → ((m : ℕ) → SpellsNumber (get_or items i (Literal 0)) m s → Some n ≡ Some m)
     → Reads (drop i items) t p g rest → Reads (drop (i + 1) items) more q g rest
@@ -211,9 +211,9 @@ forth_more items i w n t s more p q g rest lt width piece back set only reads =
     let front : s ≡ take (width_of item) t = piece ∙ ap (λ (k : ℕ). take k t) width in
     let behind : more ≡ drop (width_of item) t = back ∙ ap (λ (k : ℕ). drop k t) width in
     let after = step_forth item others t p g rest n (λ m spells. only m (subst (λ (x : List ℕ). SpellsNumber item m x) (sym front) spells)) (item_at items i t p g rest lt reads) in
-    subst (λ (x : List ℕ). Reads others x q g rest) (sym behind) (subst (λ (x : Parts). Reads others (drop (width_of item) t) x g rest) (sym set) after)
+    subst (λ (x : List ℕ). Reads others x q g rest) (sym behind) (subst (λ (x : DateParts). Reads others (drop (width_of item) t) x g rest) (sym set) after)
 
-pub back_more : (items : List Item) (i w n : ℕ) (t s more : List ℕ) (p q g : Parts) (rest : List ℕ) → i < length items
+pub back_more : (items : List Item) (i w n : ℕ) (t s more : List ℕ) (p q g : DateParts) (rest : List ℕ) → i < length items
     → w ≡ width_of (get_or items i (Literal 0)) → s ≡ take w t → more ≡ drop w t → q ≡ with_number (get_or items i (Literal 0)) n p
     → SpellsNumber (get_or items i (Literal 0)) n s
     → Reads (drop (i + 1) items) more q g rest → Reads (drop i items) t p g rest
@@ -222,12 +222,12 @@ back_more items i w n t s more p q g rest lt width piece back set spells reads =
     let others = drop (i + 1) items in
     let front : s ≡ take (width_of item) t = piece ∙ ap (λ (k : ℕ). take k t) width in
     let behind : more ≡ drop (width_of item) t = back ∙ ap (λ (k : ℕ). drop k t) width in
-    let after = subst (λ (x : Parts). Reads others (drop (width_of item) t) x g rest) set (subst (λ (x : List ℕ). Reads others x q g rest) behind reads) in
+    let after = subst (λ (x : DateParts). Reads others (drop (width_of item) t) x g rest) set (subst (λ (x : List ℕ). Reads others x q g rest) behind reads) in
     subst (λ (xs : List Item). Reads xs t p g rest) (sym (drop_more items i (Literal 0) lt))
     (step_back item others t p g rest n (subst (λ (x : List ℕ). SpellsNumber item n x) front spells) after)
 
 -- parts that agree where the format gives them are the same day
-pub same_day : (items : List Item) (p f : Parts) → IsComplete Date items → AreSameParts items p f → IsDay f.year f.month f.day
+pub same_day : (items : List Item) (p f : DateParts) → IsComplete Date items → AreSameParts items p f → IsDay f.year f.month f.day
     → IsDay p.year p.month p.day × (number_of_day p.year p.month p.day ≡ number_of_day f.year f.month f.day)
 same_day items p f complete same is_day =
     let year : p.year ≡ f.year = same PartYear (omega (arith, complete.needed.1.1.0)) in
@@ -238,7 +238,7 @@ same_day items p f complete same is_day =
     )
 
 -- and the same minute
-pub same_minute : (items : List Item) (p f : Parts) → IsComplete Time items → AreSameParts items p f → 60 * p.hour + p.minute ≡ 60 * f.hour + f.minute
+pub same_minute : (items : List Item) (p f : DateParts) → IsComplete Time items → AreSameParts items p f → 60 * p.hour + p.minute ≡ 60 * f.hour + f.minute
 same_minute items p f complete same =
     let hour : p.hour ≡ f.hour = same PartHour (omega (arith, complete.needed.0)) in
     let minute : p.minute ≡ f.minute = same PartMinute (omega (arith, complete.needed.1.0)) in
@@ -252,14 +252,14 @@ both_same {a = a} {b = b} {x = x} {y = y} first second =
     subst (λ (n : ℕ). P n y) one (subst (λ (m : ℕ). P a m) two refl)
 
 -- a text whose front the items spell begins with it
-pub begins_front : (items items' : List Item) (f : Parts) (front rest text : List ℕ) → text ≡ front ++ rest → items' ≡ items → Spells items f front → BeginsWith items' f text rest
+pub begins_front : (items items' : List Item) (f : DateParts) (front rest text : List ℕ) → text ≡ front ++ rest → items' ≡ items → Spells items f front → BeginsWith items' f text rest
 begins_front items items' f front rest text parted same spells = (front, parted, subst (λ (xs : List Item). Spells xs f front) (sym same) spells)
 
 -- a text that the items spell begins with itself, and nothing is left
-pub begins_whole : (items items' : List Item) (f : Parts) (text : List ℕ) → items' ≡ items → Spells items f text → BeginsWith items' f text []
+pub begins_whole : (items items' : List Item) (f : DateParts) (text : List ℕ) → items' ≡ items → Spells items f text → BeginsWith items' f text []
 begins_whole items items' f text same spells = (text, sym (append-nil text), subst (λ (xs : List Item). Spells xs f text) (sym same) spells)
 
-pub same_parts : (items items' : List Item) (p f : Parts) → items' ≡ items → AreSameParts items' p f → AreSameParts items p f
+pub same_parts : (items items' : List Item) (p f : DateParts) → items' ≡ items → AreSameParts items' p f → AreSameParts items p f
 same_parts items items' p f same h = subst (λ (xs : List Item). AreSameParts xs p f) same h
 
 -- an empty text has no length

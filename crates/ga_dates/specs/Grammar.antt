@@ -4,6 +4,7 @@ use Rattle.std.specs.List.{flat_map, AllByRecursion}
 use Rattle.std.specs.Map.{lookup}
 use Rattle.std.specs.Option.{option_map, option_or}
 use Rattle.std.specs.Str.{bytes_eq}
+use Rattle.ga_base.specs.Bytes.{byte_of}
 use Rattle.ga_base.specs.declared.formats.FormatFault.{FormatFault}
 use Rattle.ga_base.specs.declared.formats.FormatFault.TheVariants.{BadDirective, NoMemory}
 use Rattle.ga_dates.specs.declared.item.Item.{Item}
@@ -12,6 +13,10 @@ use Rattle.ga_dates.specs.declared.item.Part.{Part}
 use Rattle.ga_dates.specs.declared.kind.Kind.{Kind}
 use Rattle.ga_dates.specs.declared.kind.Kind.TheVariants.{Date, Time}
 use Rattle.ga_dates.specs.Items.{gives, AreOnce, IsComplete}
+
+-- the byte that begins a directive
+abbrev pub percent : ℕ
+percent = byte_of (codes "%")
 
 -- The directives of a date format by their letters, each with its item.
 abbrev pub date_letters : List (List ℕ × Item)
@@ -22,7 +27,7 @@ date_letters =
     ∷ (codes "b", MonthName)
     ∷ (codes "Y", Year)
     ∷ (codes "y", ShortYear)
-    ∷ (codes "%", Literal 37)
+    ∷ (codes "%", Literal percent)
     ∷ []
 
 -- Those of a time format.
@@ -31,7 +36,7 @@ time_letters =
     (codes "H", Hour)
     ∷ (codes "M", Minute)
     ∷ (codes "S", Second)
-    ∷ (codes "%", Literal 37)
+    ∷ (codes "%", Literal percent)
     ∷ []
 
 -- The directives that are short for a longer form: `%F` for `%Y-%m-%d`, which stands here without its percent signs.
@@ -66,10 +71,10 @@ pub data Token : Type 0 where
 
 abbrev pub text_of : Token → List ℕ
 text_of (Byte byte) = byte ∷ []
-text_of (Directive letter) = 37 ∷ letter ∷ []
+text_of (Directive letter) = percent ∷ letter ∷ []
 
 abbrev pub IsNamed : Kind → Token → Type 0
-IsNamed kind (Byte byte) = byte ≢ 37
+IsNamed kind (Byte byte) = byte ≢ percent
 IsNamed kind (Directive letter) = IsSome (directive_of kind letter)
 
 abbrev pub items_of : Kind → Token → List Item
@@ -97,9 +102,9 @@ GivesAgain before added = (part : Part) × (1 ≤ count_by (gives part) before) 
 -- directive gives a part again
 abbrev pub IsBadDirective : Kind → List Item → List ℕ → Type 0
 IsBadDirective kind before [] = ⊥
-IsBadDirective kind before (byte ∷ []) = byte ≡ 37
+IsBadDirective kind before (byte ∷ []) = byte ≡ percent
 IsBadDirective kind before (byte ∷ letter ∷ _) =
-    (byte ≡ 37) × MatchOption (directive_of kind letter) (Unit {0}) (λ added. GivesAgain before added)
+    (byte ≡ percent) × MatchOption (directive_of kind letter) (Unit {0}) (λ added. GivesAgain before added)
 
 -- the text is a row up to a bad directive, which stands at this place
 pub record BreaksAt (kind : Kind) (text : List ℕ) (at : ℕ) : Type 0 where

@@ -8,7 +8,7 @@ use Rattle.ga_dates.specs.declared.item.Part.{Part}
 use Rattle.ga_dates.specs.declared.item.Part.TheVariants.{Day as PartDay, Month as PartMonth, Year as PartYear, Hour as PartHour, Minute as PartMinute, Second as PartSecond}
 use Rattle.ga_dates.specs.declared.kind.Kind.{Kind}
 use Rattle.ga_dates.specs.declared.kind.Kind.TheVariants.{Date, Time}
-use Rattle.ga_dates.specs.declared.parts.Parts.{Parts}
+use Rattle.ga_dates.specs.declared.date_parts.DateParts.{DateParts}
 
 -- the part that an item gives; a literal byte gives none
 abbrev pub part_of : Item → Option Part
@@ -52,7 +52,7 @@ pub record IsComplete (kind : Kind) (items : List Item) : Type 0 where
   pub needed : AllByRecursion (λ part. count_by (gives part) items ≡ 1) (needed_parts kind)
 
 -- the number of a part
-abbrev pub number_at : Part → Parts → ℕ
+abbrev pub number_at : Part → DateParts → ℕ
 number_at PartDay p = p.day
 number_at PartMonth p = p.month
 number_at PartYear p = p.year
@@ -61,5 +61,5 @@ number_at PartMinute p = p.minute
 number_at PartSecond p = p.second
 
 -- the number of the part that an item gives; 0 for a literal byte
-abbrev pub number_of : Item → Parts → ℕ
+abbrev pub number_of : Item → DateParts → ℕ
 number_of item p = option_map_or (λ part. number_at part p) (part_of item) 0

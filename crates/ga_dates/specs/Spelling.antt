@@ -2,16 +2,15 @@
 use Rattle.std.specs.Prelude.{ℕ, ◌≡◌, ◌+◌, ◌-◌, ◌*◌, ◌/◌, ◌%◌, ◌<◌, ◌≤◌, ◌⊎◌, List, [], ◌∷◌, ◌++◌, Some, nat_lt, if◌then◌else◌, codes}
 use Rattle.std.specs.List.{slice_get}
 use Rattle.std.specs.Str.{str_to_ascii_lowercase}
+use Rattle.ga_base.specs.Bytes.{byte_of}
+use Rattle.ga_base.specs.Days.{two_digits}
 use Rattle.ga_dates.specs.declared.item.Item.{Item}
 use Rattle.ga_dates.specs.declared.item.Item.TheVariants.{Literal, Day, SpacedDay, Month, MonthName, Year, ShortYear, Hour, Minute, Second}
-use Rattle.ga_dates.specs.declared.parts.Parts.{Parts}
+use Rattle.ga_dates.specs.declared.date_parts.DateParts.{DateParts}
 use Rattle.ga_dates.specs.Items.{number_of}
 use Rattle.ga_dates.specs.Calendar.{IsDay, number_of_day}
 
--- the decimal digits of a number below 100, and of one below 10,000; 48 is the digit 0
-abbrev pub two_digits : ℕ → List ℕ
-two_digits n = (48 + n / 10) ∷ (48 + n % 10) ∷ []
-
+-- the decimal digits of a number below 10,000
 abbrev pub four_digits : ℕ → List ℕ
 four_digits n = two_digits (n / 100) ++ two_digits (n % 100)
 
@@ -23,7 +22,7 @@ IsFourDigits n piece = (n < 10000) × (piece ≡ four_digits n)
 
 -- two digits, or a space and a digit
 abbrev pub IsSpacedDigits : ℕ → List ℕ → Type 0
-IsSpacedDigits n piece = IsTwoDigits n piece ⊎ ((n < 10) × (piece ≡ 32 ∷ (48 + n) ∷ []))
+IsSpacedDigits n piece = IsTwoDigits n piece ⊎ ((n < 10) × (piece ≡ byte_of (codes " ") ∷ (48 + n) ∷ []))
 
 -- the names of the months, in lower case
 abbrev pub month_names : List (List ℕ)
@@ -54,21 +53,21 @@ SpellsNumber Minute n piece = IsTwoDigits n piece × (n ≤ 59)
 SpellsNumber Second n piece = IsTwoDigits n piece × (n ≤ 60)
 
 -- the text is one piece per item, in their order, and each spells the number of its item's part
-abbrev pub Spells : List Item → Parts → List ℕ → Type 0
+abbrev pub Spells : List Item → DateParts → List ℕ → Type 0
 Spells [] parts text = text ≡ []
 Spells (item ∷ items) parts text =
     (piece rest : List ℕ) × (text ≡ piece ++ rest) × SpellsNumber item (number_of item parts) piece × Spells items parts rest
 
 -- the text spells a date that exists, and this is its number, as 20240229
 pub record SpellsDate (items : List Item) (text : List ℕ) (date : ℕ) : Type 0 where
-  pub parts : Parts
+  pub parts : DateParts
   pub spelt : Spells items parts text
   pub exists : IsDay parts.year parts.month parts.day
   pub number : date ≡ number_of_day parts.year parts.month parts.day
 
 -- the text spells a time of day, and this is its minute, from 0 at midnight
 pub record SpellsTime (items : List Item) (text : List ℕ) (minute : ℕ) : Type 0 where
-  pub parts : Parts
+  pub parts : DateParts
   pub spelt : Spells items parts text
   pub number : minute ≡ 60 * parts.hour + parts.minute
 

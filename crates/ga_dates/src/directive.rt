@@ -4,7 +4,7 @@ ghost use Rattle.std.specs.Option.{option_copied};
 ghost use Rattle.ga_dates.specs.declared.kind.Kind.TheVariants.{Date, Time};
 ghost use Rattle.ga_dates.specs.Items.{gives};
 ghost use Rattle.ga_dates.specs.Steps.Compile.{is_given};
-ghost use Rattle.ga_dates.specs.Grammar.{directive_of, GivesAgain, IsBadDirective};
+ghost use Rattle.ga_dates.specs.Grammar.{directive_of, percent, GivesAgain, IsBadDirective};
 
 use crate::{Item, Kind, Part};
 
@@ -17,7 +17,7 @@ pub(crate) fn directive_at(
     at: usize,
 ) -> Option<&'static [Item]>
     requires inside { at < length text.now }
-    requires percent { slice_index text.now at ≡ 37 }
+    requires percent { slice_index text.now at ≡ percent }
     ensures named { IfSome result (λ added. (at + 1 < length text.now) × (directive_of kind (slice_index text.now (at + 1)) ≡ Some added.now)) }
     ensures new { IfSome result (λ added. ¬ GivesAgain before.now added.now) }
     ensures bad { IfNone result (IsBadDirective kind before.now (drop at text.now)) }

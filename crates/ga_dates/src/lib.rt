@@ -8,19 +8,17 @@
 
 mod calendar;
 mod compile;
+mod date_parts;
 mod directive;
 mod format;
 mod item;
 mod kind;
 pub mod laws;
 mod number;
-mod parts;
 mod read;
-#[cfg(test)]
-mod tests;
 
+pub use date_parts::DateParts;
 pub use format::{DEFAULT_DATE, DEFAULT_TIME, DateFormat, TimeFormat, compile_date, compile_time};
 pub use item::{Item, Part};
 pub use kind::Kind;
-pub use parts::Parts;
 pub use read::{read_both, read_date, read_time};

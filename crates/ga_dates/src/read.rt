@@ -1,5 +1,5 @@
 ghost use Rattle.std.specs.Prelude.{◌≡◌, ◌+◌, ◌*◌, ℕ, List, IfSome, IsSomeAnd, Some};
-ghost use Rattle.ga_dates.specs.declared.parts.Parts.{Parts as PartsSpec};
+ghost use Rattle.ga_dates.specs.declared.date_parts.DateParts.{DateParts as PartsSpec};
 ghost use Rattle.ga_dates.specs.Items.{AreOnce};
 ghost use Rattle.ga_dates.specs.Calendar.{IsDay, number_of_day};
 ghost use Rattle.ga_dates.specs.Spelling.{SpellsDate, SpellsTime, SpellsBoth};
@@ -7,7 +7,7 @@ ghost use Rattle.ga_dates.specs.Steps.Reading.{BeginsWith, AreSameParts};
 
 use crate::calendar::is_day;
 use crate::number::number_in;
-use crate::{DateFormat, Item, Parts, TimeFormat};
+use crate::{DateFormat, DateParts, Item, TimeFormat};
 
 /// The day that the whole text spells by the format, as `10000 * year + 100 * month + day`. There is none where the text
 /// isn't spelt by the format, and where the Gregorian calendar hasn't the day or its year isn't 1000 to 9999. Takes no memory.
@@ -49,13 +49,13 @@ pub fn read_both(date: &DateFormat, time: &TimeFormat, text: &[u8]) -> Option<(u
     Some((day, minute))
 }
 
-fn minute_number(parts: &Parts) -> u32
+fn minute_number(parts: &DateParts) -> u32
     ensures { result ≡ 60 * parts.now.hour + parts.now.minute }
 {
     60 * u32::from(parts.hour) + u32::from(parts.minute)
 }
 
-fn day_number(parts: &Parts) -> Option<u32>
+fn day_number(parts: &DateParts) -> Option<u32>
     ensures found { IfSome result (λ n. IsDay parts.now.year parts.now.month parts.now.day × (n ≡ number_of_day parts.now.year parts.now.month parts.now.day)) }
     ensures only { IsDay parts.now.year parts.now.month parts.now.day → result ≡ Some (number_of_day parts.now.year parts.now.month parts.now.day) }
 {
@@ -66,12 +66,12 @@ fn day_number(parts: &Parts) -> Option<u32>
     }
 }
 
-fn read_parts<'a>(items: &[Item], text: &'a [u8]) -> Option<(Parts, &'a [u8])>
+fn read_parts<'a>(items: &[Item], text: &'a [u8]) -> Option<(DateParts, &'a [u8])>
     requires { AreOnce items.now }
     ensures found { IfSome result (λ r. BeginsWith items.now r.0 text.now r.1.now) }
     ensures only { (parts : PartsSpec) (rest : List ℕ) → BeginsWith items.now parts text.now rest → IsSomeAnd result (λ r. (r.1.now ≡ rest) × AreSameParts items.now r.0 parts) }
 {
-    let mut parts = Parts::NONE;
+    let mut parts = DateParts::NONE;
     let mut rest = text;
     for item in items {
         let (piece, more) = rest.split_at_checked(item.width())?;

@@ -4,5 +4,5 @@ pub mod Kept
 pub mod Moments
 pub mod Only
 pub mod Picked
-pub mod Stretches
+pub mod Traces
 pub mod Written

@@ -29,7 +29,7 @@ only-further {old} {mid} {new} {P} only time each = record {
     at-before t image le (inl since) = only.before t image le since
     at-before t image le (inr now) = inr (each image now)
 
--- one stretch of calls and then another
+-- one trace of calls and then another
 pub only-then : {old mid new : Images} {P : Sides → Type 0} → LeavesOnly old mid P → LeavesOnly mid new P → LeavesOnly old new P
 only-then {old} {mid} {new} {P} first second = record {
   later = omega (arith, first.later, second.later);

@@ -1,7 +1,7 @@
 -- What a disk is to the program, and what each call does to that.
 use Rattle.std.specs.Prelude.{◌≡◌, ℕ, ◌+◌, ◌-◌, ◌^◌, ◌<◌, ◌≤◌, ◌||◌, ◌++◌, Bool, true, false, List, length, take, drop, min, max, Option, Some, None, option_map, nat_le, slice_index, Result, OnOk, OnErr, IfOk, IfSome}
 use Rattle.std.specs.Result.{is_err}
-use Rattle.ga_ports.specs.Counts.{raised, is_due}
+use Rattle.ga_counters.specs.Counts.{raised, is_due}
 use Rattle.ga_disk.specs.Sides.{Sides, of_side, with_side}
 use Rattle.ga_disk.specs.declared.disk_counts.DiskCounts.{DiskCounts}
 

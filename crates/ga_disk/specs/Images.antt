@@ -53,7 +53,7 @@ pub record LeavesSynced {E : Type 0} (side : ℕ) (seen : Option Sides) (old new
 pub record LeavesOnly (old new : Images) (P : Sides → Type 0) : Type 0 where
   pub later : old.moment ≤ new.moment
   pub each : (image : Sides) → new.since old.moment image → P image
-  -- for a stretch of calls that began earlier
+  -- for a trace of calls that began earlier
   pub before : (t : ℕ) (image : Sides) → t ≤ old.moment → new.since t image → old.since t image ⊎ P image
 
 -- a crash leaves this and nothing else

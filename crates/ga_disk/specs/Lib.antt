@@ -5,5 +5,5 @@ pub mod Images
 pub mod SideState
 pub mod MemDisk
 pub mod Pick
-pub mod Stretch
+pub mod Trace
 pub mod Laws

@@ -4,7 +4,7 @@ use Rattle.std.specs.List.{range_with_len, count_by}
 use Rattle.ga_disk.specs.Sides.{Both, Sides}
 use Rattle.ga_disk.specs.SideState.{SideState, is_unsure}
 use Rattle.ga_disk.specs.declared.span.Span.{Span}
-use Rattle.ga_ports.specs.Counts.{raised}
+use Rattle.ga_counters.specs.Counts.{raised}
 use Rattle.ga_disk.specs.MemDisk.{DiskState, states}
 
 -- the pick is empty, or its first byte is odd

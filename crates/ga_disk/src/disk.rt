@@ -4,7 +4,7 @@ ghost use Rattle.ga_disk.specs.Disk.{DiskView, Opens, Sizes, Reaches, Reads, Wri
 ghost use Rattle.ga_disk.specs.Images.{Images, LeavesSame, LeavesSteps, LeavesSynced};
 
 use ga_base::Text;
-use ga_ports::Failed;
+use ga_counters::Failed;
 
 /// The greatest size of a side in bytes. A write that would pass it fails.
 pub const MAX_SIZE: u64 = (1 << 63) - 1;

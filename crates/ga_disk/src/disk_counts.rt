@@ -1,5 +1,5 @@
 ghost use Rattle.std.specs.Prelude.{◌≡◌};
-ghost use Rattle.ga_ports.specs.Counts.{raised};
+ghost use Rattle.ga_counters.specs.Counts.{raised};
 ghost use Rattle.ga_disk.specs.Disk.{asks, calls_once, fails_once};
 
 /// The counts of a form of `Disk`. Each stands still at `2^64 - 1`.

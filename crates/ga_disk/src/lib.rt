@@ -13,8 +13,6 @@ mod mem_disk;
 mod side;
 mod sides;
 mod span;
-#[cfg(test)]
-mod tests;
 
 pub use change::Change;
 pub use disk::{Disk, MAX_SIZE};

@@ -1,5 +1,5 @@
 ghost use Rattle.std.specs.Prelude.{◌≡◌, ◌+◌, ◌≤◌, ◌<◌, length, OnOk, OnErr, IsTrue, true, option_map};
-ghost use Rattle.ga_ports.specs.Counts.{raised};
+ghost use Rattle.ga_counters.specs.Counts.{raised};
 ghost use Rattle.ga_disk.specs.Sides.{of_side};
 ghost use Rattle.ga_disk.specs.Disk.{CutAt, Cuts, Opens, Reads, Sizes, Syncs, TornAt, Writes, max_size, must_fail};
 ghost use Rattle.ga_disk.specs.Images.{LeavesSame, LeavesSteps, LeavesSynced};
@@ -11,7 +11,7 @@ ghost use Rattle.ga_disk.specs.declared.change.Change.TheVariants.{Write, Cut, S
 use crate::sides::Sides;
 use crate::{Change, Disk, DiskCounts, MAX_SIZE};
 use ga_base::{Bytes, NoMemory, Text};
-use ga_ports::Failed;
+use ga_counters::{Failed, is_due};
 use std::alloc::Global;
 use std::marker::Model;
 
@@ -129,7 +129,7 @@ impl MemDisk {
             None => false,
             Some(bound) => bound <= calls,
         };
-        self.failing.contains(&calls.saturating_add(1)) || is_past
+        is_due(&self.failing, calls) || is_past
     }
 
     /// Writes to a side and keeps the call. There is no memory for more than the greatest size.

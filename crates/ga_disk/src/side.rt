@@ -172,7 +172,7 @@ fn put(bytes: &mut Vec<u8>, at: usize, piece: &[u8])
 }
 
 /// The byte of a pick with this number, the pick being taken round and round; without a pick the byte stays.
-fn picked(pick: &[u8], number: u64, byte: u8) -> u8
+fn picked_byte(pick: &[u8], number: u64, byte: u8) -> u8
     ensures { result ≡ left.picked pick.now number byte }
 {
     if pick.is_empty() {
@@ -191,7 +191,7 @@ fn scramble(bytes: &mut [u8], changed: &[Span], synced: usize, pick: &[u8], used
     let mut next = used;
     for at in 0..bytes.len() {
         if is_unsure(changed, synced, at) {
-            bytes[at] = picked(pick, next, bytes[at]);
+            bytes[at] = picked_byte(pick, next, bytes[at]);
             next += 1;
         }
     }

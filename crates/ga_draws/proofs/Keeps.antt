@@ -4,8 +4,8 @@ use Rattle.std.proofs.Common.{length-append}
 use Rattle.std.specs.List.{sum_by}
 use Rattle.std.proofs.lemmas.List.Elements.{All-set, All-get_or, All-weaker}
 use Rattle.std.proofs.lemmas.List.Sums.{sum_by-set, sum_by_push, sum_by-append}
-use Rattle.ga_shares.specs.Views.{after_split, after_join}
-use Rattle.ga_shares.proofs.Views.{all-split, all-join, sum-split, sum-join, sum-whole}
+use Rattle.ga_draws.specs.SeatViews.{after_split, after_join}
+use Rattle.ga_draws.proofs.Views.{all-split, all-join, sum-split, sum-join, sum-whole}
 use Rattle.ga_draws.specs.Draws.{DrawState, Inv, IsSpent, AreAllBelow, times, once_below, drew, given, left, joined, nothing}
 use Rattle.ga_draws.specs.Events.{DrawEvent, draws, splits, joins, IsLawful, AreLawful, after, after_all}
 use Rattle.ga_draws.specs.declared.view.DrawView.{DrawView}

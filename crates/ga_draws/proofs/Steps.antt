@@ -6,7 +6,7 @@ use mathlib.Core.Option.{none, some}
 use lib.ListN.{get_elem?}
 use Rattle.atomic_table.specs.Table.{State, Me, step, keeps, Allows, Splits, Joins}
 use Rattle.atomic_table.proofs.Lists.{set_else, set_again}
-use Rattle.ga_shares.proofs.Views.{seat-there, seat-is}
+use Rattle.ga_draws.proofs.Views.{seat-there, seat-is}
 use Rattle.ga_draws.specs.Draws.{Inv, drew, given, left, joined, nothing}
 use Rattle.ga_draws.specs.Running.{Holds, Draws, Looks}
 use Rattle.ga_draws.specs.declared.view.DrawView.{DrawView}

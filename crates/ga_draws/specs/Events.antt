@@ -1,6 +1,6 @@
 -- What can happen to draws, one event at a time. A seat is a place in the list of views.
 use Rattle.std.specs.Prelude.{◌≢◌, ℕ, ◌+◌, ◌<◌, ◌≤◌, ⊤, List, [], ◌∷◌, length, slice_set, slice_index_or}
-use Rattle.ga_shares.specs.Views.{after_split, after_join}
+use Rattle.ga_draws.specs.SeatViews.{after_split, after_join}
 use Rattle.ga_draws.specs.Draws.{DrawState, drew, given, left, joined, nothing}
 use Rattle.ga_draws.specs.declared.view.DrawView.{DrawView}
 

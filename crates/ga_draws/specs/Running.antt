@@ -21,10 +21,10 @@ first_view opening = given opening.shares opening.allowance
 abbrev pub KnowsAll : ℕ → DrawView → Type 0
 KnowsAll shares v = v.share ≡ shares → AreAllBelow v.drawn
 
--- what a draw tells: the number found is the number drawn
+-- what a draw says: the number found is the number drawn
 abbrev pub Draws : ℕ → Step (Unit {0}) → Me (Unit {0}) DrawView → ℕ → Me (Unit {0}) DrawView → Type 0
 Draws shares step before found seat = (seat ≡ (drew before.0 found, before.1)) × KnowsAll shares seat.0
 
--- what a look tells: the view is as it was
+-- what a look says: the view is as it was
 abbrev pub Looks : ℕ → Step (Unit {0}) → Me (Unit {0}) DrawView → ℕ → Me (Unit {0}) DrawView → Type 0
 Looks shares step before found seat = (seat ≡ before) × KnowsAll shares seat.0

@@ -1,11 +1,11 @@
 ghost use Rattle.std.specs.Prelude.{◌≡◌, ◌<◌, ◌≤◌, IfOk};
 ghost use Rattle.ga_draws.specs.Draws.{AreAllBelow, SeatSeen, drew, given, joined, left};
 
-use crate::rule::{Both, CutOff, Draw, Look, Numbered};
+use crate::rule::{Both, CutOff, Draw, DrawRule, Look};
 use crate::view::{DrawView, Opening};
+use crate::witnesses::{Cut, Witness};
 use atomic_table::{Seat, Table};
 use ga_base::NoMemory;
-use ga_shares::{Cut, Told};
 use std::alloc::Global;
 use std::marker::{Brand, Model};
 
@@ -13,7 +13,7 @@ use std::marker::{Brand, Model};
 #[derive(Drop)]
 pub struct Draws {
     /// Its one word is the number that is drawn next.
-    table: Table<(), DrawView, Opening, Numbered, Global>,
+    table: Table<(), DrawView, Opening, DrawRule, Global>,
 }
 
 impl Model for Draws {
@@ -67,8 +67,8 @@ impl Draws {
         self.draw_by::<Brand>(seat)
     }
 
-    /// Draws, where `S` tells the shares that the draws were opened with.
-    fn draw_by<S: Told>(&self, seat: &mut DrawSeat) -> u64
+    /// Draws, where `S` is the number of shares that the draws were opened with.
+    fn draw_by<S: Witness>(&self, seat: &mut DrawSeat) -> u64
         requires named { S.number ≡ self.now.shares }
         requires table { seat.old.table ≡ self.now.table }
         requires allowance { 1 ≤ seat.old.view.allowance }
@@ -116,8 +116,9 @@ impl Draws {
         self.look_by::<Brand>(seat);
     }
 
-    /// Looks at the counter, where `S` tells the shares that the draws were opened with. A seat with all shares learns what it has drawn.
-    fn look_by<S: Told>(&self, seat: &mut DrawSeat)
+    /// Looks at the counter, where `S` is the number of shares that the draws were opened with. A seat with all shares learns
+    /// what it has drawn.
+    fn look_by<S: Witness>(&self, seat: &mut DrawSeat)
         requires named { S.number ≡ self.now.shares }
         requires table { seat.old.table ≡ self.now.table }
         ensures seat { seat.new ≡ seat.old }

@@ -1,14 +1,14 @@
-//! The rule of the running table, and what its steps tell. These types are for the proofs alone.
+//! The rule of the running table, and what its steps say. These types are for the proofs alone.
 
 use crate::view::{DrawView, Opening};
+use crate::witnesses::{Cut, Witness};
 use atomic_table::{Join, Play, Split, TableRule};
-use ga_shares::{Cut, Told};
 use std::marker::PhantomData;
 
 /// The state that word and views stand for keeps its invariant.
-pub struct Numbered;
+pub struct DrawRule;
 
-impl TableRule<(), DrawView, Opening> for Numbered {
+impl TableRule<(), DrawView, Opening> for DrawRule {
     ghost use Rattle.ga_draws.specs.Running.{Holds, first_view};
 
     ghost holds = { Holds };
@@ -21,7 +21,7 @@ pub struct Draw<S> {
     of: PhantomData<S>,
 }
 
-impl<S: Told> Play<(), DrawView> for Draw<S> {
+impl<S: Witness> Play<(), DrawView> for Draw<S> {
     ghost use Rattle.ga_draws.specs.Running.{Draws};
 
     ghost then = { Draws S.number };
@@ -32,7 +32,7 @@ pub struct Look<S> {
     of: PhantomData<S>,
 }
 
-impl<S: Told> Play<(), DrawView> for Look<S> {
+impl<S: Witness> Play<(), DrawView> for Look<S> {
     ghost use Rattle.ga_draws.specs.Running.{Looks};
 
     ghost then = { Looks S.number };

@@ -12,10 +12,10 @@ use Rattle.ga_base.specs.declared.formats.FormatFault.TheVariants.{UnknownSpecif
 use Rattle.ga_base.specs.declared.formats.Needed.{Needed}
 use Rattle.ga_base.specs.declared.formats.Needed.TheVariants.{Host, Date, Request}
 use Rattle.ga_format.specs.Units.{FormatUnit, Plain, Tab, Specifier, ForwardedFor, IsUnit, IsRow, item_of, items_of}
-use Rattle.ga_format.specs.Parts.{runs_into, repeats, gives}
+use Rattle.ga_format.specs.FieldKinds.{runs_into, repeats, gives}
 use Rattle.ga_format.specs.FormatOf.{Lacks, HasFault, IsFormat, IsFirstFault, FormatOf, IsBefore, Precedes, rank_of}
 use Rattle.ga_format.specs.Steps.Checks.{IsWhole, IsFirstMissing}
-use Rattle.ga_format.specs.Sound.{IsNamed, IsSound}
+use Rattle.ga_format.specs.SoundFormats.{IsNamed, IsSound}
 use Rattle.ga_format.proofs.RowLemmas.{row_same, row_no_longer}
 
 -- a part that one row of the text lacks is lacking in these items

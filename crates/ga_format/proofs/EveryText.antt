@@ -11,7 +11,7 @@ use Rattle.ga_base.specs.declared.formats.Needed.{Needed}
 use Rattle.ga_base.specs.declared.formats.Needed.TheVariants.{Host, Date, Request}
 use Rattle.ga_format.specs.Specifiers.{has, letters}
 use Rattle.ga_format.specs.Units.{Tab, Specifier, IsUnknown, item_of}
-use Rattle.ga_format.specs.Parts.{repeats, gives}
+use Rattle.ga_format.specs.FieldKinds.{repeats, gives}
 use Rattle.ga_format.specs.FormatOf.{FormatOf}
 use Rattle.ga_format.specs.Steps.Checks.{GivesUnit, Ends, IsWhole, is_literal}
 use Rattle.ga_format.proofs.UnitLemmas.{heads, gives_plain, gives_specifier, gives_forwarded, unknown_end, unknown_letter, unclosed, nothing_inside}

@@ -7,7 +7,7 @@ use Rattle.ga_base.specs.declared.formats.FormatItem.TheVariants.{Literal, Skip,
 use Rattle.ga_base.specs.declared.formats.FormatFault.{FormatFault}
 use Rattle.ga_base.specs.declared.formats.FormatFault.TheVariants.{UnknownSpecifier, Repeated, NoDelimiter, Missing, BadDirective, NoMemory}
 use Rattle.ga_format.specs.Units.{FormatUnit, Begins, IsUnknown, IsRow, StartsWith, item_of}
-use Rattle.ga_format.specs.Parts.{runs_into, repeats, is_field}
+use Rattle.ga_format.specs.FieldKinds.{runs_into, repeats, is_field}
 use Rattle.ga_format.specs.FormatOf.{HasUndelimited, HasFault, IsFirstFault, IsBefore, Precedes}
 use Rattle.ga_format.specs.Steps.Checks.{GivesUnit, Ends, IsRefused, IsWhole, is_literal}
 use Rattle.ga_format.proofs.RowLemmas.{begins_same, begins_shorter}

@@ -6,7 +6,7 @@ use Rattle.std.proofs.lemmas.List.{map-append}
 use Rattle.ga_base.specs.declared.formats.FormatItem.{FormatItem}
 use Rattle.ga_base.specs.declared.formats.FormatItem.TheVariants.{Literal, Skip, Field, Forwarded}
 use Rattle.ga_format.specs.Units.{FormatUnit, Begins, IsRow, item_of, items_of}
-use Rattle.ga_format.specs.Parts.{runs_into, repeats, is_field}
+use Rattle.ga_format.specs.FieldKinds.{runs_into, repeats, is_field}
 use Rattle.ga_format.specs.FormatOf.{IsPlace, HasUnknown, HasRepeated, HasUndelimited}
 use Rattle.ga_format.specs.Steps.Checks.{GivesUnit, Ends, is_literal}
 use Rattle.ga_format.proofs.RowLemmas.{begins_same, row_through, row_snoc, row_no_longer}

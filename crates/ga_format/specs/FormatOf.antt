@@ -8,7 +8,7 @@ use Rattle.ga_base.specs.declared.formats.FormatFault.TheVariants.{UnknownSpecif
 use Rattle.ga_base.specs.declared.formats.Needed.{Needed}
 use Rattle.ga_base.specs.declared.formats.Needed.TheVariants.{Host, Date, Request}
 use Rattle.ga_format.specs.Units.{FormatUnit, Begins, IsRow, IsUnknown, item_of, items_of}
-use Rattle.ga_format.specs.Parts.{runs_into, repeats, gives}
+use Rattle.ga_format.specs.FieldKinds.{runs_into, repeats, gives}
 
 -- this place of the text is the end of a row of units, and these bytes stand from it on
 pub record IsPlace (text : List ℕ) (at : ℕ) (before : List FormatUnit) (rest : List ℕ) : Type 0 where

@@ -1,7 +1,7 @@
 pub mod Specifiers
 pub mod Units
-pub mod Parts
+pub mod FieldKinds
 pub mod FormatOf
-pub mod Sound
+pub mod SoundFormats
 pub mod Named
 pub mod Steps

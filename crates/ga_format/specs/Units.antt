@@ -1,6 +1,7 @@
 -- The grammar of a format text: it is a row of units, one behind the other.
 use Rattle.std.specs.Prelude.{◌≡◌, ◌≢◌, ◌==◌, ℕ, true, false, if◌then◌else◌, List, [], ◌∷◌, ◌++◌, map, codes, ◌⊎◌}
 use Rattle.ga_format.specs.Specifiers.{has, letters}
+use Rattle.ga_base.specs.Bytes.{byte_of}
 use Rattle.ga_base.specs.declared.formats.FormatItem.{FormatItem}
 use Rattle.ga_base.specs.declared.formats.FormatItem.TheVariants.{Literal, Skip, Field, Forwarded}
 
@@ -22,7 +23,7 @@ written (ForwardedFor separators) = codes "~h{" ++ (separators ++ codes "}")
 abbrev pub item_of : FormatUnit → FormatItem
 item_of (Plain byte) = Literal byte
 item_of Tab = Literal 9
-item_of (Specifier letter) = if letter == 126 then Skip else Field letter
+item_of (Specifier letter) = if letter == byte_of (codes "~") then Skip else Field letter
 item_of (ForwardedFor separators) = Forwarded separators
 
 abbrev pub items_of : List FormatUnit → List FormatItem
@@ -33,12 +34,12 @@ abbrev pub StartsWith : List ℕ → List ℕ → Type 0
 StartsWith text front = (rest : List ℕ) × (text ≡ front ++ rest)
 
 -- Whether this is a unit of the grammar where these bytes come after it. A byte stands for itself only where no other
--- unit's beginning stands. C has a byte, and runs to the first `}` (125).
+-- unit's beginning stands. C has a byte, and runs to the first `}`.
 abbrev pub IsUnit : FormatUnit → List ℕ → Type 0
 IsUnit (Plain byte) after = ¬ StartsWith (byte ∷ after) (codes "%") × ¬ StartsWith (byte ∷ after) (codes "\\t") × ¬ StartsWith (byte ∷ after) (codes "~h{")
 IsUnit Tab after = Unit {0}
 IsUnit (Specifier letter) after = has letter letters ≡ true
-IsUnit (ForwardedFor separators) after = (separators ≢ []) × (has 125 separators ≡ false)
+IsUnit (ForwardedFor separators) after = (separators ≢ []) × (has (byte_of (codes "}")) separators ≡ false)
 
 -- the text begins with this unit, and these bytes come after it
 pub record Begins (unit : FormatUnit) (text after : List ℕ) : Type 0 where

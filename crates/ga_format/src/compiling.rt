@@ -3,10 +3,10 @@ ghost use Rattle.ga_base.specs.declared.formats.FormatItem.{FormatItem};
 ghost use Rattle.ga_base.specs.declared.formats.FormatFault.{FormatFault};
 ghost use Rattle.ga_format.specs.FormatOf.{FormatOf, IsFirstFault};
 ghost use Rattle.ga_format.specs.Steps.Checks.{Ends, IsRefused, IsWhole};
-ghost use Rattle.ga_format.specs.Parts.{repeats};
+ghost use Rattle.ga_format.specs.FieldKinds.{repeats};
 
+use crate::field_kinds::{first_missing, is_field, is_literal, repeats};
 use crate::format::Format;
-use crate::parts::{first_missing, is_field, is_literal, repeats};
 use crate::units::read_unit;
 use ga_base::{FormatFault, FormatItem, Text};
 use std::alloc::Global;

@@ -12,7 +12,7 @@ pub struct Format {
 impl Model for Format {
     ghost use Rattle.std.specs.Prelude.{List};
     ghost use Rattle.ga_base.specs.declared.formats.FormatItem.{FormatItem};
-    ghost use Rattle.ga_format.specs.Sound.{IsSound};
+    ghost use Rattle.ga_format.specs.SoundFormats.{IsSound};
 
     ghost Value = { List FormatItem };
 
@@ -22,7 +22,7 @@ impl Model for Format {
 }
 
 impl Format {
-    ghost use Rattle.ga_format.specs.Sound.{IsSound};
+    ghost use Rattle.ga_format.specs.SoundFormats.{IsSound};
 
     /// The format of these items.
     pub(crate) fn new(inner: Vec<FormatItem>) -> Format

@@ -4,7 +4,7 @@ ghost use Rattle.std.specs.Prelude.{◌≡◌, ℕ, List, Result, Ok};
 ghost use Rattle.ga_base.specs.declared.formats.FormatItem.{FormatItem};
 ghost use Rattle.ga_base.specs.declared.formats.FormatFault.{FormatFault};
 ghost use Rattle.ga_format.specs.FormatOf.{FormatOf};
-ghost use Rattle.ga_format.specs.Sound.{IsSound};
+ghost use Rattle.ga_format.specs.SoundFormats.{IsSound};
 
 /// A text means one format or has one first fault, and not two.
 pub fn one_answer()

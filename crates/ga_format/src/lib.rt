@@ -6,12 +6,10 @@
 #![tactic(auto)]
 
 mod compiling;
+mod field_kinds;
 mod format;
 pub mod laws;
 mod named;
-mod parts;
-#[cfg(test)]
-mod tests;
 mod units;
 
 pub use compiling::compile;

@@ -45,11 +45,11 @@ fn read_specifier(text: &[u8], at: u64) -> Result<(FormatItem, &[u8]), FormatFau
     if !LETTERS.contains(letter) {
         return Err(FormatFault::UnknownSpecifier { at });
     }
-    Ok((specified(*letter), after))
+    Ok((specifier_item(*letter), after))
 }
 
 /// The item of a percent sign and this letter.
-fn specified(letter: u8) -> FormatItem
+fn specifier_item(letter: u8) -> FormatItem
     ensures { result ≡ item_of (FormatUnit.Specifier letter) }
 {
     if letter == b'~' {

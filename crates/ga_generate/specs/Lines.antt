@@ -1,10 +1,8 @@
 -- The generated lines (own profile). Line 0 is
 -- 10.0.0.0 - - [01/Jan/2024:00:00:00 +0000] "GET /p0.css HTTP/1.1" 200 0 "-" "Mozilla/5.0 (X11; Linux x86_64; rv:100.0) Gecko/20100101 Firefox/100.0"
-use Rattle.std.specs.Prelude.{ℕ, List, [], ◌∷◌, ◌++◌, ◌+◌, ◌/◌, ◌%◌, ◌==◌, if◌then◌else◌, codes, decimal, zero, suc}
+use Rattle.std.specs.Prelude.{ℕ, List, [], ◌∷◌, ◌++◌, ◌+◌, ◌%◌, ◌==◌, if◌then◌else◌, codes, decimal, zero, suc}
 use Rattle.std.specs.List.{concat}
-
-unfoldable pub two_digits : ℕ → List ℕ
-two_digits n = (48 + n / 10) ∷ (48 + n % 10) ∷ []
+use Rattle.ga_base.specs.Days.{two_digits}
 
 unfoldable pub host : ℕ → List ℕ
 host i = concat (codes "10." ∷ decimal (i % 7) ∷ codes "." ∷ decimal (i % 11) ∷ codes "." ∷ decimal (i % 13) ∷ [])

@@ -10,6 +10,3 @@ mod summary_text;
 
 pub use lines::generate;
 pub use summary_text::summary;
-
-#[cfg(test)]
-mod tests;

@@ -1,5 +1,6 @@
 ghost use Rattle.std.specs.Prelude.{◌≡◌, ◌∷◌, ◌++◌, ◌<◌, ◌%◌, ◌==◌, [], if◌then◌else◌, IfOk, OnOk, codes};
-ghost use Rattle.ga_generate.specs.Lines.{generated, generated_line, host, moment, request, two_digits};
+ghost use Rattle.ga_base.specs.Days.{two_digits};
+ghost use Rattle.ga_generate.specs.Lines.{generated, generated_line, host, moment, request};
 
 use crate::answer::push_answer;
 use crate::pieces::push_all;
@@ -58,7 +59,6 @@ fn push_moment(lines: &mut Vec<u8>, i: u32) -> Result<(), NoMemory>
     )
 }
 
-#[tactic(auto, unfolding(crate::specs::Lines::two_digits))]
 fn two_digits(n: u32) -> [u8; 2]
     requires { n < 100 }
     ensures { result ≡ two_digits n }

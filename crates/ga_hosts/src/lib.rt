@@ -10,8 +10,6 @@ mod address;
 pub mod laws;
 mod range;
 mod ranges;
-#[cfg(test)]
-mod tests;
 
 pub use address::{Address, address_of, is_address};
 pub use range::{BadRange, Range};

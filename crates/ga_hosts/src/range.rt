@@ -60,7 +60,7 @@ impl Range {
         ensures bad_second { (at : ℕ) → 0 < at →
             (IsErrOf result (record { at = at }) ↔ LacksSecond text.now at) }
     {
-        let (first, second) = cut(text);
+        let (first, second) = cut_at_dash(text);
         let Some(low) = address_of(first) else {
             return Err(BadRange { at: START });
         };
@@ -84,7 +84,7 @@ impl Range {
 }
 
 /// The text up to its first dash, and what follows the dash; the whole text where it has none.
-fn cut(text: &[u8]) -> (&[u8], Option<&[u8]>)
+fn cut_at_dash(text: &[u8]) -> (&[u8], Option<&[u8]>)
     ensures { IsCut text.now result.0.now (option_copied result.1) }
 {
     match text.iter().position(|byte| *byte == DASH) {

@@ -6,8 +6,8 @@ use Rattle.ga_codec.specs.Values.{entry_value}
 use Rattle.ga_disk.specs.Disk.{DiskView}
 use Rattle.ga_disk.specs.Images.{Images}
 use Rattle.ga_disk.specs.Sides.{Sides}
-use Rattle.ga_keep.specs.Database.{IsAfter, IsKept, IsNext, IsNextBy, Keeps, MayKeep, mode_of}
-use Rattle.ga_keep.specs.Steps.{IsUnkept}
+use Rattle.ga_keep.specs.RunDatabase.{IsAfter, IsKept, IsNext, IsNextBy, Keeps, MayKeep, mode_of}
+use Rattle.ga_keep.specs.Faults.{IsUnkept}
 use Rattle.ga_store.specs.Commit.{Makes, Work, adds_record, after_run, passes_generations}
 use Rattle.ga_store.specs.Commits.{AllHave, Commits, CommitsFrom, HasEither}
 use Rattle.ga_store.specs.Database.{DbOf, DbValue, of_snapshot}
@@ -15,7 +15,7 @@ use Rattle.ga_store.specs.Database.Reading.{stored as reads_as}
 use Rattle.ga_store.specs.Holding.{Holds}
 use Rattle.ga_store.specs.declared.fault.StoreFault.{StoreFault}
 use Rattle.ga_store.specs.declared.mode.Mode.{Mode}
-use Rattle.ga_summary.specs.Rows.{SummaryValue}
+use Rattle.ga_summary.specs.SummaryRows.{SummaryValue}
 use Rattle.ga_words.specs.declared.settings.Settings.{Settings}
 
 if_some-map : {A : Type 0} (P Q : A → Type 0) → (o : Option A) → ((x : A) → P x → Q x) → IfSome o P → IfSome o Q

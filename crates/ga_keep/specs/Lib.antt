@@ -1,3 +1,3 @@
 -- The database of a run.
-pub mod Database
-pub mod Steps
+pub mod RunDatabase
+pub mod Faults

@@ -1,9 +1,9 @@
 ghost use Rattle.std.specs.Prelude.{◌≡◌, IfOk, IfErr};
-ghost use Rattle.ga_disk.specs.Stretch.{DiskWent};
-ghost use Rattle.ga_store.specs.Reading.{db_value};
-ghost use Rattle.ga_keep.specs.Database as spec;
-ghost use Rattle.ga_keep.specs.Database.{Finds};
-ghost use Rattle.ga_keep.specs.Steps.{Misses};
+ghost use Rattle.ga_disk.specs.Trace.{DiskTrace};
+ghost use Rattle.ga_store.specs.Store.{db_value};
+ghost use Rattle.ga_keep.specs.RunDatabase as spec;
+ghost use Rattle.ga_keep.specs.RunDatabase.{Finds};
+ghost use Rattle.ga_keep.specs.Faults.{Misses};
 
 use ga_base::Text;
 use ga_disk::Disk;
@@ -22,7 +22,7 @@ pub fn uses_database(settings: &Settings) -> bool
 pub fn find<D: Disk>(alloc: Global, settings: &Settings, disk: &mut D) -> Result<Db, StoreFault>
     ensures ok { IfOk result (λ db. Finds settings.now (D.view disk.old) (D.view disk.new) (D.images disk.old) (D.images disk.new) (db_value db)) }
     ensures misses { IfErr result (Misses settings.now (D.view disk.old) (D.view disk.new) (D.images disk.old) (D.images disk.new)) }
-    ensures calls { DiskWent (D.view disk.old) (D.view disk.new) }
+    ensures calls { DiskTrace (D.view disk.old) (D.view disk.new) }
 {
     if !uses_database(settings) {
         return Ok(Db::empty(alloc));

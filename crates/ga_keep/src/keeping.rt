@@ -1,9 +1,9 @@
 ghost use Rattle.std.specs.Prelude.{◌≡◌, OnOk, IfErr, IsTrue};
-ghost use Rattle.ga_disk.specs.Stretch.{DiskWent};
+ghost use Rattle.ga_disk.specs.Trace.{DiskTrace};
 ghost use Rattle.ga_store.specs.Holding.{Holds};
-ghost use Rattle.ga_store.specs.Reading.{db_value};
-ghost use Rattle.ga_keep.specs.Database.{IsKept, IsWhole, mode_of};
-ghost use Rattle.ga_keep.specs.Steps.{IsUnkept};
+ghost use Rattle.ga_store.specs.Store.{db_value};
+ghost use Rattle.ga_keep.specs.RunDatabase.{IsKept, IsWhole, mode_of};
+ghost use Rattle.ga_keep.specs.Faults.{IsUnkept};
 
 use ga_base::Entries;
 use ga_disk::Disk;
@@ -27,7 +27,7 @@ pub fn keep<D: Disk>(
     requires whole { IsWhole settings.now (db_value stored.now) run.now whole.now }
     ensures kept { OnOk result (IsKept settings.now (db_value stored.now) whole.now entries.now (D.view disk.old) (D.view disk.new) (D.images disk.old) (D.images disk.new)) }
     ensures unkept { IfErr result (IsUnkept settings.now (db_value stored.now) whole.now entries.now (D.view disk.old) (D.view disk.new) (D.images disk.old) (D.images disk.new)) }
-    ensures calls { DiskWent (D.view disk.old) (D.view disk.new) }
+    ensures calls { DiskTrace (D.view disk.old) (D.view disk.new) }
 {
     let work = prepare(alloc, stored, run, whole, entries, mode(settings))?;
     commit(disk, work)

@@ -1,8 +1,8 @@
 ghost use Rattle.std.specs.Prelude.{◌≡◌, None, IfOk};
 ghost use Rattle.ga_summary.specs.Limits.{passes};
-ghost use Rattle.ga_summary.specs.Rows.{totals_plus};
-ghost use Rattle.ga_store.specs.Reading.{db_value};
-ghost use Rattle.ga_keep.specs.Database.{AreBase, IsWhole, base_of, follow_of, start_of};
+ghost use Rattle.ga_base.specs.Totals.{totals_plus};
+ghost use Rattle.ga_store.specs.Store.{db_value};
+ghost use Rattle.ga_keep.specs.RunDatabase.{AreBase, IsWhole, base_of, follow_of, start_of};
 
 use ga_base::{Entries, NoMemory};
 use ga_logs::{Follow, Start};
@@ -51,7 +51,7 @@ pub fn base_entries(alloc: Global, settings: &Settings, stored: &Db) -> Result<E
 }
 
 /// What a run shows and keeps: what it counted, behind what it restored.
-pub fn whole(settings: &Settings, stored: &Db, run: &Summary) -> Result<Summary, NoMemory>
+pub fn whole_summary(settings: &Settings, stored: &Db, run: &Summary) -> Result<Summary, NoMemory>
     requires { passes (totals_plus (base_of settings.now (db_value stored.now)).summary.totals run.now.totals) ≡ None }
     ensures { IfOk result (IsWhole settings.now (db_value stored.now) run.now) }
 {

@@ -15,7 +15,8 @@ use Rattle.ga_line.specs.declared.numbers.Numbers.{Numbers}
 use Rattle.ga_line.specs.declared.setup.LineSetup.{LineSetup}
 use Rattle.ga_line.specs.Fits.{Part, Fits, IsFree, nothing, byte, pair, EndsAt, SkipsSpace, is_space, double_quote, backslash, field, IsForwarded, host_part}
 use Rattle.ga_line.specs.Letters.{host_letter, date_letter, time_letter, both_letter, request_letter, method_letter, path_letter, protocol_letter, status_letter, size_letter, referrer_letter, agent_letter, vhost_letter, user_letter, cache_letter, mime_letter, tls_letter, micros_letter, millis_letter, seconds_letter}
-use Rattle.ga_line.specs.Records.{IsMissing, IsNoAddress, IfKnown, HasRequest, AsksFor, url_of, day_text, request_text, taken_part, HasMinute, HasMoment, SaysMoment, IsStatus, HasStatus, size_value, AreDigits, decimal_value, IsDecimal, whole, parted, IsMicros, in_micros, in_millis, in_seconds, HasMicros, IsPassedOver, IsRefused, no_host, no_date, no_request, no_address, bad_moment, bad_status, too_large, too_slow, Fails, too_long, misfit, refused, longest_line, utf8_text, said_text, SaysSomething}
+use Rattle.ga_base.specs.declared.record.TheConstants.{MAX_LINE}
+use Rattle.ga_line.specs.Records.{IsMissing, IsNoAddress, IfKnown, HasRequest, AsksFor, url_of, day_text, request_text, taken_part, HasMinute, HasMoment, SaysMoment, IsStatus, HasStatus, size_value, AreDigits, decimal_value, IsDecimal, whole, parted, IsMicros, in_micros, in_millis, in_seconds, HasMicros, IsPassedOver, IsRefused, no_host, no_date, no_request, no_address, bad_moment, bad_status, too_large, too_slow, Fails, too_long, misfit, refused, utf8_text, said_text, SaysSomething}
 use Rattle.ga_line.specs.Steps.Valid.{HasNumbers}
 use Rattle.ga_line.proofs.AcceptLemmas.{accepted-line, has-numbers}
 use Rattle.ga_line.proofs.FreeLemmas.{EndsAt-unique}
@@ -359,7 +360,7 @@ module _ (setup : LineSetup) (line : List ℕ) (read : ¬ IsPassedOver line) (pa
   fails-for : IsRefused setup parts → SaysSomething setup line
   fails-for cause = (Failed, (read, refused parts fits cause))
 
-  module _ (short : length line ≤ longest_line) (host : ¬ IsMissing (field host_letter parts)) (day : ¬ IsMissing (day_text parts)) (request : ¬ IsMissing (request_text parts)) (address : ¬ IsNoAddress setup.no_ip_validation (field host_letter parts))
+  module _ (short : length line ≤ MAX_LINE) (host : ¬ IsMissing (field host_letter parts)) (day : ¬ IsMissing (day_text parts)) (request : ¬ IsMissing (request_text parts)) (address : ¬ IsNoAddress setup.no_ip_validation (field host_letter parts))
       (date : ℕ) (minute : Option ℕ) (moment : SaysMoment setup parts date minute) (status : ℕ) (is_status : HasStatus setup.strict_status (field status_letter parts) status) where
     with-amounts : size_value (field size_letter parts) ≤ BIG → (micros : Option ℕ) → HasMicros (taken_part parts) micros → IfSome micros (λ m. m ≤ BIG) → SaysSomething setup line
     with-amounts within micros has few =
@@ -376,7 +377,7 @@ module _ (setup : LineSetup) (line : List ℕ) (read : ¬ IsPassedOver line) (pa
         let taken = some-micros (taken_part parts) in
         ⊎_elim (λ above. fails-for (too_large above)) (λ within. by-time within taken.0 taken.1) (cases_lt BIG (size_value (field size_letter parts)))
 
-  by-parts : length line ≤ longest_line → SaysSomething setup line
+  by-parts : length line ≤ MAX_LINE → SaysSomething setup line
   by-parts short = host (known-missing (field host_letter parts)) (known-missing (day_text parts)) (known-missing (request_text parts))
       (known-no-address setup.no_ip_validation (field host_letter parts)) (known-said-moment setup (field both_letter parts) (field date_letter parts) (field time_letter parts)) (known-status setup.strict_status (field status_letter parts))
     where
@@ -396,7 +397,7 @@ unpassed : (setup : LineSetup) (line : List ℕ) → ¬ IsPassedOver line → Sa
 unpassed setup line read =
     ⊎_elim (λ long. (Failed, (read, too_long long)))
     (λ short. ⊎_elim (λ (parts, fits). by-parts setup line read parts fits short) (λ none. (Failed, (read, misfit (λ parts fits. none (parts, fits))))) (known-fit setup.format line))
-    (cases_lt longest_line (length line))
+    (cases_lt MAX_LINE (length line))
 
 -- every line says something
 pub says-something : (setup : LineSetup) (line : List ℕ) → SaysSomething setup line

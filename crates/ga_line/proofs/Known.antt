@@ -9,10 +9,11 @@ use Rattle.std.specs.List.{slice_get}
 use Rattle.std.specs.Str.{str_to_ascii_lowercase}
 use Rattle.ga_dates.specs.Calendar.{IsDay, is_leap_year, number_of_day, days_in_month}
 use Rattle.ga_dates.specs.Items.{number_of}
-use Rattle.ga_dates.specs.Spelling.{two_digits, four_digits, month_names, SpellsNumber, IsTwoDigits, Spells, SpellsDate, SpellsTime, SpellsBoth, long_year}
+use Rattle.ga_dates.specs.Spelling.{four_digits, month_names, SpellsNumber, IsTwoDigits, Spells, SpellsDate, SpellsTime, SpellsBoth, long_year}
+use Rattle.ga_base.specs.Days.{two_digits}
 use Rattle.ga_dates.specs.declared.item.Item.{Item}
 use Rattle.ga_dates.specs.declared.item.Item.TheVariants.{Literal, Day, SpacedDay, Month, MonthName, Year, ShortYear, Hour, Minute, Second}
-use Rattle.ga_dates.specs.declared.parts.Parts.{Parts}
+use Rattle.ga_dates.specs.declared.date_parts.DateParts.{DateParts}
 
 abbrev pub IsKnown : Type 0 → Type 0
 IsKnown P = P ⊎ ¬ P
@@ -105,7 +106,7 @@ known-number Hour n piece = known-both (known-two n piece) (known-most n 23)
 known-number Minute n piece = known-both (known-two n piece) (known-most n 59)
 known-number Second n piece = known-both (known-two n piece) (known-most n 60)
 
-pub known-spelt : (items : List Item) (parts : Parts) (text : List ℕ) → IsKnown (Spells items parts text)
+pub known-spelt : (items : List Item) (parts : DateParts) (text : List ℕ) → IsKnown (Spells items parts text)
 known-spelt [] parts text = known-text text []
 known-spelt (item ∷ items) parts text =
     ⊎_elim
@@ -134,10 +135,10 @@ number-below Minute n piece h = omega (arith, h.1)
 number-below Second n piece h = omega (arith, h.1)
 
 -- so each number may be cut there
-abbrev small : Parts → Parts
+abbrev small : DateParts → DateParts
 small p = record { day = min p.day 9999; month = min p.month 9999; year = min p.year 9999; hour = min p.hour 9999; minute = min p.minute 9999; second = min p.second 9999 }
 
-number-small : (item : Item) (p : Parts) → number_of item (small p) ≡ min (number_of item p) 9999
+number-small : (item : Item) (p : DateParts) → number_of item (small p) ≡ min (number_of item p) 9999
 number-small (Literal byte) p = refl
 number-small Day p = refl
 number-small SpacedDay p = refl
@@ -152,14 +153,14 @@ number-small Second p = refl
 min-within : (n : ℕ) → n ≤ 9999 → n ≡ min n 9999
 min-within n most = omega arith
 
-spelt-small : (items : List Item) (p : Parts) (text : List ℕ) → Spells items p text → Spells items (small p) text
+spelt-small : (items : List Item) (p : DateParts) (text : List ℕ) → Spells items p text → Spells items (small p) text
 spelt-small [] p text spelt = spelt
 spelt-small (item ∷ items) p text (piece, rest, parted, number, later) =
     let same : number_of item p ≡ number_of item (small p) = min-within (number_of item p) (omega (arith, number-below item (number_of item p) piece number)) ∙ sym (number-small item p) in
     (piece, rest, parted, subst (λ (n : ℕ). SpellsNumber item n piece) same number, spelt-small items p rest later)
 
 -- whether some parts have a property that they keep where their numbers are cut
-known-parts : (P : Parts → Type 0) → ((p : Parts) → IsKnown (P p)) → ((p : Parts) → P p → P (small p)) → IsKnown ((p : Parts) × P p)
+known-parts : (P : DateParts → Type 0) → ((p : DateParts) → IsKnown (P p)) → ((p : DateParts) → P p → P (small p)) → IsKnown ((p : DateParts) × P p)
 known-parts P known kept =
     ⊎_elim
     (λ (day, d, (month, m, (year, y, (hour, h, (minute, n, (second, s, has)))))). inl (record { day = day; month = month; year = year; hour = hour; minute = minute; second = second }, has))
@@ -212,10 +213,10 @@ month-short year month =
     omega arith
 
 -- whether a text spells a date, a time, or both
-abbrev IsDated : List Item → List ℕ → Parts → Type 0
+abbrev IsDated : List Item → List ℕ → DateParts → Type 0
 IsDated items text p = Spells items p text × IsDay p.year p.month p.day
 
-dated-small : (items : List Item) (text : List ℕ) (p : Parts) → IsDated items text p → IsDated items text (small p)
+dated-small : (items : List Item) (text : List ℕ) (p : DateParts) → IsDated items text p → IsDated items text (small p)
 dated-small items text p (spelt, day) =
     let year : p.year ≡ min p.year 9999 = min-within p.year day.last_year in
     let month : p.month ≡ min p.month 9999 = min-within p.month (omega (arith, day.last_month)) in

@@ -11,10 +11,12 @@ use Rattle.std.specs.Prelude.{◌==◌}
 use Rattle.std.specs.List.{slice_split, onto_first, All}
 use Rattle.std.specs.Str.Lines.{strip_carriage_return}
 use Rattle.memchr.specs.Find.{IsFirstByte, is_byte}
-use Rattle.ga_line.specs.Lines.{line_feed, unended_line, lines_of_pieces, lines, IsEnded, KeepsItsLines}
+use Rattle.ga_line.specs.Lines.{unended_line, lines_of_pieces, lines, KeepsItsLines}
+use Rattle.ga_base.specs.Lines.{IsEnded}
+use Rattle.ga_base.specs.declared.limits.TheConstants.{LINE_FEED}
 
 abbrev feeds : ℕ → Bool
-feeds b = b == line_feed
+feeds b = b == LINE_FEED
 
 -- a piece that another follows is a line
 lines_of_pieces-cons : (piece : List ℕ) (pieces : List (List ℕ)) (keep : Bool) → 0 < length pieces
@@ -56,13 +58,13 @@ lines-unended text keep none =
     (slice_split_none feeds text (All-from_get_or (λ x. feeds x ≡ false) text 0 (λ i lt. false_from_ne_true _ (λ yes. none i (omega arith) lt yes))))
 
 -- the pieces up to a line feed don't depend on what follows it
-pieces-before : (front : List ℕ) → (pieces : List (List ℕ)) × ((more : List ℕ) → slice_split feeds (front ++ line_feed ∷ more) ≡ pieces ++ slice_split feeds more) × (0 < length pieces)
+pieces-before : (front : List ℕ) → (pieces : List (List ℕ)) × ((more : List ℕ) → slice_split feeds (front ++ LINE_FEED ∷ more) ≡ pieces ++ slice_split feeds more) × (0 < length pieces)
 pieces-before [] = ([] ∷ [], λ more. refl, omega arith)
 pieces-before (b ∷ front) =
     let rest = pieces-before front in
     ⊎_elim
-    (λ yes. ([] ∷ rest.0, λ more. slice_split-cons_yes feeds b (front ++ line_feed ∷ more) yes ∙ ap (λ ps. [] ∷ ps) (rest.1 more), omega arith))
-    (λ no. onto b rest.0 rest.2 (λ more. slice_split feeds more) (λ more. slice_split feeds (b ∷ front ++ line_feed ∷ more)) (λ more. slice_split-cons_no feeds b (front ++ line_feed ∷ more) no ∙ ap (onto_first b) (rest.1 more)))
+    (λ yes. ([] ∷ rest.0, λ more. slice_split-cons_yes feeds b (front ++ LINE_FEED ∷ more) yes ∙ ap (λ ps. [] ∷ ps) (rest.1 more), omega arith))
+    (λ no. onto b rest.0 rest.2 (λ more. slice_split feeds more) (λ more. slice_split feeds (b ∷ front ++ LINE_FEED ∷ more)) (λ more. slice_split-cons_no feeds b (front ++ LINE_FEED ∷ more) no ∙ ap (onto_first b) (rest.1 more)))
     (cases_Bool (feeds b))
   where
     onto : (b : ℕ) (pieces : List (List ℕ)) → 0 < length pieces → (later all : List ℕ → List (List ℕ))
@@ -71,14 +73,14 @@ pieces-before (b ∷ front) =
     onto b [] some later all h = absurd (omega arith)
     onto b (p ∷ ps) some later all h = ((b ∷ p) ∷ ps, h, omega arith)
 
-after-feed : (front : List ℕ) → KeepsItsLines (front ++ line_feed ∷ [])
+after-feed : (front : List ℕ) → KeepsItsLines (front ++ LINE_FEED ∷ [])
 after-feed front more keep =
     let pieces = pieces-before front in
-    let start : lines (front ++ line_feed ∷ []) false ≡ map strip_carriage_return pieces.0 =
+    let start : lines (front ++ LINE_FEED ∷ []) false ≡ map strip_carriage_return pieces.0 =
     ap (λ ps. lines_of_pieces ps false) (pieces.1 [])
     ∙ lines_of_pieces-append pieces.0 ([] ∷ []) false (omega arith)
     ∙ append-nil (map strip_carriage_return pieces.0) in
-    ap (λ t. lines t keep) (append_assoc front (line_feed ∷ []) more)
+    ap (λ t. lines t keep) (append_assoc front (LINE_FEED ∷ []) more)
     ∙ ap (λ ps. lines_of_pieces ps keep) (pieces.1 more)
     ∙ lines_of_pieces-append pieces.0 (slice_split feeds more) keep (some-piece more)
     ∙ ap (λ ls. ls ++ lines more keep) (sym start)
@@ -92,13 +94,13 @@ lines-append text ended =
     ended
 
 -- a text whose last byte is a line feed
-pub IsEnded-last : (text : List ℕ) (b : ℕ) → Some b ≡ slice_get text (length text - 1) → b ≡ line_feed → IsEnded text
+pub IsEnded-last : (text : List ℕ) (b : ℕ) → Some b ≡ slice_get text (length text - 1) → b ≡ LINE_FEED → IsEnded text
 IsEnded-last text b last feed =
     let at = length text - 1 in
     let inside : at < length text = slice_get_within text at b (sym last) in
-    let byte : get_or text at 0 ≡ line_feed = get_or_from_slice_get text at b 0 (sym last) ∙ feed in
+    let byte : get_or text at 0 ≡ LINE_FEED = get_or_from_slice_get text at b 0 (sym last) ∙ feed in
     let past : drop (suc at) text ≡ [] = drop_all (suc at) text (omega arith) in
-    inr (take at text, split_at text at 0 inside ∙ ap (λ x. take at text ++ x ∷ drop (suc at) text) byte ∙ ap (λ xs. take at text ++ line_feed ∷ xs) past)
+    inr (take at text, split_at text at 0 inside ∙ ap (λ x. take at text ++ x ∷ drop (suc at) text) byte ∙ ap (λ xs. take at text ++ LINE_FEED ∷ xs) past)
 
 -- a text without a line feed is no line, where it isn't kept or is empty, and else it is one
 pub lines-dropped : (text : List ℕ) (keep : Bool) → IsFirstByte (is_byte 10) text None → (keep ≡ false) ⊎ ((length text == 0) ≡ true) → lines text keep ≡ []

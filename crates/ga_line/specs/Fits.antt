@@ -1,20 +1,21 @@
 -- When a line fits the items of a log format, and which texts its fields then have: cases on the items,
 -- in their order, each on a suffix of the line. The items are those of GoAccess's log formats; where
 -- exactly a field ends, and that a backslash hides a double quote, is our own rule.
-use Rattle.std.specs.Prelude.{◌≡◌, ◌≢◌, ℕ, ◌⊎◌, ◌==◌, Bool, true, false, ◌&&◌, ◌||◌, nat_le, List, [], ◌∷◌, ◌++◌, Option, Some, None}
+use Rattle.std.specs.Prelude.{◌≡◌, ◌≢◌, ℕ, ◌⊎◌, ◌==◌, Bool, true, false, ◌&&◌, ◌||◌, nat_le, List, [], ◌∷◌, ◌++◌, Option, Some, None, codes}
 use Rattle.std.specs.List.{AllPass, find}
 use Rattle.std.specs.Option.{option_map}
 use Rattle.bstr.specs.Bytes.{is_in}
+use Rattle.ga_base.specs.Bytes.{byte_of}
 use Rattle.ga_base.specs.declared.formats.FormatItem.{FormatItem}
 use Rattle.ga_base.specs.declared.formats.FormatItem.TheVariants.{Literal, Skip, Field, Forwarded}
 use Rattle.ga_line.specs.Forwarded.{entries, FirstAddress, IsLongestChain}
 use Rattle.ga_line.specs.Letters.{host_letter}
 
 abbrev pub double_quote : ℕ
-double_quote = 34
+double_quote = byte_of (codes "\"")
 
 abbrev pub backslash : ℕ
-backslash = 92
+backslash = byte_of (codes "\\")
 
 -- A text in which no field ends that ends at the byte `stop`: it is made of bytes other than `stop`. Where
 -- `stop` is the double quote, a backslash stands only together with the byte after it, which may be any.
@@ -34,7 +35,7 @@ NeverEnds stop rest = (text after : List ℕ) → EndsAt stop rest text after �
 
 -- white space: the bytes 9 to 13, and the blank
 abbrev pub is_space : ℕ → Bool
-is_space b = (nat_le 9 b && nat_le b 13) || b == 32
+is_space b = (nat_le 9 b && nat_le b 13) || b == byte_of (codes " ")
 
 -- `after` is what the longest run of white space leaves of `rest`
 pub record SkipsSpace (rest after : List ℕ) : Type 0 where

@@ -1,13 +1,10 @@
 -- The lines of a log: the pieces before each line feed, each without one carriage return before that
 -- line feed; then what follows the last line feed, where it is kept and isn't empty. A log that still grows
 -- is read without what follows its last line feed.
-use Rattle.std.specs.Prelude.{◌≡◌, ℕ, Bool, false, ◌==◌, ◌⊎◌, List, [], ◌∷◌, ◌++◌, if◌then◌else◌}
+use Rattle.std.specs.Prelude.{◌≡◌, ℕ, Bool, false, ◌==◌, List, [], ◌∷◌, ◌++◌, if◌then◌else◌}
 use Rattle.std.specs.List.{slice_split}
 use Rattle.std.specs.Str.Lines.{strip_carriage_return}
-
--- the byte that ends a line
-abbrev pub line_feed : ℕ
-line_feed = 10
+use Rattle.ga_base.specs.declared.limits.TheConstants.{LINE_FEED}
 
 -- what follows the last line feed, as a line with its bytes unchanged: none where it is empty or isn't kept
 abbrev pub unended_line : List ℕ → Bool → List (List ℕ)
@@ -22,11 +19,7 @@ lines_of_pieces (piece ∷ next ∷ more) keep = strip_carriage_return piece ∷
 
 -- the lines of a text, with what follows its last line feed where `keep` says so
 abbrev pub lines : List ℕ → Bool → List (List ℕ)
-lines text keep = lines_of_pieces (slice_split (λ b. b == line_feed) text) keep
-
--- no line of the text goes on in what is added to it: it is empty or ends in a line feed
-abbrev pub IsEnded : List ℕ → Type 0
-IsEnded text = (text ≡ []) ⊎ ((front : List ℕ) × (text ≡ front ++ line_feed ∷ []))
+lines text keep = lines_of_pieces (slice_split (λ b. b == LINE_FEED) text) keep
 
 -- the lines of a text that was added to are the lines that it had, and then those of what was added
 abbrev pub KeepsItsLines : List ℕ → Type 0

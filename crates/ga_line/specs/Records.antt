@@ -4,10 +4,12 @@ use Rattle.std.specs.List.{find}
 use Rattle.std.specs.Str.{all_ascii_digits, bytes_eq}
 use Rattle.std.specs.Str.Lossy.{utf8_lossy}
 use Rattle.std.specs.Str.Parse.{digits_value}
+use Rattle.ga_base.specs.Bytes.{byte_of}
 use Rattle.ga_base.specs.declared.counts.TheConstants.{BIG}
 use Rattle.ga_base.specs.declared.record.Line.{Line}
 use Rattle.ga_base.specs.declared.record.Line.TheVariants.{Skipped, Failed, Good}
 use Rattle.ga_base.specs.declared.record.Record.{Record}
+use Rattle.ga_base.specs.declared.record.TheConstants.{MAX_LINE}
 use Rattle.ga_dates.specs.declared.item.Item.{Item}
 use Rattle.ga_dates.specs.Spelling.{SpellsDate, SpellsTime, SpellsBoth}
 use Rattle.ga_hosts.specs.Addresses.{IsAddress}
@@ -81,7 +83,7 @@ decimal_value places front back = digits_value 10 (front ++ back) * 10 ^ places 
 -- A number in units of its last place of so many: digits alone, or digits, a dot and digits.
 pub data IsDecimal (places : ℕ) (text : List ℕ) (number : ℕ) : Type 0 where
   whole : AreDigits text → number ≡ decimal_value places text [] → IsDecimal places text number
-  parted : (front back : List ℕ) → text ≡ front ++ 46 ∷ back → AreDigits front → AreDigits back → number ≡ decimal_value places front back → IsDecimal places text number
+  parted : (front back : List ℕ) → text ≡ front ++ byte_of (codes ".") ∷ back → AreDigits front → AreDigits back → number ≡ decimal_value places front back → IsDecimal places text number
 
 -- The microseconds that the text of a field for the time taken writes: whole ones, or milliseconds or seconds with decimals.
 pub data IsMicros (part : Part) (micros : ℕ) : Type 0 where
@@ -101,7 +103,7 @@ HasMicros (Some part) (Some number) = IsMicros part number
 
 -- a line that isn't counted: an empty one, or one that begins with '#'
 abbrev pub IsPassedOver : List ℕ → Type 0
-IsPassedOver line = (line ≡ []) ⊎ ((comment : List ℕ) × (line ≡ 35 ∷ comment))
+IsPassedOver line = (line ≡ []) ⊎ ((comment : List ℕ) × (line ≡ byte_of (codes "#") ∷ comment))
 
 -- the host is there and no address; with the option that lets any text be a host, that is no cause
 abbrev pub IsNoAddress : Bool → Option (List ℕ) → Type 0
@@ -120,13 +122,9 @@ pub data IsRefused (setup : LineSetup) (parts : List Part) : Type 0 where
   too_large : BIG < size_value (field size_letter parts) → IsRefused setup parts
   too_slow : (micros : ℕ) → HasMicros (taken_part parts) (Some micros) → BIG < micros → IsRefused setup parts
 
--- how long the longest line is that is read, in bytes
-abbrev pub longest_line : ℕ
-longest_line = 65535
-
 -- why a line that isn't passed over is no valid one
 pub data Fails (setup : LineSetup) (line : List ℕ) : Type 0 where
-  too_long : longest_line < length line → Fails setup line
+  too_long : MAX_LINE < length line → Fails setup line
   misfit : ((parts : List Part) → ¬ Fits setup.format line parts) → Fails setup line
   refused : (parts : List Part) → Fits setup.format line parts → IsRefused setup parts → Fails setup line
 
@@ -145,7 +143,7 @@ said_text text = utf8_lossy (said text)
 -- a query behind the path, with a question mark between them unless it has its own
 abbrev pub with_query : List ℕ → List ℕ → List ℕ
 with_query path [] = path
-with_query path (byte ∷ query) = path ++ (if byte == 63 then byte ∷ query else 63 ∷ byte ∷ query)
+with_query path (byte ∷ query) = path ++ (if byte == urls.question_mark then byte ∷ query else urls.question_mark ∷ byte ∷ query)
 
 -- a text that counts only where it is known, and is empty else
 abbrev pub IfKnown : (List ℕ → Type 0) → Option (List ℕ) → List ℕ → Type 0

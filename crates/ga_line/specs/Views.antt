@@ -1,8 +1,9 @@
 -- What a line says as it is read without owning it: the line that it is, made owned.
-use Rattle.std.specs.Prelude.{◌≡◌, ℕ, List, [], Some}
+use Rattle.std.specs.Prelude.{◌≡◌, ℕ, List, [], Some, codes}
 use Rattle.std.specs.List.{Contains}
 use Rattle.std.specs.Str.{IsUtf8}
 use Rattle.std.specs.Cow.{cow_str_bytes}
+use Rattle.ga_base.specs.Bytes.{byte_of}
 use Rattle.ga_base.specs.declared.record.Line.{Line}
 use Rattle.ga_base.specs.declared.record.Line.TheVariants.{Skipped, Failed, Good}
 use Rattle.ga_base.specs.declared.record.Record.{Record}
@@ -43,7 +44,7 @@ line_in (View.Good v) = Good (record_of v)
 
 -- the byte that begins an escape
 abbrev pub percent_sign : ℕ
-percent_sign = 37
+percent_sign = byte_of (codes "%")
 
 -- Nothing has to be made for a line with these fields: their texts are UTF-8, the query's field says nothing, and so much of
 -- the target as is kept is UTF-8 and holds no percent sign.

@@ -4,7 +4,7 @@ ghost use Rattle.std.specs.Str.{all_ascii_digits};
 ghost use Rattle.std.specs.Str.Parse.{digits_value};
 ghost use Rattle.ga_line.specs.Records.{size_value, AreDigits, IsDecimal, decimal_value};
 
-use crate::cutting::cut_at;
+use crate::cut_field::cut_at;
 use ga_base::BIG;
 
 /// What stands for every number above `BIG`.
@@ -84,12 +84,12 @@ pub(crate) fn decimal_in(text: &[u8], places: usize) -> Option<u64>
 {
     match cut_at(text, DOT) {
         None => decimal_of(text, &[], places),
-        Some((front, after)) => parted_in(front, behind(after), places),
+        Some((front, after)) => split_decimal_in(front, after_first(after), places),
     }
 }
 
 /// What stands behind the first byte.
-fn behind(text: &[u8]) -> &[u8]
+fn after_first(text: &[u8]) -> &[u8]
     ensures { (byte : ℕ) (rest : List ℕ) → text.now ≡ byte ∷ rest → result.now ≡ rest }
 {
     match text.split_first() {
@@ -99,7 +99,7 @@ fn behind(text: &[u8]) -> &[u8]
 }
 
 /// The same of digits before the dot and behind it.
-fn parted_in(front: &[u8], back: &[u8], places: usize) -> Option<u64>
+fn split_decimal_in(front: &[u8], back: &[u8], places: usize) -> Option<u64>
     requires { places ≤ 6 }
     ensures found { IfSome result (λ n. AreDigits front.now × AreDigits back.now × (n ≡ min (decimal_value places front.now back.now) TOO_BIG)) }
     ensures none { IfNone result (AreDigits front.now → ¬ AreDigits back.now) }

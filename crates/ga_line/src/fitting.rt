@@ -3,7 +3,7 @@ ghost use Rattle.std.specs.Option.{option_copied};
 ghost use Rattle.ga_line.specs.Fits.{Part, Fits, SkipsSpace, is_space};
 ghost use Rattle.ga_line.specs.Steps.Fitting.{AreNoted, EndsBefore, EndsLine};
 
-use crate::cutting::cut_at;
+use crate::cut_field::cut_at;
 use crate::fields::Fields;
 use crate::forwarded::forwarded_in;
 use ga_base::FormatItem;

@@ -5,7 +5,7 @@ ghost use Rattle.ga_base.specs.declared.formats.FormatItem.TheVariants.{Literal}
 ghost use Rattle.ga_line.specs.Forwarded.{EndsAddress, FirstAddress, IsLongestChain, entries};
 ghost use Rattle.ga_line.specs.Steps.Forwarding.{Forwards, GoesOn, BeginsAddress, IsNextAddress, IsEndOf, IsLastOf, HasChain, HasNoLiteral};
 
-use crate::cutting::cut_at;
+use crate::cut_field::cut_at;
 use bstr::ByteSlice;
 use ga_base::FormatItem;
 use ga_hosts::is_address;

@@ -5,7 +5,8 @@ ghost use Rattle.std.specs.Prelude.{ℕ, List};
 ghost use Rattle.ga_dates.specs.declared.kind.Kind.TheVariants.{Date, Time};
 ghost use Rattle.ga_dates.specs.Items.{IsComplete};
 ghost use Rattle.ga_line.specs.declared.setup.LineSetup.{LineSetup as TheSetup};
-ghost use Rattle.ga_line.specs.Lines.{IsEnded, KeepsItsLines};
+ghost use Rattle.ga_line.specs.Lines.{KeepsItsLines};
+ghost use Rattle.ga_base.specs.Lines.{IsEnded};
 ghost use Rattle.ga_line.specs.Records.{SaysOneThing, SaysSomething};
 
 use ga_dates::laws::{one_date, one_date_and_time, one_time};

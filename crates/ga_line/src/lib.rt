@@ -7,23 +7,21 @@
 #![tactic(auto)]
 
 mod asking;
-mod cutting;
+mod cut_field;
 mod digits;
 mod fields;
 mod fitting;
 mod forwarded;
 pub mod laws;
+mod line_reading;
 mod numbers;
 mod pieces;
-mod reading;
-mod saying;
+mod record_view;
 mod setup;
-mod status;
-#[cfg(test)]
-mod tests;
+mod status_code;
 mod view;
 
+pub use line_reading::{read_line, read_view};
 pub use pieces::Lines;
-pub use reading::{read_line, read_view};
 pub use setup::LineSetup;
 pub use view::{LineView, RecordView};

@@ -8,7 +8,7 @@ ghost use Rattle.ga_line.specs.Steps.Valid.{HasNumbers, IsTooSlow};
 use crate::LineSetup;
 use crate::digits::{TOO_BIG, decimal_in, number_in, size_in};
 use crate::fields::Fields;
-use crate::status::status_in;
+use crate::status_code::status_in;
 use ga_base::BIG;
 use ga_dates::{TimeFormat, read_both, read_date, read_time};
 use ga_hosts::is_address;

@@ -4,10 +4,8 @@ ghost use Rattle.std.specs.Str.Lines.{strip_carriage_return};
 ghost use Rattle.ga_line.specs.Lines.{lines};
 
 use bstr::ByteSlice;
+use ga_base::LINE_FEED;
 use std::marker::Model;
-
-/// The byte that ends a line.
-const LINE_FEED: u8 = b'\n';
 
 /// The byte that is dropped once before a line feed.
 const CARRIAGE_RETURN: u8 = b'\r';

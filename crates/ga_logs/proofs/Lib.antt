@@ -1,3 +1,7 @@
+pub mod Held
+pub mod Counts
+pub mod Absorbed
+pub mod Batches
 pub mod AsTold
 pub mod LogsSteps
 pub mod OneCourse

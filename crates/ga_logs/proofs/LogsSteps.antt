@@ -6,18 +6,19 @@ use Rattle.ga_base.specs.declared.entry.Entry.{Entry}
 use Rattle.ga_ports.specs.Files.{FilesView}
 use Rattle.ga_resume.specs.declared.fault.PlaceFault.{PlaceFault}
 use Rattle.ga_resume.specs.declared.fault.PlaceFault.TheVariants.{FileFault, FileShort, NoMemory}
-use Rattle.ga_outcomes.specs.Counting.{FillsAmong}
+use Rattle.ga_outcomes.specs.LineOutcomes.{FillsAmong}
 use Rattle.ga_outcomes.specs.declared.setup.Setup.{Setup}
-use Rattle.ga_streams.specs.Counting.{AreInTotal, CountingSeen, HasCounted, HasCountedBy, LinesAreCounted}
-use Rattle.ga_streams.specs.declared.full.CountingFault.{CountingFault}
-use Rattle.ga_streams.specs.declared.full.CountingFault.TheVariants.{Full as CounterFull, NoMemory as CountingNoMemory}
-use Rattle.ga_streams.specs.declared.full.Full.{Full as TheFull}
+use Rattle.ga_logs.specs.Counting.{AreInTotal, CountingSeen, HasCounted, HasCountedBy, LinesAreCounted}
+use Rattle.ga_logs.specs.declared.full.CountingFault.{CountingFault}
+use Rattle.ga_logs.specs.declared.full.CountingFault.TheVariants.{Full as CounterFull, NoMemory as CountingNoMemory}
+use Rattle.ga_logs.specs.declared.full.Full.{Full as TheFull}
 use Rattle.ga_tallies.specs.Tallies.{TallySeen}
 use Rattle.ga_logs.specs.Following.{MissesAt, MissesLog, ReadsAll, ReadsPortion, ReadsSome}
 use Rattle.ga_logs.specs.Following.MissesAt.{misses_first, misses_later}
 use Rattle.ga_logs.specs.Following.ReadsAll.{read_all, read_then}
 use Rattle.ga_logs.specs.Following.ReadsSome.{read_none, read_last, read_on}
-use Rattle.ga_logs.specs.Logs.{CountsLogs, LinesFit, MissesLogs, NoneFailed, StopsLogs}
+use Rattle.ga_logs.specs.Logs.{CountsLogs, NoneFailed, StopsLogs}
+use Rattle.ga_logs.specs.Missing.{LinesFit, MissesLogs}
 use Rattle.ga_logs.specs.Portions.{Follows, counted_lines, generated_lines}
 use Rattle.ga_logs.specs.Steps.Logs.{CountsOneLog, HasCountedLogs, StopsOneLog, fault_of_counting, fault_of_full, fault_of_log, portion_lines}
 use Rattle.ga_logs.specs.Steps.Streaming.{Adds}
@@ -148,7 +149,7 @@ stops-full setup start n names front back split es es' a b counting h full is =
 
 -- lines that are counted fill no counter
 lines-fit : {setup : Setup} {start : Totals} {all : List (List ℕ)} {tallies : List TallySeen} → LinesAreCounted setup start all tallies → LinesFit setup start all
-lines-fit h = record { outcomes = h.outcomes; come = h.come; fits = h.tallied.fits }
+lines-fit h = record { outcomes = h.outcomes; have_outcomes = h.have_outcomes; fits = h.tallied.fits }
 
 -- a log is read only while no counter is full
 module _ (setup : Setup) (start : Start) (n : Option ℕ) (names front back : List (List ℕ)) (name : List ℕ) (split : names ≡ front ++ name ∷ back)

@@ -4,13 +4,14 @@ use Rattle.std.proofs.Props.{props}
 use Rattle.std.proofs.lemmas.Bool.{cases_lt}
 use Rattle.std.proofs.lemmas.List.{get_or-take, get_or-drop, get_or_at}
 use Rattle.ga_base.specs.declared.entry.Entry.{Entry}
-use Rattle.ga_line.specs.Lines.{IsEnded, line_feed}
+use Rattle.ga_base.specs.declared.limits.TheConstants.{LINE_FEED}
+use Rattle.ga_base.specs.Lines.{IsEnded, AreEnded}
 use Rattle.ga_ports.specs.Files.{Contents}
 use Rattle.ga_resume.specs.Entries.{IsAdvanced, IsChoice, IsEntryOf, with_entry}
 use Rattle.ga_resume.specs.declared.segment.Segment.{Segment}
 use Rattle.ga_logs.specs.Following.{AreTold}
 use Rattle.ga_logs.specs.Following.AreTold.{told_all, told_then}
-use Rattle.ga_logs.specs.Portions.{AreEnded, Begins, Follows, IsCountedTo, IsPortionOf}
+use Rattle.ga_logs.specs.Portions.{Begins, Follows, IsCountedTo, IsPortionOf}
 use Rattle.ga_logs.specs.declared.follow.Follow.{Follow}
 use Rattle.ga_logs.specs.declared.follow.Follow.TheVariants.{Whole, ToEnd, ToLastLine}
 use Rattle.ga_logs.specs.declared.portion.Portion.{Portion}
@@ -56,14 +57,14 @@ not-less bytes m n a b less = by-end b.ended
     by-end : IsEnded (take n bytes) → ⊥
     by-end (inl none) = absurd (omega (arith, length-take n bytes, ap length none, b.within, less))
     by-end (inr (front, is)) =
-        let long : length front + 1 ≡ n = omega (arith, length-take n bytes, ap length is, length-append front (line_feed ∷ []), b.within) in
-        let at : get_or bytes (length front) line_feed ≡ line_feed =
-        sym (get_or-take n bytes (length front) line_feed (omega (arith, long))) ∙ ap (λ (l : List ℕ). get_or l (length front) line_feed) is ∙ get_or_at front line_feed [] line_feed (length front) refl in
+        let long : length front + 1 ≡ n = omega (arith, length-take n bytes, ap length is, length-append front (LINE_FEED ∷ []), b.within) in
+        let at : get_or bytes (length front) LINE_FEED ≡ LINE_FEED =
+        sym (get_or-take n bytes (length front) LINE_FEED (omega (arith, long))) ∙ ap (λ (l : List ℕ). get_or l (length front) LINE_FEED) is ∙ get_or_at front LINE_FEED [] LINE_FEED (length front) refl in
         let place : m + (length front - m) ≡ length front = omega (arith, long, less) in
         a.last (
           length front - m,
           omega (arith, length-drop m bytes, long, b.within, less),
-          get_or-drop m bytes (length front - m) line_feed ∙ ap (λ (k : ℕ). get_or bytes k line_feed) place ∙ at,
+          get_or-drop m bytes (length front - m) LINE_FEED ∙ ap (λ (k : ℕ). get_or bytes k LINE_FEED) place ∙ at,
         )
 
 one-end : (bytes : List ℕ) (m n : ℕ) → AreEnded bytes m → AreEnded bytes n → m ≡ n

@@ -2,17 +2,17 @@
 use Rattle.std.proofs.Common.{◌≡◌, ◌≢◌, ℕ, ◌+◌, ◌-◌, ◌≤◌, true, false, List, [], ◌∷◌, ◌++◌, refl, ap, sym, ◌∙◌, subst, inr, Option, Some, None, IfSome, arith, drop, length, length-drop, take_all, is_none}
 use Rattle.std.specs.List.{AllByRecursion}
 use Rattle.ga_base.specs.declared.entry.Entry.{Entry}
-use Rattle.ga_ports.specs.Counts.{raised, NoneDue}
+use Rattle.ga_counters.specs.Counts.{raised, NoneDue}
 use Rattle.ga_ports.specs.Files.{Contents, FilesView, content_of, told, is_absent}
-use Rattle.ga_ports.specs.Stretch.{FilesStay}
+use Rattle.ga_ports.specs.Trace.{FilesStay}
 use Rattle.ga_resume.specs.Entries.{IsChoice}
-use Rattle.ga_resume.specs.Reading.{after_reads, part_of, ReadsPart, StopsAfter, StopsWithin}
+use Rattle.ga_resume.specs.ReadPart.{after_reads, part_of, ReadsPart, StopsAfter, StopsWithin}
 use Rattle.ga_resume.specs.declared.fault.PlaceFault.{PlaceFault}
 use Rattle.ga_resume.specs.declared.fault.PlaceFault.TheVariants.{FileFault, FileShort, NoMemory}
 use Rattle.ga_resume.specs.declared.segment.Segment.{Segment}
 use Rattle.ga_logs.specs.Following.{AsksFor, CanServe, CanServeOne, HandsOut, IsCause, MissesLog, ReadsPortion}
 use Rattle.ga_logs.specs.Portions.{Begins, IsPortionOf, front_of}
-use Rattle.ga_logs.specs.Steps.Reading.{BeginsLog, OpensLog, front_size, opened}
+use Rattle.ga_logs.specs.Steps.ReadPortion.{BeginsLog, OpensLog, front_size, opened}
 use Rattle.ga_logs.specs.declared.follow.Follow.{Follow}
 use Rattle.ga_logs.specs.declared.follow.Follow.TheVariants.{Whole, ToEnd, ToLastLine}
 
@@ -48,7 +48,7 @@ if_some-both P Q R (Some x) step p q = step x p q
 raised-twice : (c a b : ℕ) → raised (raised c a) b ≡ raised c (a + b)
 raised-twice c a b = omega arith
 
--- a stretch of reads of the open file, whatever came of it
+-- a trace of reads of the open file, whatever came of it
 pub record Went (count : ℕ) (old new : FilesView) : Type 0 where
   pub asked : new.counts.asked ≡ old.counts.asked
   pub absent : new.counts.absent ≡ old.counts.absent
@@ -98,10 +98,6 @@ pub starts-within : (follow : Follow) (es : List Entry) (s : Segment) → Begins
 starts-within Whole es s begins = omega (arith, begins.0)
 starts-within ToEnd es s begins = choice-within es s.front s.end s.from s.entry begins.choice
 starts-within ToLastLine es s begins = choice-within es s.front s.end s.from s.entry begins.choice
-
--- a log was opened by the same entries
-pub opens-by : (follow : Follow) (es fs : List Entry) (name : List ℕ) (a m : FilesView) (s : Segment) → es ≡ fs → OpensLog follow es name a m s → OpensLog follow fs name a m s
-opens-by follow es fs name a m s same opens = subst (λ (xs : List Entry). OpensLog follow xs name a m s) same opens
 
 module _ (follow : Follow) (es : List Entry) (name : List ℕ) (a m c : FilesView) (s : Segment) (opens : OpensLog follow es name a m s) where
   there : is_absent name a.contents ≡ false

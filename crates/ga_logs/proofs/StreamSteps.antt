@@ -1,18 +1,17 @@
 -- From one slice of a log's part to the next.
 use Rattle.std.proofs.Common.{◌≡◌, ℕ, ◌+◌, ◌-◌, ◌≤◌, Bool, false, List, [], ◌++◌, refl, ap, sym, ◌∙◌, subst, Option, IfSome, arith, length, length-append, length-take, take, take_all, drop, append_assoc, append-nil}
 use Rattle.ga_batches.specs.Batches.{BatcherSeen, Feeds, Holds}
-use Rattle.ga_batches.specs.Lines.{AreEnded}
+use Rattle.ga_base.specs.Lines.{AreEnded}
 use Rattle.ga_line.specs.Lines.{lines}
 use Rattle.ga_outcomes.specs.declared.setup.Setup.{Setup}
 use Rattle.ga_ports.specs.Files.{FilesView}
-use Rattle.ga_resume.specs.Reading.{after_reads, part_of, ReadsPart, ReadsSlice, StopsWithin}
+use Rattle.ga_resume.specs.ReadPart.{after_reads, part_of, ReadsPart, ReadsSlice, StopsWithin}
 use Rattle.ga_resume.specs.declared.fault.PlaceFault.TheVariants.{NoMemory}
 use Rattle.ga_resume.proofs.PartReads.{if_some-all, if_some-map, if_some-both, reads-nil, reads-more, bytes-after_reads, part-more, nothing}
-use Rattle.ga_streams.specs.Counting.{CountingSeen, HasCounted}
-use Rattle.ga_streams.specs.Streams.{IsBehind, IsWithin}
-use Rattle.ga_streams.proofs.Batches.{behind-none, behind-taken, within-fed}
-use Rattle.ga_logs.specs.Portions as portions
-use Rattle.ga_logs.specs.Steps.Streaming.{Adds, FeedsPart, FillsBehind, FillsPart, HasCountedSome}
+use Rattle.ga_logs.specs.Counting.{CountingSeen, HasCounted}
+use Rattle.ga_logs.specs.Streams.{IsBehind, IsWithin}
+use Rattle.ga_logs.proofs.Batches.{behind-none, behind-taken, within-fed}
+use Rattle.ga_logs.specs.Steps.Streaming.{Adds, CountsTaken, FeedsPart, FillsBehind, FillsPart, HasCountedSome}
 
 -- no bytes of a part were read
 read-none : (from : ℕ) (v : FilesView) → ReadsPart from from v v []
@@ -84,25 +83,19 @@ fills-slice at n buffer v w b0 b1 taken slice going whole feeds holds =
       holds = λ stream before h. subst (λ (xs : List ℕ). Holds (stream ++ xs) before b1) all (holds stream before h);
     }
 
--- ---- a part that is counted on the way
+-- ---- a stream that is counted on the way
 
--- what was counted so far of a part, whose last batch waits
-pub record FeedsBehind (setup : Setup) (from end : ℕ) (files files' : FilesView) (counting counting' : CountingSeen) (taken : List ℕ)
-    (batcher batcher' : BatcherSeen) : Type 0 where
-  pub part : List ℕ
-  pub read : ReadsPart from end files files' part
+-- what was counted so far of what was fed, whose last batch waits
+pub record Waits (setup : Setup) (part : List ℕ) (counting counting' : CountingSeen) (last : List ℕ) (batcher batcher' : BatcherSeen) : Type 0 where
   pub going : batcher'.is_over ≡ false
   pub fed : batcher'.fed ≡ batcher.fed + length part
   pub start : counting'.start ≡ counting.start
   pub within : (before : List (List ℕ)) (stream : List ℕ) → IsWithin setup before stream counting batcher
-      → IsBehind setup before (stream ++ part) counting' taken batcher'
+      → IsBehind setup before (stream ++ part) counting' last batcher'
 
 -- nothing was fed yet
-pub feeds-none : (setup : Setup) (from : ℕ) (v : FilesView) (counting : CountingSeen) (batcher : BatcherSeen) → batcher.is_over ≡ false
-    → FeedsBehind setup from from v v counting counting [] batcher batcher
-feeds-none setup from v counting batcher going = record {
-  part = [];
-  read = read-none from v;
+pub waits-none : (setup : Setup) (counting : CountingSeen) (batcher : BatcherSeen) → batcher.is_over ≡ false → Waits setup [] counting counting [] batcher batcher
+waits-none setup counting batcher going = record {
   going = going;
   fed = omega arith;
   start = refl;
@@ -111,29 +104,57 @@ feeds-none setup from v counting batcher going = record {
 }
 
 -- the batch that waited was counted while more was fed, and the next one was taken
+pub waits-on : (setup : Setup) (part more : List ℕ) (c0 c1 c2 : CountingSeen) (last next : List ℕ) (b0 b1 b2 b3 : BatcherSeen)
+    → Waits setup part c0 c1 last b0 b1 → CountsTaken setup last c1 c2
+    → b2.is_over ≡ false → b2.fed ≡ b1.fed + length more → ((stream taken : List ℕ) → Holds stream taken b1 → Holds (stream ++ more) taken b2)
+    → b3.is_over ≡ b2.is_over → b3.fed ≡ b2.fed → ((stream taken : List ℕ) → Holds stream taken b2 → Holds stream (taken ++ next) b3)
+    → Waits setup (part ++ more) c0 c2 next b0 b3
+waits-on setup part more c0 c1 c2 last next b0 b1 b2 b3 a counts on fed holds going same takes = record {
+  going = going ∙ on;
+  fed = omega (arith, same, a.fed, fed, length-append part more);
+  start = counts.start ∙ a.start;
+  within = λ before stream h.
+      let counted = counts.within before (stream ++ part) b1 (a.within before stream h) in
+      let filled = within-fed setup c2 b1 b2 more holds before (stream ++ part) counted in
+      subst (λ (s : List ℕ). IsBehind setup before s c2 next b3) (append_assoc stream part more)
+      (behind-taken setup c2 b2 b3 next takes before ((stream ++ part) ++ more) filled);
+}
+
+-- what was counted so far of a part of a log, whose last batch waits
+pub record FeedsBehind (setup : Setup) (from end : ℕ) (files files' : FilesView) (counting counting' : CountingSeen) (taken : List ℕ)
+    (batcher batcher' : BatcherSeen) : Type 0 where
+  pub part : List ℕ
+  pub read : ReadsPart from end files files' part
+  pub waits : Waits setup part counting counting' taken batcher batcher'
+
+-- nothing was fed yet
+pub feeds-none : (setup : Setup) (from : ℕ) (v : FilesView) (counting : CountingSeen) (batcher : BatcherSeen) → batcher.is_over ≡ false
+    → FeedsBehind setup from from v v counting counting [] batcher batcher
+feeds-none setup from v counting batcher going = record { part = []; read = read-none from v; waits = waits-none setup counting batcher going }
+
+-- the batch that waited was counted while more was fed, and the next one was taken
 pub feeds-on : (setup : Setup) (from at to most : ℕ) (v w u : FilesView) (c0 c1 c2 : CountingSeen) (last next : List ℕ) (b0 b1 b2 b3 : BatcherSeen) → from ≤ at → at ≤ to
     → FeedsBehind setup from at v w c0 c1 last b0 b1 → FillsBehind setup at most to w u c1 c2 last b1 b2
     → b3.is_over ≡ b2.is_over → b3.fed ≡ b2.fed → ((stream taken : List ℕ) → Holds stream taken b2 → Holds stream (taken ++ next) b3)
     → FeedsBehind setup from to v u c0 c2 next b0 b3
-feeds-on setup from at to most v w u c0 c1 c2 last next b0 b1 b2 b3 begun on a b going fed takes = record {
-  part = a.part ++ b.fills.fills.part;
-  read = read-then from at to v w u a.part b.fills.fills.part begun on a.read b.fills.fills.read;
-  going = going ∙ b.fills.fills.going;
-  fed = omega (arith, fed, a.fed, b.fills.fills.fed, length-append a.part b.fills.fills.part);
-  start = b.counts.start ∙ a.start;
-  within = λ before stream h.
-      let more = b.fills.fills.part in
-      let counted = b.counts.within before (stream ++ a.part) b1 (a.within before stream h) in
-      let filled = within-fed setup c2 b1 b2 more (λ s taken. b.fills.fills.holds s taken) before (stream ++ a.part) counted in
-      subst (λ (s : List ℕ). IsBehind setup before s c2 next b3) (append_assoc stream a.part more)
-      (behind-taken setup c2 b2 b3 next takes before ((stream ++ a.part) ++ more) filled);
-}
+feeds-on setup from at to most v w u c0 c1 c2 last next b0 b1 b2 b3 begun on a b going fed takes =
+    let fills = b.fills.fills in
+    record {
+      part = a.part ++ fills.part;
+      read = read-then from at to v w u a.part fills.part begun on a.read fills.read;
+      waits = waits-on setup a.part fills.part c0 c1 c2 last next b0 b1 b2 b3 a.waits b.counts fills.going fills.fed (λ s taken. fills.holds s taken) going fed takes;
+    }
 
 -- what stays once a batch was taken
 pub after-taking : (b b' : BatcherSeen) → b' ≡ record b { batch = [] } → (b'.is_over ≡ b.is_over) × (b'.fed ≡ b.fed) × (length b'.batch ≡ 0)
 after-taking b b' value = (ap (λ (v : BatcherSeen). v.is_over) value, ap (λ (v : BatcherSeen). v.fed) value, ap (λ (v : BatcherSeen). length v.batch) value)
 
 -- the last one was counted
+pub within-all : (setup : Setup) (part : List ℕ) (c0 c1 c2 : CountingSeen) (last : List ℕ) (b0 b1 : BatcherSeen) → Waits setup part c0 c1 last b0 b1
+    → ((before : List (List ℕ)) (stream : List ℕ) (b : BatcherSeen) → IsBehind setup before stream c1 last b → IsWithin setup before stream c2 b)
+    → (before : List (List ℕ)) (stream : List ℕ) → IsWithin setup before stream c0 b0 → IsWithin setup before (stream ++ part) c2 b1
+within-all setup part c0 c1 c2 last b0 b1 a counts before stream h = counts before (stream ++ part) b1 (a.within before stream h)
+
 pub feeds-all : (setup : Setup) (from to : ℕ) (v w : FilesView) (c0 c1 c2 : CountingSeen) (last : List ℕ) (b0 b1 : BatcherSeen)
     → FeedsBehind setup from to v w c0 c1 last b0 b1 → c2.start ≡ c1.start
     → ((before : List (List ℕ)) (stream : List ℕ) (b : BatcherSeen) → IsBehind setup before stream c1 last b → IsWithin setup before stream c2 b)
@@ -141,10 +162,10 @@ pub feeds-all : (setup : Setup) (from to : ℕ) (v w : FilesView) (c0 c1 c2 : Co
 feeds-all setup from to v w c0 c1 c2 last b0 b1 a start counts = record {
   part = a.part;
   read = a.read;
-  going = a.going;
-  fed = a.fed;
-  start = start ∙ a.start;
-  within = λ before stream h. counts before (stream ++ a.part) b1 (a.within before stream h);
+  going = a.waits.going;
+  fed = a.waits.fed;
+  start = start ∙ a.waits.start;
+  within = within-all setup a.part c0 c1 c2 last b0 b1 a.waits counts;
 }
 
 -- memory may be wanting before anything of a part is read, and once it is
@@ -180,7 +201,5 @@ module _ (setup : Setup) (text : List ℕ) (keep : Bool) (ended : ℕ) (c0 c1 c2
     counted = λ before h. (over before text (fed before [] (begins setup before c0 b0 holds h))).1;
   }
 
-  pub are-ended : HasCountedSome setup c0 → portions.AreEnded text ended
-  are-ended some =
-      let is = (over some.0 text (fed some.0 [] (begins setup some.0 c0 b0 holds some.1))).0 in
-      record { within = is.within; ended = is.ended; last = is.last }
+  pub are-ended : HasCountedSome setup c0 → AreEnded text ended
+  are-ended some = (over some.0 text (fed some.0 [] (begins setup some.0 c0 b0 holds some.1))).0

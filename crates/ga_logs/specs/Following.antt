@@ -2,8 +2,10 @@
 use Rattle.std.specs.Prelude.{◌≡◌, ◌⊎◌, ◌≢◌, ℕ, suc, ◌+◌, ◌-◌, ◌≤◌, if◌then◌else◌, true, false, List, [], ◌∷◌, length, take, min, Option, Some, None, IfSome}
 use Rattle.std.specs.List.{AllByRecursion}
 use Rattle.std.specs.Option.{unwrap_or}
+use Rattle.ga_base.specs.declared.limits.TheConstants.{FRONT}
 use Rattle.ga_base.specs.declared.entry.Entry.{Entry}
-use Rattle.ga_ports.specs.Counts.{raised, NoneDue}
+use Rattle.ga_base.specs.declared.limits.TheConstants.{FRONT}
+use Rattle.ga_counters.specs.Counts.{raised, NoneDue}
 use Rattle.ga_ports.specs.Files.{Contents, FilesView, told, is_absent}
 use Rattle.ga_resume.specs.Entries.{IsChoice}
 use Rattle.ga_resume.specs.declared.fault.PlaceFault.{PlaceFault}
@@ -15,8 +17,8 @@ use Rattle.ga_logs.specs.declared.portion.Portion.{Portion}
 
 -- a log of this size hands out so many bytes: no more than its front, and those from where an entry of it ends
 abbrev pub HandsOutAfterFront : List Entry → Option (List ℕ) → ℕ → ℕ → Type 0
-HandsOutAfterFront entries log size count = (count ≤ min size 4096) ⊎ ((from : ℕ) × (count ≤ min size 4096 + (size - from))
-    × IfSome log (λ log. (place : Option ℕ) × IsChoice entries (take 4096 log) size place from))
+HandsOutAfterFront entries log size count = (count ≤ min size FRONT) ⊎ ((from : ℕ) × (count ≤ min size FRONT + (size - from))
+    × IfSome log (λ log. (place : Option ℕ) × IsChoice entries (take FRONT log) size place from))
 
 -- a log that is read whole hands out no more than its bytes
 abbrev pub HandsOut : Follow → List Entry → Option (List ℕ) → ℕ → ℕ → Type 0

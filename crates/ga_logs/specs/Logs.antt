@@ -1,17 +1,14 @@
 -- What it is to count logs, and why they aren't counted.
-use Rattle.std.specs.Prelude.{◌≡◌, ℕ, ◌⊎◌, ⊤, Option, None, List}
+use Rattle.std.specs.Prelude.{ℕ, ◌⊎◌, ⊤, Option, List}
 use Rattle.ga_base.specs.declared.counts.Counter.{Counter}
-use Rattle.ga_base.specs.declared.counts.Totals.{Totals}
 use Rattle.ga_base.specs.declared.entry.Entry.{Entry}
 use Rattle.ga_ports.specs.Files.{FilesView}
-use Rattle.ga_resume.specs.declared.fault.PlaceFault.{PlaceFault}
 use Rattle.ga_resume.specs.declared.fault.PlaceFault.TheVariants.{FileFault, FileShort, NoMemory}
-use Rattle.ga_outcomes.specs.Counting.{Come, FillsAmong}
-use Rattle.ga_streams.specs.Counting.{AreInTotal}
-use Rattle.ga_summary.specs.Limits.{over}
-use Rattle.ga_summary.specs.Outcomes.{Outcome}
+use Rattle.ga_outcomes.specs.LineOutcomes.{FillsAmong}
+use Rattle.ga_logs.specs.Counting.{AreInTotal}
 use Rattle.ga_tallies.specs.Tallies.{TallySeen}
 use Rattle.ga_logs.specs.Following.{MissesAt, ReadsAll, ReadsSome}
+use Rattle.ga_logs.specs.Missing.{MissesLogs}
 use Rattle.ga_logs.specs.Portions.{counted_lines}
 use Rattle.ga_logs.specs.declared.fault.CountFault.{CountFault}
 use Rattle.ga_logs.specs.declared.fault.CountFault.TheVariants.{Failed as LogFailed, Short as LogShort, Full, NoMemory as CountNoMemory}
@@ -32,19 +29,6 @@ pub record FillsLogs (setup : Setup) (start : Start) (generated : Option ℕ) (n
   pub portions : List Portion
   pub read : ReadsSome start.follow names entries files files' portions
   pub fills : FillsAmong setup start.totals (counted_lines generated start.follow portions) which total
-
--- these lines fill no counter that began at these totals
-pub record LinesFit (setup : Setup) (start : Totals) (all : List (List ℕ)) : Type 0 where
-  pub outcomes : List Outcome
-  pub come : Come setup all outcomes
-  pub fits : over start outcomes ≡ None
-
--- the log at this place wasn't read; those before it were, and the generator's lines and theirs fill no counter
-pub record MissesLogs (setup : Setup) (start : Start) (generated : Option ℕ) (names : List (List ℕ)) (entries : List Entry)
-    (files files' : FilesView) (place : ℕ) (fault : PlaceFault) : Type 0 where
-  pub portions : List Portion
-  pub misses : MissesAt start.follow names entries place files files' portions fault
-  pub fits : LinesFit setup start.totals (counted_lines generated start.follow portions)
 
 -- why the logs weren't counted
 abbrev pub StopsLogs : Setup → Start → Option ℕ → List (List ℕ) → List Entry → FilesView → FilesView → CountFault → Type 0

@@ -1,9 +1,11 @@
 -- Which part of a log a run counts, by the entries that the runs before it left, and what becomes of these.
 use Rattle.std.specs.Prelude.{◌≡◌, ℕ, ◌+◌, ◌≤◌, Bool, true, false, List, [], length, take, drop, ◌++◌, Option, Some, None}
-use Rattle.std.specs.List.{Contains, flat_map}
+use Rattle.std.specs.List.{flat_map}
 use Rattle.ga_base.specs.declared.entry.Entry.{Entry}
 use Rattle.ga_generate.specs.Lines.{generated}
-use Rattle.ga_line.specs.Lines.{IsEnded, line_feed, lines}
+use Rattle.ga_line.specs.Lines.{lines}
+use Rattle.ga_base.specs.Lines.{AreEnded}
+use Rattle.ga_base.specs.declared.limits.TheConstants.{FRONT}
 use Rattle.ga_resume.specs.Entries.{IsAdvanced}
 use Rattle.ga_resume.specs.Segment.{IsSegment}
 use Rattle.ga_resume.specs.declared.segment.Segment.{Segment}
@@ -20,8 +22,8 @@ Begins ToLastLine entries segment = IsSegment entries segment
 -- by how many of its first bytes a log is known again
 abbrev pub front_of : Follow → List ℕ → List ℕ
 front_of Whole log = []
-front_of ToEnd log = take 4096 log
-front_of ToLastLine log = take 4096 log
+front_of ToEnd log = take FRONT log
+front_of ToLastLine log = take FRONT log
 
 -- the part of this log that a run reads
 pub record IsPortionOf (follow : Follow) (entries : List Entry) (log : List ℕ) (portion : Portion) : Type 0 where
@@ -29,12 +31,6 @@ pub record IsPortionOf (follow : Follow) (entries : List Entry) (log : List ℕ)
   pub front : portion.segment.front ≡ front_of follow log
   pub end : portion.segment.end ≡ length log
   pub bytes : portion.bytes ≡ drop portion.segment.from log
-
--- so many of the bytes are those of ended lines: they are none or end in a line feed, and none stands behind them
-pub record AreEnded (bytes : List ℕ) (count : ℕ) : Type 0 where
-  pub within : count ≤ length bytes
-  pub ended : IsEnded (take count bytes)
-  pub last : ¬ Contains (drop count bytes) line_feed
 
 -- up to which offset of its log a portion is counted
 abbrev pub IsCountedTo : Follow → Portion → ℕ → Type 0

@@ -2,9 +2,9 @@ ghost use Rattle.std.specs.Prelude.{◌≡◌};
 ghost use Rattle.ga_logs.specs.Steps.Logs.{fault_of_counting, fault_of_full, fault_of_log};
 ghost use Rattle.ga_logs.specs.declared.fault.CountFault.TheVariants.{NoMemory as WantsMemory};
 
+use crate::full::{CountingFault, Full};
 use ga_base::{Counter, NoMemory};
 use ga_resume::PlaceFault;
-use ga_streams::{CountingFault, Full};
 
 /// Why logs weren't counted.
 #[derive(Clone, Copy, Debug, PartialEq, Eq)]

@@ -1,14 +1,20 @@
 //! What holds of the logs of a run in general. Each function's contract is the law; what its body calls are the laws that it
 //! rests on.
 
-ghost use Rattle.std.specs.Prelude.{◌≡◌, ◌≢◌, ℕ, List, Option, None};
+ghost use Rattle.std.specs.Prelude.{◌≡◌, ◌≢◌, ℕ, Bool, List, Option, None};
 ghost use Rattle.ga_base.specs.declared.entry.Entry.{Entry};
 ghost use Rattle.ga_ports.specs.Files.{Contents, FilesView};
 ghost use Rattle.ga_logs.specs.Following.{AreSomeTold, AreTold, ReadsAll, ReadsSome};
 ghost use Rattle.ga_logs.specs.Portions.{Follows, IsPortionOf};
 ghost use Rattle.ga_logs.specs.declared.follow.Follow.{Follow as TheFollow};
 ghost use Rattle.ga_logs.specs.declared.portion.Portion.{Portion as ThePortion};
+ghost use Rattle.ga_batches.specs.Lines.{cut_lines};
+ghost use Rattle.ga_line.specs.Lines.{lines};
+ghost use Rattle.ga_outcomes.specs.LineOutcomes.{HaveOutcomes};
+ghost use Rattle.ga_outcomes.specs.declared.setup.Setup.{Setup as TheSetup};
+ghost use Rattle.ga_summary.specs.Outcomes.{Outcome};
 
+use ga_batches::laws::lines_are_cut_one_by_one;
 use ga_resume::laws::one_choice;
 
 /// A run reads one portion of a log.
@@ -41,3 +47,10 @@ pub fn read_as_told()
     ensures some { (follow : TheFollow) (names : List (List ℕ)) (old : List Entry) (files after : FilesView) (portions : List ThePortion)
         → ReadsSome follow names old files after portions → files.contents ≢ None → AreSomeTold follow files.contents names old portions }
 {}
+
+/// A text and the text with its lines as they are held have the same outcomes.
+pub fn held_lines_come_to_the_same()
+    ensures { (setup : TheSetup) (text : List ℕ) (keep : Bool) (outcomes : List Outcome) → HaveOutcomes setup (lines (cut_lines text) keep) outcomes → HaveOutcomes setup (lines text keep) outcomes }
+{
+    lines_are_cut_one_by_one();
+}

@@ -1,26 +1,26 @@
 ghost use Rattle.std.specs.Prelude.{◌≢◌, ◌+◌, ◌≤◌, ℕ, List, IfOk, IfErr, OnOk};
-ghost use Rattle.ga_ports.specs.Stretch.{FilesWent};
+ghost use Rattle.ga_ports.specs.Trace.{FilesTrace};
 ghost use Rattle.ga_resume.specs.declared.fault.PlaceFault.TheVariants.{FileFault};
-ghost use Rattle.ga_streams.specs.Counting.{AreWorkers};
-ghost use Rattle.ga_summary.specs.Limits.{LinesAdd};
-ghost use Rattle.ga_summary.specs.Sound.{TotalsFit};
+ghost use Rattle.ga_workers.specs.Workers.{AreWorkers};
+ghost use Rattle.ga_base.specs.Totals.{LinesAdd, TotalsFit};
 ghost use Rattle.ga_logs.specs.Following.{CanServe, CanServeOne};
 ghost use Rattle.ga_logs.specs.Logs.{CountsLogs, NoneFailed, StopsLogs};
-ghost use Rattle.ga_logs.specs.Portions.{AreEnded, Begins, Follows, generated_lines};
+ghost use Rattle.ga_logs.specs.Portions.{Begins, Follows, generated_lines};
+ghost use Rattle.ga_base.specs.Lines.{AreEnded};
 ghost use Rattle.ga_logs.specs.Steps.Logs.{CountsOneLog, StopsOneLog};
 ghost use Rattle.ga_logs.specs.Steps.Streaming.{Adds, HasCountedSome};
 
-use crate::reading::open_log;
-use crate::streaming::{count_part, count_text};
+use crate::counting::Counting;
+use crate::portion_reading::open_log;
+use crate::streaming::{Part, count_part, count_text};
 use crate::{CountFault, Follow, Start};
 use ga_base::{Entries, NoMemory, Text};
 use ga_generate::generate;
-use ga_outcomes::Setup;
 use ga_ports::laws::files_stay;
 use ga_ports::{Files, Gate};
 use ga_resume::{PlaceFault, Segment, advance};
-use ga_streams::{Counting, Workers};
 use ga_totals::Total;
+use ga_workers::Crew;
 use std::alloc::Global;
 use std::thread::Threads;
 
@@ -28,109 +28,79 @@ use std::thread::Threads;
 /// the other, each from where the start says. The entries go with them; after an `Err` they may only be dropped.
 /// Nothing that is answered depends on the workers or on the gate.
 pub fn count_logs<R: Threads + Sync, G: Gate, F: Files>(
-    rt: &R,
-    gate: &G,
-    alloc: Global,
-    setup: &Setup,
-    workers: Workers,
+    crew: &Crew<'_, R, G>,
     start: Start,
     generated: Option<u32>,
     names: &[Text],
     entries: &mut Entries,
     files: &mut F,
 ) -> Result<Total, CountFault>
-    requires workers { AreWorkers workers }
+    requires workers { AreWorkers crew.now.workers }
     requires fit { TotalsFit start.totals }
     requires lines { LinesAdd start.totals }
-    ensures ok { IfOk result (CountsLogs setup.now start generated names.now entries.old entries.new (F.view files.old) (F.view files.new)) }
-    ensures stops { IfErr result (StopsLogs setup.now start generated names.now entries.old (F.view files.old) (F.view files.new)) }
-    ensures calls { FilesWent (F.view files.old) (F.view files.new) }
+    ensures ok { IfOk result (CountsLogs crew.now.setup.now start generated names.now entries.old entries.new (F.view files.old) (F.view files.new)) }
+    ensures stops { IfErr result (StopsLogs crew.now.setup.now start generated names.now entries.old (F.view files.old) (F.view files.new)) }
+    ensures calls { FilesTrace (F.view files.old) (F.view files.new) }
     ensures sure { CanServe names.now (F.view files.old) → IfErr result NoneFailed }
 {
     files_stay();
-    let mut counting = Counting::new(alloc, workers, start.totals);
-    count_generated(rt, gate, alloc, setup, workers, generated, &mut counting)?;
+    let mut counting = Counting::new(crew.alloc, start.totals);
+    count_generated(crew, generated, &mut counting)?;
     for (place, name) in names.iter().enumerate() {
         // No log is read once a counter is full.
         if let Some(full) = counting.full() {
             return Err(CountFault::from(full));
         }
-        match count_one(
-            rt,
-            gate,
-            alloc,
-            setup,
-            workers,
-            start.follow,
-            name,
-            entries,
-            files,
-            &mut counting,
-        ) {
+        match count_one(crew, start.follow, name, entries, files, &mut counting) {
             Ok(()) => {}
             Err(fault) => return Err(CountFault::of_log(place as u64, fault)),
         }
     }
-    let total = counting.into_total(rt)?;
+    let total = counting.into_total(crew)?;
     Ok(total)
 }
 
 /// Counts the generator's lines, where so many are asked for.
 fn count_generated<R: Threads + Sync, G: Gate>(
-    rt: &R,
-    gate: &G,
-    alloc: Global,
-    setup: &Setup,
-    workers: Workers,
+    crew: &Crew<'_, R, G>,
     generated: Option<u32>,
     counting: &mut Counting,
 ) -> Result<(), NoMemory>
-    requires { AreWorkers workers }
-    ensures { OnOk result (Adds setup.now (generated_lines generated) counting.old counting.new) }
+    requires { AreWorkers crew.now.workers }
+    ensures { OnOk result (Adds crew.now.setup.now (generated_lines generated) counting.old counting.new) }
 {
     let Some(n) = generated else {
         return Ok(());
     };
-    let log = generate(alloc, n)?;
-    count_text(rt, gate, alloc, setup, workers, log.bytes(), counting)
+    let log = generate(crew.alloc, n)?;
+    count_text(crew, log.bytes(), counting)
 }
 
 /// Reads the part of a log that wasn't counted yet, counts its lines and moves the entries on.
 fn count_one<R: Threads + Sync, G: Gate, F: Files>(
-    rt: &R,
-    gate: &G,
-    alloc: Global,
-    setup: &Setup,
-    workers: Workers,
+    crew: &Crew<'_, R, G>,
     follow: Follow,
     name: &Text,
     entries: &mut Entries,
     files: &mut F,
     counting: &mut Counting,
 ) -> Result<(), PlaceFault>
-    requires workers { AreWorkers workers }
-    requires counted { HasCountedSome setup.now counting.old }
-    ensures ok { OnOk result (CountsOneLog setup.now follow name.now entries.old entries.new (F.view files.old) (F.view files.new) counting.old counting.new) }
+    requires workers { AreWorkers crew.now.workers }
+    requires counted { HasCountedSome crew.now.setup.now counting.old }
+    ensures ok { OnOk result (CountsOneLog crew.now.setup.now follow name.now entries.old entries.new (F.view files.old) (F.view files.new) counting.old counting.new) }
     ensures stops { IfErr result (StopsOneLog follow entries.old name.now (F.view files.old) (F.view files.new)) }
-    ensures calls { FilesWent (F.view files.old) (F.view files.new) }
+    ensures calls { FilesTrace (F.view files.old) (F.view files.new) }
     ensures sure { CanServeOne name.now (F.view files.old) → IfErr result (λ fault. fault ≢ FileFault) }
 {
     // What is known of calls of the files, for the proof alone: the call does nothing.
     files_stay();
-    let segment = open_log(alloc, follow, entries.items(), name, files)?;
-    let ended = count_part(
-        rt,
-        gate,
-        alloc,
-        setup,
-        workers,
-        segment.from,
-        segment.end,
-        follow.keeps(),
-        files,
-        counting,
-    )?;
-    follow_log(alloc, follow, &segment, ended, entries)?;
+    let segment = open_log(crew.alloc, follow, entries, name, files)?;
+    let part = Part {
+        from: segment.from,
+        to: segment.end,
+    };
+    let ended = count_part(crew, part, follow.keeps(), files, counting)?;
+    follow_log(crew.alloc, follow, &segment, ended, entries)?;
     Ok(())
 }
 

@@ -1,86 +1,129 @@
-ghost use Rattle.std.specs.Prelude.{◌≡◌, ◌≢◌, ◌-◌, ◌+◌, ◌<◌, ◌≤◌, ◌^◌, [], true, false, IfOk, IfErr, IfSome, IsSome, IsTrue, OnOk, length};
+ghost use Rattle.std.specs.Prelude.{◌≡◌, ◌≢◌, ◌-◌, ◌+◌, ◌<◌, ◌≤◌, ◌++◌, ◌^◌, ℕ, List, [], true, false, IfOk, IfErr, IfSome, IsSome, IsTrue, OnOk, length};
+ghost use Rattle.ga_base.specs.declared.limits.TheConstants.{MAX_BATCH};
 ghost use Rattle.ga_batches.specs.Batches.{Holds, held};
 ghost use Rattle.ga_line.specs.Lines.{lines};
-ghost use Rattle.ga_ports.specs.Counts.{NoneDue};
-ghost use Rattle.ga_ports.specs.Stretch.{FilesWent};
-ghost use Rattle.ga_resume.specs.Reading.{StopsWithin};
+ghost use Rattle.ga_logs.specs.Steps.Streaming.{Adds, CanFeed, CanFill, CountsPart, CountsTaken, FeedsFront, FeedsPart, FillsBehind, FillsOrStops, FillsPart, HasCountedSome};
+ghost use Rattle.ga_logs.specs.Streams.{IsWithin};
+ghost use Rattle.ga_counters.specs.Counts.{NoneDue};
+ghost use Rattle.ga_ports.specs.Trace.{FilesTrace};
+ghost use Rattle.ga_resume.specs.ReadPart.{StopsWithin};
 ghost use Rattle.ga_resume.specs.declared.fault.PlaceFault.TheVariants.{FileFault};
-ghost use Rattle.ga_streams.specs.Counting.{AreWorkers};
-ghost use Rattle.ga_logs.specs.Steps.Streaming.{Adds, CanFill, CountsPart, CountsTaken, FeedsPart, FillsBehind, FillsOrStops, FillsPart, HasCountedSome};
+ghost use Rattle.ga_workers.specs.Workers.{AreWorkers};
 
+use crate::counting::Counting;
+use crate::streams::{count_taken, end};
 use ga_base::NoMemory;
 use ga_batches::Batcher;
-use ga_outcomes::Setup;
 use ga_ports::laws::files_stay;
 use ga_ports::{Files, Gate};
 use ga_resume::{PlaceFault, read_slice, slice_buffer};
-use ga_streams::{Counting, Workers, count_taken, end, feed};
+use ga_workers::{Crew, Workers};
 use std::alloc::Global;
 use std::thread::Threads;
 
 /// How many bytes a batch has for each worker.
 const JOB: u64 = 1_048_576;
 
+/// A part of the open file.
+#[derive(Clone, Copy)]
+pub(crate) struct Part {
+    /// Where it begins.
+    pub(crate) from: u64,
+    /// Where it ends: at the size that the log answered.
+    pub(crate) to: u64,
+}
+
 /// Counts the lines of a text, the last also where no line feed ends it.
 pub(crate) fn count_text<R: Threads + Sync, G: Gate>(
-    rt: &R,
-    gate: &G,
-    alloc: Global,
-    setup: &Setup,
-    workers: Workers,
+    crew: &Crew<'_, R, G>,
     text: &[u8],
     counting: &mut Counting,
 ) -> Result<(), NoMemory>
-    requires { AreWorkers workers }
-    ensures { OnOk result (Adds setup.now (lines text.now true) counting.old counting.new) }
+    requires { AreWorkers crew.now.workers }
+    ensures { OnOk result (Adds crew.now.setup.now (lines text.now true) counting.old counting.new) }
 {
-    let mut batcher = batcher_for(alloc, workers)?;
-    feed(rt, gate, setup, counting, &mut batcher, text)?;
-    end(rt, gate, setup, counting, &mut batcher, true)?;
+    let mut batcher = batcher_for(crew.alloc, crew.workers)?;
+    feed_text(crew, text, counting, &mut batcher)?;
+    end(crew, text.len() as u64, counting, &mut batcher, true)?;
     Ok(())
 }
 
-/// Reads the open file from one place to another, within the size last answered, and counts the lines of this part: what
-/// follows the last line feed is one where `keep`. It answers how many bytes of the part are those of ended lines.
+/// Feeds a text to a batcher, and counts each batch but the last while the next is fed.
+fn feed_text<R: Threads + Sync, G: Gate>(
+    crew: &Crew<'_, R, G>,
+    text: &[u8],
+    counting: &mut Counting,
+    batcher: &mut Batcher,
+) -> Result<(), NoMemory>
+    requires workers { AreWorkers crew.now.workers }
+    requires going { batcher.old.is_over ≡ false }
+    requires fed { batcher.old.fed ≡ 0 }
+    requires room { length (held batcher.old) < batcher.old.limit }
+    ensures going { OnOk result (batcher.new.is_over ≡ false) }
+    ensures start { OnOk result (counting.new.start ≡ counting.old.start) }
+    ensures within { OnOk result ((before : List (List ℕ)) (stream : List ℕ) → IsWithin crew.now.setup.now before stream counting.old batcher.old
+        → IsWithin crew.now.setup.now before (stream ++ text.now) counting.new batcher.new) }
+{
+    let size = text.len() as u64;
+    let mut taken = Vec::new(crew.alloc);
+    let mut at = 0;
+    while at < text.len() {
+        let (counted, fed) = feed_and_count(crew, size, &text[at..], counting, &taken, batcher);
+        counted?;
+        at += fed as usize;
+        batcher.take_into(&mut taken)?;
+    }
+    let (counted, ()) = count_taken(crew, size, counting, &taken, &mut || {});
+    counted
+}
+
+/// Counts a batch and feeds bytes of a text from its front beside it, as many as the batcher has room for. It answers how many.
+fn feed_and_count<R: Threads + Sync, G: Gate>(
+    crew: &Crew<'_, R, G>,
+    size: u64,
+    text: &[u8],
+    counting: &mut Counting,
+    taken: &[u8],
+    batcher: &mut Batcher,
+) -> (Result<(), NoMemory>, u64)
+    requires workers { AreWorkers crew.now.workers }
+    requires can_feed { CanFeed text.now batcher.old }
+    requires small { length taken.now ≤ MAX_BATCH }
+    ensures counts { OnOk result.0 (CountsTaken crew.now.setup.now taken.now counting.old counting.new) }
+    ensures feeds { FeedsFront result.1 text.now batcher.old batcher.new }
+{
+    let mut feed = || -> u64
+        requires { CanFeed text.now batcher.now }
+        ensures { FeedsFront result text.entry.now batcher.entry.now batcher.exit.now }
+    { batcher.feed(text) };
+    count_taken(crew, size, counting, taken, &mut feed)
+}
+
+/// Reads a part of the open file, within the size last answered, and counts its lines: what follows the last line feed is one
+/// where `keep`. It answers how many bytes of the part are those of ended lines.
 pub(crate) fn count_part<R: Threads + Sync, G: Gate, F: Files>(
-    rt: &R,
-    gate: &G,
-    alloc: Global,
-    setup: &Setup,
-    workers: Workers,
-    from: u64,
-    to: u64,
+    crew: &Crew<'_, R, G>,
+    part: Part,
     keep: bool,
     files: &mut F,
     counting: &mut Counting,
 ) -> Result<u64, PlaceFault>
-    requires workers { AreWorkers workers }
+    requires workers { AreWorkers crew.now.workers }
     requires is_open { IsTrue (F.view files.old).is_open }
-    requires order { from ≤ to }
+    requires order { part.from ≤ part.to }
     requires measured { IsSome (F.view files.old).measured }
-    requires within { IfSome (F.view files.old).measured (λ size. to ≤ size) }
-    requires told { IfSome (F.view files.old).bytes (λ bytes. to ≤ length bytes) }
-    requires counted { HasCountedSome setup.now counting.old }
-    ensures ok { IfOk result (CountsPart setup.now from to keep (F.view files.old) (F.view files.new) counting.old counting.new) }
-    ensures failed { IfErr result (λ fault. StopsWithin (to - from) (F.view files.old) (F.view files.new) fault) }
-    ensures calls { FilesWent (F.view files.old) (F.view files.new) }
+    requires within { IfSome (F.view files.old).measured (λ size. part.to ≤ size) }
+    requires told { IfSome (F.view files.old).bytes (λ bytes. part.to ≤ length bytes) }
+    requires counted { HasCountedSome crew.now.setup.now counting.old }
+    ensures ok { IfOk result (CountsPart crew.now.setup.now part.from part.to keep (F.view files.old) (F.view files.new) counting.old counting.new) }
+    ensures failed { IfErr result (λ fault. StopsWithin (part.to - part.from) (F.view files.old) (F.view files.new) fault) }
+    ensures calls { FilesTrace (F.view files.old) (F.view files.new) }
     ensures sure { NoneDue (F.view files.old).listed (F.view files.old).counts.calls → IfErr result (λ fault. fault ≢ FileFault) }
 {
-    let mut buffer = slice_buffer(alloc)?;
-    let mut batcher = batcher_for(alloc, workers)?;
-    feed_part(
-        rt,
-        gate,
-        alloc,
-        setup,
-        from,
-        to,
-        &mut buffer,
-        files,
-        counting,
-        &mut batcher,
-    )?;
-    let ended = end(rt, gate, setup, counting, &mut batcher, keep)?;
+    let mut buffer = slice_buffer(crew.alloc)?;
+    let mut batcher = batcher_for(crew.alloc, crew.workers)?;
+    feed_part(crew, part, &mut buffer, files, counting, &mut batcher)?;
+    let ended = end(crew, part.to, counting, &mut batcher, keep)?;
     Ok(ended)
 }
 
@@ -97,42 +140,38 @@ fn batcher_for(alloc: Global, workers: Workers) -> Result<Batcher, NoMemory>
 
 /// Feeds a part of the open file to a batcher, and counts each batch but the last while the next is read.
 fn feed_part<R: Threads + Sync, G: Gate, F: Files>(
-    rt: &R,
-    gate: &G,
-    alloc: Global,
-    setup: &Setup,
-    from: u64,
-    to: u64,
+    crew: &Crew<'_, R, G>,
+    part: Part,
     buffer: &mut [u8],
     files: &mut F,
     counting: &mut Counting,
     batcher: &mut Batcher,
 ) -> Result<(), PlaceFault>
+    requires workers { AreWorkers crew.now.workers }
     requires is_open { IsTrue (F.view files.old).is_open }
-    requires order { from ≤ to }
+    requires order { part.from ≤ part.to }
     requires measured { IsSome (F.view files.old).measured }
-    requires within { IfSome (F.view files.old).measured (λ size. to ≤ size) }
-    requires told { IfSome (F.view files.old).bytes (λ bytes. to ≤ length bytes) }
+    requires within { IfSome (F.view files.old).measured (λ size. part.to ≤ size) }
+    requires told { IfSome (F.view files.old).bytes (λ bytes. part.to ≤ length bytes) }
     requires some { 0 < length buffer.old }
     requires going { batcher.old.is_over ≡ false }
     requires fed { batcher.old.fed ≡ 0 }
     requires room { length (held batcher.old) < batcher.old.limit }
-    ensures ok { OnOk result (FeedsPart setup.now from to (F.view files.old) (F.view files.new) counting.old counting.new batcher.old batcher.new) }
-    ensures failed { IfErr result (λ fault. StopsWithin (to - from) (F.view files.old) (F.view files.new) fault) }
-    ensures calls { FilesWent (F.view files.old) (F.view files.new) }
+    ensures ok { OnOk result (FeedsPart crew.now.setup.now part.from part.to (F.view files.old) (F.view files.new) counting.old counting.new batcher.old batcher.new) }
+    ensures failed { IfErr result (λ fault. StopsWithin (part.to - part.from) (F.view files.old) (F.view files.new) fault) }
+    ensures calls { FilesTrace (F.view files.old) (F.view files.new) }
     ensures sure { NoneDue (F.view files.old).listed (F.view files.old).counts.calls → IfErr result (λ fault. fault ≢ FileFault) }
 {
     // That the number of calls doesn't fall, for the proof alone.
     files_stay();
-    let mut taken = Vec::new(alloc);
-    let mut at = from;
-    while at < to {
-        at = fill_and_count(
-            rt, gate, setup, at, to, buffer, files, counting, &taken, batcher,
-        )?;
+    let mut taken = Vec::new(crew.alloc);
+    let mut at = part.from;
+    while at < part.to {
+        let rest = Part { from: at, ..part };
+        at = fill_and_count(crew, rest, buffer, files, counting, &taken, batcher)?;
         batcher.take_into(&mut taken)?;
     }
-    let (counted, ()) = count_taken(rt, gate, setup, counting, &taken, &mut || {});
+    let (counted, ()) = count_taken(crew, part.to, counting, &taken, &mut || {});
     counted?;
     Ok(())
 }
@@ -140,77 +179,70 @@ fn feed_part<R: Threads + Sync, G: Gate, F: Files>(
 /// Fills the batcher from the open file, and counts the batch that was taken before. It answers up to where the file was
 /// read.
 fn fill_and_count<R: Threads + Sync, G: Gate, F: Files>(
-    rt: &R,
-    gate: &G,
-    setup: &Setup,
-    from: u64,
-    to: u64,
+    crew: &Crew<'_, R, G>,
+    part: Part,
     buffer: &mut [u8],
     files: &mut F,
     counting: &mut Counting,
     taken: &[u8],
     batcher: &mut Batcher,
 ) -> Result<u64, PlaceFault>
-    requires can_fill { CanFill from to buffer.old (F.view files.old) batcher.old }
-    requires small { length taken.now ≤ 2 ^ 24 }
-    ensures ok { IfOk result (λ end. FillsBehind setup.now from to end (F.view files.old) (F.view files.new) counting.old counting.new taken.now batcher.old batcher.new) }
-    ensures failed { IfErr result (λ fault. StopsWithin (to - from) (F.view files.old) (F.view files.new) fault) }
-    ensures calls { FilesWent (F.view files.old) (F.view files.new) }
+    requires workers { AreWorkers crew.now.workers }
+    requires can_fill { CanFill part.from part.to buffer.old (F.view files.old) batcher.old }
+    requires small { length taken.now ≤ MAX_BATCH }
+    ensures ok { IfOk result (λ end. FillsBehind crew.now.setup.now part.from part.to end (F.view files.old) (F.view files.new) counting.old counting.new taken.now batcher.old batcher.new) }
+    ensures failed { IfErr result (λ fault. StopsWithin (part.to - part.from) (F.view files.old) (F.view files.new) fault) }
+    ensures calls { FilesTrace (F.view files.old) (F.view files.new) }
     ensures sure { NoneDue (F.view files.old).listed (F.view files.old).counts.calls → IfErr result (λ fault. fault ≢ FileFault) }
 {
-    let (counted, end) = side_by_side(
-        rt, gate, setup, from, to, buffer, files, counting, taken, batcher,
-    );
+    let (counted, end) = side_by_side(crew, part, buffer, files, counting, taken, batcher);
     let end = end?;
     counted?;
     Ok(end)
 }
 
-/// Counts a batch and fills the batcher beside it: this thread, which is one of the workers, fills it before it counts.
+/// Counts a batch and meanwhile fills the batcher: this thread, which is one of the workers, fills it before it counts.
 fn side_by_side<R: Threads + Sync, G: Gate, F: Files>(
-    rt: &R,
-    gate: &G,
-    setup: &Setup,
-    from: u64,
-    to: u64,
+    crew: &Crew<'_, R, G>,
+    part: Part,
     buffer: &mut [u8],
     files: &mut F,
     counting: &mut Counting,
     taken: &[u8],
     batcher: &mut Batcher,
 ) -> (Result<(), NoMemory>, Result<u64, PlaceFault>)
-    requires can_fill { CanFill from to buffer.old (F.view files.old) batcher.old }
-    requires small { length taken.now ≤ 2 ^ 24 }
-    ensures counts { OnOk result.0 (CountsTaken setup.now taken.now counting.old counting.new) }
-    ensures fills { FillsOrStops from to (F.view files.old) (F.view files.new) batcher.old batcher.new result.1 }
+    requires workers { AreWorkers crew.now.workers }
+    requires can_fill { CanFill part.from part.to buffer.old (F.view files.old) batcher.old }
+    requires small { length taken.now ≤ MAX_BATCH }
+    ensures counts { OnOk result.0 (CountsTaken crew.now.setup.now taken.now counting.old counting.new) }
+    ensures fills { FillsOrStops part.from part.to (F.view files.old) (F.view files.new) batcher.old batcher.new result.1 }
 {
     let is_alone = taken.is_empty();
     let mut read = || -> Result<u64, PlaceFault>
-        requires { CanFill from to buffer.now (F.view files.now) batcher.now }
-        ensures { FillsOrStops from to (F.view files.entry.now) (F.view files.exit.now) batcher.entry.now batcher.exit.now result }
-    { fill(from, to, is_alone, buffer, files, batcher) };
-    count_taken(rt, gate, setup, counting, taken, &mut read)
+        requires { CanFill part.from part.to buffer.now (F.view files.now) batcher.now }
+        ensures { FillsOrStops part.from part.to (F.view files.entry.now) (F.view files.exit.now) batcher.entry.now batcher.exit.now result }
+    { fill(part, is_alone, buffer, files, batcher) };
+    count_taken(crew, part.to, counting, taken, &mut read)
 }
 
 /// Reads the open file from one place on, until the batcher is full or up to another place, by slices of at most the
 /// buffer's length. Where it is alone, as no batch is counted meanwhile, it reads as much as one job takes, so that the
 /// workers begin soon. It answers up to where it read: behind the first place, where the batcher has room.
 fn fill<F: Files>(
-    from: u64,
-    to: u64,
+    part: Part,
     is_alone: bool,
     buffer: &mut [u8],
     files: &mut F,
     batcher: &mut Batcher,
 ) -> Result<u64, PlaceFault>
-    requires { CanFill from to buffer.old (F.view files.old) batcher.old }
-    ensures { FillsOrStops from to (F.view files.old) (F.view files.new) batcher.old batcher.new result }
+    requires { CanFill part.from part.to buffer.old (F.view files.old) batcher.old }
+    ensures { FillsOrStops part.from part.to (F.view files.old) (F.view files.new) batcher.old batcher.new result }
 {
     // That the number of calls doesn't fall, for the proof alone.
     files_stay();
-    let mut at = from;
-    while at < to && batcher.room() > 0 && !(is_alone && at - from >= JOB) {
-        at += fill_slice(at, to, buffer, files, batcher)? as u64;
+    let mut at = part.from;
+    while at < part.to && batcher.room() > 0 && !(is_alone && at - part.from >= JOB) {
+        at += fill_slice(at, part.to, buffer, files, batcher)? as u64;
     }
     Ok(at)
 }
@@ -237,7 +269,7 @@ fn fill_slice<F: Files>(
     ensures within { IfOk result (λ count. at + count ≤ to) }
     ensures ok { IfOk result (λ count. FillsPart at (at + count) (F.view files.old) (F.view files.new) batcher.old batcher.new) }
     ensures failed { IfErr result (λ fault. StopsWithin (to - at) (F.view files.old) (F.view files.new) fault) }
-    ensures calls { FilesWent (F.view files.old) (F.view files.new) }
+    ensures calls { FilesTrace (F.view files.old) (F.view files.new) }
     ensures sure { NoneDue (F.view files.old).listed (F.view files.old).counts.calls → IfErr result (λ fault. fault ≢ FileFault) }
 {
     let room = (to - at).min(batcher.room()).min(buffer.len() as u64) as usize;

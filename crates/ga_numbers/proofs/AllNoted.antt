@@ -13,7 +13,7 @@ use Rattle.std.proofs.lemmas.Option.{slice_get-get_or, slice_get_within}
 use Rattle.ga_shards.specs.Numbers.{noted, place_of}
 use Rattle.ga_shards.specs.Steps.{all_noted}
 use Rattle.ga_shards.proofs.Noting.{first-within}
-use Rattle.ga_numbers.specs.Numbers.{places_of}
+use Rattle.ga_numbers.specs.NotedNumbers.{places_of}
 use Rattle.ga_numbers.proofs.Noted.{any-noted, kept, noted-cases, or-false, place-absent, place-cases}
 
 or-associates : (a b c : Bool) → ((a || b) || c) ≡ (a || (b || c))

@@ -4,7 +4,7 @@ use Rattle.std.specs.Prelude.{slice_get}
 use Rattle.std.specs.List.{All, flat_map}
 use Rattle.std.proofs.lemmas.List.Elements.{All-head, All-tail}
 use Rattle.std.proofs.lemmas.Option.{get_or_from_slice_get, slice_get_within}
-use Rattle.ga_numbers.specs.Numbers.{AreNoted, AreNotedInTurn, all_in_turn, numbers_in_turn, places_of}
+use Rattle.ga_numbers.specs.NotedNumbers.{AreNoted, AreNotedInTurn, all_in_turn, numbers_in_turn, places_of}
 use Rattle.ga_numbers.proofs.AllNoted.{has-number, keeps-place, placed, places-long}
 use Rattle.ga_shards.specs.Numbers.{noted}
 use Rattle.ga_shards.specs.Steps.{all_noted}

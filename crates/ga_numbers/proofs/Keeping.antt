@@ -13,14 +13,14 @@ use Rattle.std.proofs.Math.Seq.{get_or-append_seam}
 use Rattle.ga_shards.specs.Numbers.{item_of}
 use Rattle.ga_shards.specs.Steps.{all_noted}
 use Rattle.ga_shards.proofs.Noting.{from-all, stays-distinct}
-use Rattle.ga_numbers.specs.Kept.{AreKept, AreNamed, AreShards, Grows, IsRowAt, StandsAt, no_row, row_at, rows_in}
-use Rattle.ga_numbers.specs.Numbers.{IsNumbered}
-use Rattle.ga_numbers.specs.Rows.{is_same_row, shard_at}
+use Rattle.ga_numbers.specs.Steps.Kept.{AreKept, AreNamed, AreShards, Grows, IsRowAt, StandsAt, no_row, row_at, rows_in}
+use Rattle.ga_numbers.specs.NotedNumbers.{IsNumbered}
+use Rattle.ga_numbers.specs.Steps.ShardRows.{is_same_row, shard_at}
 use Rattle.ga_numbers.specs.declared.place.Place.{Place}
-use Rattle.ga_numbers.specs.declared.row.Row.{Row}
+use Rattle.ga_numbers.specs.declared.shard_row.ShardRow.{ShardRow}
 use Rattle.ga_numbers.proofs.AllNoted.{keeps-place}
-use Rattle.ga_numbers.proofs.Framed.{get-mapped}
-use Rattle.ga_numbers.proofs.Framing.{place-told}
+use Rattle.ga_numbers.proofs.Prefixed.{get-mapped}
+use Rattle.ga_numbers.proofs.Prefixing.{place-told}
 use Rattle.ga_numbers.proofs.Noted.{place-absent}
 use Rattle.ga_numbers.proofs.NotedSo.{stands-so}
 use Rattle.ga_numbers.proofs.Same.{row-laws, same-row}
@@ -29,26 +29,26 @@ place-made : (p q : Place) → p.shard ≡ q.shard → p.local ≡ q.local → p
 place-made p q shard local = λ i. record { shard = shard i; local = local i }
 
 -- what stands at a place is the row there
-pub row-there : (shards : List (List Row)) (p : Place) → IsRowAt shards p → StandsAt shards p (row_at shards p)
+pub row-there : (shards : List (List ShardRow)) (p : Place) → IsRowAt shards p → StandsAt shards p (row_at shards p)
 row-there shards p within = slice_get-get_or (get_or shards p.shard []) p.local no_row within
 
-pub row-is : (shards : List (List Row)) (p : Place) (row : Row) → StandsAt shards p row → row_at shards p ≡ row
+pub row-is : (shards : List (List ShardRow)) (p : Place) (row : ShardRow) → StandsAt shards p row → row_at shards p ≡ row
 row-is shards p row stands = get_or_from_slice_get (get_or shards p.shard []) p.local row no_row stands
 
-pub is-there : (shards : List (List Row)) (p : Place) (row : Row) → StandsAt shards p row → IsRowAt shards p
+pub is-there : (shards : List (List ShardRow)) (p : Place) (row : ShardRow) → StandsAt shards p row → IsRowAt shards p
 is-there shards p row stands = slice_get_within (get_or shards p.shard []) p.local row stands
 
 -- a list as its elements
 at-of : {T : Type 0} (xs : List T) (n : ℕ) (d : T) → n < length xs → slice_get xs n ≡ Some (get_or xs n d)
 at-of xs n d within = slice_get-get_or xs n d within
 
-module _ (shards : List (List Row)) (are : AreShards shards) where
+module _ (shards : List (List ShardRow)) (are : AreShards shards) where
   -- a row has one place
   pub one-place : (p q : Place) → IsRowAt shards p → IsRowAt shards q → row_at shards p ≡ row_at shards q → p ≡ q
   one-place p q in-p in-q same = place-made p q shard local
     where
       shard : p.shard ≡ q.shard
-      shard = sym (are.own p.shard p.local no_row in-p) ∙ ap (λ (r : Row). shard_at r) same ∙ are.own q.shard q.local no_row in-q
+      shard = sym (are.own p.shard p.local no_row in-p) ∙ ap (λ (r : ShardRow). shard_at r) same ∙ are.own q.shard q.local no_row in-q
 
       in-p-too : p.local < length (get_or shards q.shard [])
       in-p-too = subst (λ s. p.local < length (get_or shards s [])) shard in-p
@@ -58,15 +58,15 @@ module _ (shards : List (List Row)) (are : AreShards shards) where
           place-told is_same_row row-laws (get_or shards q.shard []) (are.different q.shard) p.local q.local no_row in-p-too in-q
           (ap (λ s. get_or (get_or shards s []) p.local no_row) (sym shard) ∙ same)
 
-module _ (shards : List (List Row)) (numbers : List (List ℕ)) (places : List Place) (are : AreShards shards) (named : AreNamed shards numbers places) where
+module _ (shards : List (List ShardRow)) (numbers : List (List ℕ)) (places : List Place) (are : AreShards shards) (named : AreNamed shards numbers places) where
   -- rows with numbers
-  listed : List Row
+  listed : List ShardRow
   listed = rows_in shards places
 
   no_place : Place
   no_place = record { shard = 0; local = 0 }
 
-  listed-at : (n : ℕ) (d : Row) → n < length (rows_in shards places) → (p : Place) × (slice_get places n ≡ Some p) × IsRowAt shards p × (get_or (rows_in shards places) n d ≡ row_at shards p)
+  listed-at : (n : ℕ) (d : ShardRow) → n < length (rows_in shards places) → (p : Place) × (slice_get places n ≡ Some p) × IsRowAt shards p × (get_or (rows_in shards places) n d ≡ row_at shards p)
   listed-at n d within =
       let inside : n < length places = omega (arith, within, length-map places (row_at shards)) in
       let p = get_or places n no_place in
@@ -94,12 +94,12 @@ module _ (shards : List (List Row)) (numbers : List (List ℕ)) (places : List P
       (cases_Bool (is_same_row (get_or (rows_in shards places) i d) (get_or (rows_in shards places) j d))))
 
   -- a row that has a number is noted
-  pub known-row : (p : Place) (row : Row) (n : ℕ) → StandsAt shards p row → slice_get places n ≡ Some p → IsNumbered is_same_row row n (rows_in shards places) (rows_in shards places)
+  pub known-row : (p : Place) (row : ShardRow) (n : ℕ) → StandsAt shards p row → slice_get places n ≡ Some p → IsNumbered is_same_row row n (rows_in shards places) (rows_in shards places)
   known-row p row n stands at =
       stands-so is_same_row row-laws row n (rows_in shards places) different-rows (get-mapped (row_at shards) places n p at ∙ ap Some (row-is shards p row stands))
 
   -- a row at a place that no number has isn't there
-  absent-row : (p : Place) (row : Row) → StandsAt shards p row → ((n : ℕ) → slice_get places n ≡ Some p → ⊥) → list_any (is_same_row row) (rows_in shards places) ≡ false
+  absent-row : (p : Place) (row : ShardRow) → StandsAt shards p row → ((n : ℕ) → slice_get places n ≡ Some p → ⊥) → list_any (is_same_row row) (rows_in shards places) ≡ false
   absent-row p row stands none =
       ⊎_elim
       (λ any.
@@ -114,7 +114,7 @@ module _ (shards : List (List Row)) (numbers : List (List ℕ)) (places : List P
       (cases_Bool (list_any (is_same_row row) (rows_in shards places)))
 
   -- and is noted behind the others
-  pub next-row : (p : Place) (row : Row) → StandsAt shards p row → ((n : ℕ) → slice_get places n ≡ Some p → ⊥)
+  pub next-row : (p : Place) (row : ShardRow) → StandsAt shards p row → ((n : ℕ) → slice_get places n ≡ Some p → ⊥)
       → IsNumbered is_same_row row (length places) (rows_in shards places) (rows_in shards (places ++ p ∷ []))
   next-row p row stands none = record {
     place = sym (place-absent is_same_row (rows_in shards places) row absent ∙ length-map places (row_at shards));
@@ -129,19 +129,19 @@ module _ (shards : List (List Row)) (numbers : List (List ℕ)) (places : List P
       absent = absent-row p row stands none
 
       pushed : rows_in shards (places ++ p ∷ []) ≡ rows_in shards places ++ row ∷ []
-      pushed = map_push (row_at shards) places p ∙ ap (λ (r : Row). rows_in shards places ++ r ∷ []) (row-is shards p row stands)
+      pushed = map_push (row_at shards) places p ∙ ap (λ (r : ShardRow). rows_in shards places ++ r ∷ []) (row-is shards p row stands)
 
   -- names stand where shards grow
-  pub grown-named : (new : List (List Row)) → Grows shards new → AreNamed new numbers places
-  grown-named new grows = record {
+  pub extended-named : (new : List (List ShardRow)) → Grows shards new → AreNamed new numbers places
+  extended-named new grows = record {
     many = named.many ∙ sym grows.many;
     few = named.few;
     rows = λ n p at. is-there new p (row_at shards p) (grows.kept p.shard p.local (row_at shards p) (row-there shards p (named.rows n p at)));
     known = named.known;
   }
 
-  pub grown-rows : (new : List (List Row)) → Grows shards new → rows_in new places ≡ rows_in shards places
-  grown-rows new grows = go places named.rows
+  pub extended-rows : (new : List (List ShardRow)) → Grows shards new → rows_in new places ≡ rows_in shards places
+  extended-rows new grows = go places named.rows
     where
       go : (ps : List Place) → ((n : ℕ) (p : Place) → slice_get ps n ≡ Some p → IsRowAt shards p) → rows_in new ps ≡ rows_in shards ps
       go [] rows = refl
@@ -159,7 +159,7 @@ module _ (shards : List (List Row)) (numbers : List (List ℕ)) (places : List P
   }
 
   -- the next number is set for a row that has none
-  pub next-named : (p : Place) (row : Row) (new : List (List ℕ)) → StandsAt shards p row → ((n : ℕ) → slice_get places n ≡ Some p → ⊥) → length new ≡ length numbers → length places + 1 < 2 ^ 32
+  pub next-named : (p : Place) (row : ShardRow) (new : List (List ℕ)) → StandsAt shards p row → ((n : ℕ) → slice_get places n ≡ Some p → ⊥) → length new ≡ length numbers → length places + 1 < 2 ^ 32
       → item_of new p.shard p.local ≡ Some (length places) → ((s l n : ℕ) → ((s ≡ p.shard) × (l ≡ p.local) → ⊥) → item_of numbers s l ≡ Some n → item_of new s l ≡ Some n)
       → AreNamed shards new (places ++ p ∷ [])
   next-named p row new stands none long few here others = record {
@@ -189,8 +189,8 @@ module _ (shards : List (List Row)) (numbers : List (List ℕ)) (places : List P
           sym (get_or_from_slice_get (places ++ p ∷ []) n q q at) ∙ ap (λ k. get_or (places ++ p ∷ []) k q) end ∙ get_or-append_seam places p [] q
 
 -- shards in which rows were noted, each in its own
-pub noted-shards : (shards new : List (List Row)) → AreShards shards → length new ≡ length shards
-    → ((s : ℕ) → (more : List Row) × (get_or new s [] ≡ all_noted is_same_row (get_or shards s []) more) × All (λ (row : Row). shard_at row ≡ s) more) → AreShards new
+pub noted-shards : (shards new : List (List ShardRow)) → AreShards shards → length new ≡ length shards
+    → ((s : ℕ) → (more : List ShardRow) × (get_or new s [] ≡ all_noted is_same_row (get_or shards s []) more) × All (λ (row : ShardRow). shard_at row ≡ s) more) → AreShards new
 noted-shards shards new are long each = record {
   many = λ some. long ∙ are.many (omega (arith, some, long));
   different = λ s.
@@ -198,10 +198,10 @@ noted-shards shards new are long each = record {
       subst (IsDistinct is_same_row) (sym at.1) (stays-distinct is_same_row row-laws at.0 (get_or shards s []) (are.different s));
   own = λ s.
       let at = each s in
-      subst (All (λ (row : Row). shard_at row ≡ s)) (sym at.1) (from-all is_same_row row-laws (λ (row : Row). shard_at row ≡ s) at.0 (get_or shards s []) (are.own s) at.2);
+      subst (All (λ (row : ShardRow). shard_at row ≡ s)) (sym at.1) (from-all is_same_row row-laws (λ (row : ShardRow). shard_at row ≡ s) at.0 (get_or shards s []) (are.own s) at.2);
 }
 
-pub noted-grows : (shards new : List (List Row)) → length new ≡ length shards → ((s : ℕ) → (more : List Row) × (get_or new s [] ≡ all_noted is_same_row (get_or shards s []) more)) → Grows shards new
+pub noted-grows : (shards new : List (List ShardRow)) → length new ≡ length shards → ((s : ℕ) → (more : List ShardRow) × (get_or new s [] ≡ all_noted is_same_row (get_or shards s []) more)) → Grows shards new
 noted-grows shards new long each = record {
   many = long;
   kept = λ s l row at.
@@ -210,12 +210,12 @@ noted-grows shards new long each = record {
 }
 
 -- shards without rows, and no places
-pub vacant-kept : (shards : List (List Row)) (numbers : List (List ℕ)) → (0 < length shards → length shards ≡ 64) → ((s : ℕ) → get_or shards s [] ≡ []) → length numbers ≡ length shards → AreKept shards numbers []
+pub vacant-kept : (shards : List (List ShardRow)) (numbers : List (List ℕ)) → (0 < length shards → length shards ≡ 64) → ((s : ℕ) → get_or shards s [] ≡ []) → length numbers ≡ length shards → AreKept shards numbers []
 vacant-kept shards numbers many vacant long = record {
   sharded = record {
     many = many;
     different = λ s. subst (IsDistinct is_same_row) (sym (vacant s)) (IsDistinct-from_apart is_same_row [] (λ i j d less within. let off : j < 0 = within in absurd (omega (arith, off))));
-    own = λ s. subst (All (λ (row : Row). shard_at row ≡ s)) (sym (vacant s)) (All-nil (λ (row : Row). shard_at row ≡ s));
+    own = λ s. subst (All (λ (row : ShardRow). shard_at row ≡ s)) (sym (vacant s)) (All-nil (λ (row : ShardRow). shard_at row ≡ s));
   };
   named = record {
     many = long;
@@ -226,13 +226,13 @@ vacant-kept shards numbers many vacant long = record {
 }
 
 -- where there are no shards, no row has a number
-pub no-places : (shards : List (List Row)) (numbers : List (List ℕ)) (places : List Place) → AreNamed shards numbers places → length shards ≡ 0 → places ≡ []
+pub no-places : (shards : List (List ShardRow)) (numbers : List (List ℕ)) (places : List Place) → AreNamed shards numbers places → length shards ≡ 0 → places ≡ []
 no-places shards numbers [] named none = refl
 no-places [] numbers (p ∷ places) named none = let off : p.local < 0 = named.rows 0 p refl in absurd (omega (arith, off))
 no-places (s ∷ shards) numbers (p ∷ places) named none = absurd (omega (arith, none))
 
 -- a list that has an element is one of the lists
-pub shard-within : (shards : List (List Row)) (s l : ℕ) → l < length (get_or shards s []) → s < length shards
+pub shard-within : (shards : List (List ShardRow)) (s l : ℕ) → l < length (get_or shards s []) → s < length shards
 shard-within [] s l within = let off : l < 0 = within in absurd (omega (arith, off))
 shard-within (x ∷ shards) zero l within = omega arith
 shard-within (x ∷ shards) (suc s) l within = let rest = shard-within shards s l within in omega arith
@@ -241,7 +241,7 @@ pub any-default : {T : Type 0} (xs : List T) (n : ℕ) (d x : T) → n < length 
 any-default xs n d x within is = get_or_from_slice_get xs n x d (slice_get-get_or xs n x within ∙ ap Some (sym is))
 
 -- the place of a number, and what stands there
-module _ (shards : List (List Row)) (numbers : List (List ℕ)) (places : List Place) (self : List Row) (n : ℕ) (p : Place) (named : AreNamed shards numbers places) (is : rows_in shards places ≡ self)
+module _ (shards : List (List ShardRow)) (numbers : List (List ℕ)) (places : List Place) (self : List ShardRow) (n : ℕ) (p : Place) (named : AreNamed shards numbers places) (is : rows_in shards places ≡ self)
     (within : n < length self) (p-is : p ≡ get_or places n p) where
   pub number-within : n < length places
   number-within = omega (arith, within, ap length is, length-map places (row_at shards))
@@ -252,30 +252,30 @@ module _ (shards : List (List Row)) (numbers : List (List ℕ)) (places : List P
   pub local-within : p.local < length (get_or shards p.shard [])
   local-within = named.rows n p place-there
 
-  module _ (rows : List Row) (rows-is : rows ≡ get_or shards p.shard rows) where
+  module _ (rows : List ShardRow) (rows-is : rows ≡ get_or shards p.shard rows) where
     shard-is : get_or shards p.shard [] ≡ rows
     shard-is = any-default shards p.shard [] rows (shard-within shards p.shard p.local local-within) rows-is
 
     pub in-shard : p.local < length rows
-    in-shard = subst (λ (l : List Row). p.local < length l) shard-is local-within
+    in-shard = subst (λ (l : List ShardRow). p.local < length l) shard-is local-within
 
-    pub stands-there : (row : Row) → slice_get rows p.local ≡ Some row → slice_get self n ≡ Some row
+    pub stands-there : (row : ShardRow) → slice_get rows p.local ≡ Some row → slice_get self n ≡ Some row
     stands-there row at =
-        subst (λ (l : List Row). slice_get l n ≡ Some row) is
-        (get-mapped (row_at shards) places n p place-there ∙ ap Some (row-is shards p row (subst (λ (l : List Row). slice_get l p.local ≡ Some row) (sym shard-is) at)))
+        subst (λ (l : List ShardRow). slice_get l n ≡ Some row) is
+        (get-mapped (row_at shards) places n p place-there ∙ ap Some (row-is shards p row (subst (λ (l : List ShardRow). slice_get l p.local ≡ Some row) (sym shard-is) at)))
 
-pub nothing-kept : {X : Type 0} (shards : List (List Row)) (all : List X) (places : List Place) (f : X → List ℕ) → shards ≡ [] → all ≡ [] → places ≡ [] → AreKept shards (map f all) places
+pub nothing-kept : {X : Type 0} (shards : List (List ShardRow)) (all : List X) (places : List Place) (f : X → List ℕ) → shards ≡ [] → all ≡ [] → places ≡ [] → AreKept shards (map f all) places
 nothing-kept shards all places f no-shards no-numbers no-places-yet =
     subst (λ l. AreKept l (map f all) places) (sym no-shards)
     (subst (λ l. AreKept [] (map f l) places) (sym no-numbers)
     (subst (λ l. AreKept [] [] l) (sym no-places-yet) (vacant-kept [] [] (λ some. absurd (omega (arith, some))) (λ s. refl) refl)))
 
 -- rows were put into shards
-pub put-kept : (shards new : List (List Row)) (numbers : List (List ℕ)) (places : List Place) → AreKept shards numbers places → AreShards new → Grows shards new → AreKept new numbers places
+pub put-kept : (shards new : List (List ShardRow)) (numbers : List (List ℕ)) (places : List Place) → AreKept shards numbers places → AreShards new → Grows shards new → AreKept new numbers places
 put-kept shards new numbers places kept are grows = record {
   sharded = are;
-  named = grown-named shards numbers places kept.sharded kept.named new grows;
+  named = extended-named shards numbers places kept.sharded kept.named new grows;
 }
 
-pub put-rows : (shards new : List (List Row)) (numbers : List (List ℕ)) (places : List Place) → AreKept shards numbers places → Grows shards new → rows_in new places ≡ rows_in shards places
-put-rows shards new numbers places kept grows = grown-rows shards numbers places kept.sharded kept.named new grows
+pub put-rows : (shards new : List (List ShardRow)) (numbers : List (List ℕ)) (places : List Place) → AreKept shards numbers places → Grows shards new → rows_in new places ≡ rows_in shards places
+put-rows shards new numbers places kept grows = extended-rows shards numbers places kept.sharded kept.named new grows

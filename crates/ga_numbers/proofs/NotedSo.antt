@@ -8,7 +8,7 @@ use Rattle.std.proofs.lemmas.List.Sums.{position_or_len_is}
 use Rattle.std.proofs.lemmas.Map.Keys.{any_passes_from_place, apart_from_distinct}
 use Rattle.std.proofs.lemmas.Option.{slice_get_within, get_or_from_slice_get}
 use Rattle.ga_shards.specs.Numbers.{noted, place_of}
-use Rattle.ga_numbers.specs.Numbers.{IsNumbered}
+use Rattle.ga_numbers.specs.NotedNumbers.{IsNumbered}
 
 -- an item that was noted stands at its number
 abbrev pub StandsAt : {T : Type 0} → (T → T → Bool) → List T → ℕ → T → Type 0

@@ -13,9 +13,9 @@ use Rattle.ga_base.specs.declared.key.Key.{Key}
 use Rattle.ga_base.specs.declared.key.Visitor.{Visitor}
 use Rattle.ga_base.specs.Orders.{is_same_key, is_same_visitor, name_of, visitor_cmp}
 use Rattle.ga_base.proofs.OrderLemmas.{key_cmp_is, key_cmp_total, key_cmp_exact, name_cmp_total, name_cmp_exact, visitor_cmp_is, visitor_cmp_total, visitor_cmp_exact}
-use Rattle.ga_numbers.specs.KeyFrames.{is_same_frame}
-use Rattle.ga_numbers.specs.Rows.{is_same_row}
-use Rattle.ga_numbers.specs.declared.row.Row.{Row}
+use Rattle.ga_numbers.specs.Steps.KeyPrefixes.{is_same_prefix}
+use Rattle.ga_numbers.specs.Steps.ShardRows.{is_same_row}
+use Rattle.ga_numbers.specs.declared.shard_row.ShardRow.{ShardRow}
 
 both_true : (a b : Bool) → (a && b) ≡ true → (a ≡ true) × (b ≡ true)
 both_true true b e = (refl, e)
@@ -60,10 +60,10 @@ visitor-itself v = λ i. eq-eqb v.date v.date refl i && ap is_eq (tied_itself na
 pub visitor-laws : IsEquivalence is_same_visitor
 visitor-laws = exact-laws is_same_visitor visitor-itself same-visitor
 
-pub same-row : (a b : Row) → is_same_row a b ≡ true → a ≡ b
+pub same-row : (a b : ShardRow) → is_same_row a b ≡ true → a ≡ b
 same-row a b e = search rules
 
-pub row-itself : (a : Row) → is_same_row a a ≡ true
+pub row-itself : (a : ShardRow) → is_same_row a a ≡ true
 row-itself a = search rules
 
 pub row-laws : IsEquivalence is_same_row
@@ -84,12 +84,12 @@ visitor-test = λ i a b. same a b i
         (λ e. subst (λ x. is_same_visitor a x ≡ true) (visitor_cmp_exact a b (equal_from_is_eq _ e)) (visitor-itself a))
         (λ e. subst (λ x. is_eq (visitor_cmp a x) ≡ true) (same-visitor a b e) (ap is_eq (tied_itself visitor_cmp_total a)))
 
--- frames of keys are keys
-pub same-frame : (a b : Key) → is_same_frame a b ≡ true → a ≡ b
-same-frame a b e = same-key a b (sym (λ i. key-test i a b) ∙ e)
+-- prefixes of keys are keys
+pub same-prefix : (a b : Key) → is_same_prefix a b ≡ true → a ≡ b
+same-prefix a b e = same-key a b (sym (λ i. key-test i a b) ∙ e)
 
-pub frame-itself : (a : Key) → is_same_frame a a ≡ true
-frame-itself a = (λ i. key-test i a a) ∙ key-itself a
+pub prefix-itself : (a : Key) → is_same_prefix a a ≡ true
+prefix-itself a = (λ i. key-test i a a) ∙ key-itself a
 
-pub frame-laws : IsEquivalence is_same_frame
-frame-laws = exact-laws is_same_frame frame-itself same-frame
+pub prefix-laws : IsEquivalence is_same_prefix
+prefix-laws = exact-laws is_same_prefix prefix-itself same-prefix

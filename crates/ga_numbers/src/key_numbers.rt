@@ -1,19 +1,19 @@
 ghost use Rattle.std.specs.Prelude.{◌≡◌, ◌<◌, [], Some, IfOk, OnErr, length, map, slice_get};
 ghost use Rattle.std.specs.List.{IsDistinct};
 ghost use Rattle.ga_base.specs.Orders.{is_same_key};
-ghost use Rattle.ga_numbers.specs.KeyFrames.{IsKeyFrame, is_same_frame, keys_in};
-ghost use Rattle.ga_numbers.specs.Numbers.{AreNotedInTurn, IsNumbered};
-ghost use Rattle.ga_numbers.specs.Refs.{key_lent};
-ghost use Rattle.ga_numbers.specs.Rows.{AreMade};
-ghost use Rattle.ga_numbers.specs.Three.{AllThree};
+ghost use Rattle.ga_numbers.specs.Steps.KeyPrefixes.{IsKeyPrefix, is_same_prefix, keys_in};
+ghost use Rattle.ga_numbers.specs.NotedNumbers.{AreNotedInTurn, IsNumbered};
+ghost use Rattle.ga_numbers.specs.VisitorRefs.{key_prefixed};
+ghost use Rattle.ga_numbers.specs.Steps.ShardRows.{AreMade};
+ghost use Rattle.ga_numbers.specs.Steps.Three.{AllThree};
 ghost use Rattle.ga_panels.specs.Refs.{key_of};
 
-use crate::grown::Grown;
-use crate::key_frame::{FrameHints, frame_number};
-use crate::lent_key::LentKey;
+use crate::extended::Extended;
+use crate::key_prefix::{PrefixHints, prefix_number};
 use crate::noting::{note_all, note_each};
-use crate::row::RowRef;
-use crate::rows::Rows;
+use crate::prefixed_key::PrefixedKey;
+use crate::shard_row::ShardRowRef;
+use crate::sharded_rows::ShardedRows;
 use ga_base::{Key, NoMemory};
 use ga_panels::KeyRef;
 use ga_shards::{Dictionary, Keyed};
@@ -25,11 +25,11 @@ use std::thread::Threads;
 #[derive(Drop)]
 pub struct KeyNumbers {
     /// What keys share.
-    frames: Dictionary<Key>,
+    prefixes: Dictionary<Key>,
     /// The keys but for that.
-    rows: Rows,
-    /// Where the frames may stand.
-    frame_hints: FrameHints,
+    rows: ShardedRows,
+    /// Where the prefixes may stand.
+    prefix_hints: PrefixHints,
     /// How the dictionaries hash.
     keyed: Keyed,
 }
@@ -37,14 +37,14 @@ pub struct KeyNumbers {
 impl Model for KeyNumbers {
     ghost use Rattle.std.specs.Prelude.{List};
     ghost use Rattle.ga_base.specs.declared.key.Key.{Key};
-    ghost use Rattle.ga_numbers.specs.KeyFrames.{IsKeyFrame, is_same_frame, keys_in};
-    ghost use Rattle.ga_numbers.specs.Rows.{AreRowsOf};
+    ghost use Rattle.ga_numbers.specs.Steps.KeyPrefixes.{IsKeyPrefix, is_same_prefix, keys_in};
+    ghost use Rattle.ga_numbers.specs.Steps.ShardRows.{AreRowsOf};
 
     ghost Value = { List Key };
 
-    ghost view = { λ k. keys_in k.frames k.rows };
+    ghost view = { λ k. keys_in k.prefixes k.rows };
 
-    ghost invariant = { λ k. AreRowsOf is_same_frame IsKeyFrame k.frames k.rows };
+    ghost invariant = { λ k. AreRowsOf is_same_prefix IsKeyPrefix k.prefixes k.rows };
 }
 
 impl KeyNumbers {
@@ -53,9 +53,9 @@ impl KeyNumbers {
         ensures { result ≡ [] }
     {
         KeyNumbers {
-            frames: Dictionary::new(alloc, keyed),
-            rows: Rows::new(alloc, keyed),
-            frame_hints: FrameHints::new(alloc),
+            prefixes: Dictionary::keyed(alloc, keyed),
+            rows: ShardedRows::new(alloc, keyed),
+            prefix_hints: PrefixHints::new(alloc),
             keyed,
         }
     }
@@ -64,7 +64,7 @@ impl KeyNumbers {
     /// tests.
     pub fn is_keyed_by(&self, keyed: &Keyed) -> bool {
         self.keyed.begins_as(keyed)
-            && self.frames.is_keyed_by(keyed)
+            && self.prefixes.is_keyed_by(keyed)
             && self.rows.is_keyed_by(keyed)
     }
 
@@ -81,8 +81,8 @@ impl KeyNumbers {
         ensures ok { IfOk result (λ number. IsNumbered is_same_key (key_of key.now) number self.old self.new) }
         ensures err { OnErr result (self.new ≡ self.old) }
     {
-        let row = RowRef {
-            frame: frame_number(alloc, &mut self.frames, &mut self.frame_hints, key)?,
+        let row = ShardRowRef {
+            prefix: prefix_number(alloc, &mut self.prefixes, &mut self.prefix_hints, key)?,
             date: key.date,
             text: key.label,
         };
@@ -95,35 +95,35 @@ impl KeyNumbers {
         rt: &R,
         alloc: Global,
         others: Vec<KeyNumbers>,
-    ) -> Result<Grown<KeyNumbers>, NoMemory>
-        ensures { IfOk result (λ grown. AreNotedInTurn is_same_key others.items (map (λ l. l.items) grown.numbers.items) self grown.known) }
+    ) -> Result<Extended<KeyNumbers>, NoMemory>
+        ensures { IfOk result (λ extended. AreNotedInTurn is_same_key others.items (map (λ l. l.items) extended.numbers.items) self extended.known) }
     {
         let KeyNumbers {
-            mut frames,
+            mut prefixes,
             rows,
-            frame_hints,
+            prefix_hints,
             keyed,
         } = self;
-        let (more_frames, more_rows) = apart(alloc, others)?;
-        let places = note_each(alloc, &mut frames, more_frames)?;
+        let (more_prefixes, more_rows) = prefixes_and_rows(alloc, others)?;
+        let places = note_each(alloc, &mut prefixes, more_prefixes)?;
         let (rows, numbers) = rows.with(rt, alloc, more_rows, &places)?;
         let known = KeyNumbers {
-            frames,
+            prefixes,
             rows,
-            frame_hints,
+            prefix_hints,
             keyed,
         };
-        Ok(Grown { known, numbers })
+        Ok(Extended { known, numbers })
     }
 
     /// Lends the key of this number.
-    pub fn get(&self, number: u32) -> LentKey<'_>
+    pub fn get(&self, number: u32) -> PrefixedKey<'_>
         requires { number < length self.now }
-        ensures { slice_get self.now number ≡ Some (key_lent result) }
+        ensures { slice_get self.now number ≡ Some (key_prefixed result) }
     {
         let row = self.rows.row(number);
-        LentKey {
-            shared: self.frames.item(row.frame),
+        PrefixedKey {
+            shared: self.prefixes.item(row.prefix),
             date: row.date,
             label: &row.text,
         }
@@ -146,24 +146,24 @@ impl KeyNumbers {
     pub fn into_dictionary(self, alloc: Global) -> Result<Dictionary<Key>, NoMemory>
         ensures { IfOk result (λ keys. keys ≡ self) }
     {
-        let mut keys = Dictionary::new(alloc, self.keyed);
+        let mut keys = Dictionary::keyed(alloc, self.keyed);
         note_all(alloc, &mut keys, self.items(alloc)?)?;
         Ok(keys)
     }
 }
 
-/// The frames of each of these, and the rows.
-fn apart(
+/// The prefixes of each of these, and the rows.
+fn prefixes_and_rows(
     alloc: Global,
     others: Vec<KeyNumbers>,
-) -> Result<(Vec<Dictionary<Key>>, Vec<Rows>), NoMemory>
-    ensures { IfOk result (λ parts. AllThree (AreMade is_same_frame IsKeyFrame keys_in) others.items parts.0.items parts.1.items) }
+) -> Result<(Vec<Dictionary<Key>>, Vec<ShardedRows>), NoMemory>
+    ensures { IfOk result (λ parts. AllThree (AreMade is_same_prefix IsKeyPrefix keys_in) others.items parts.0.items parts.1.items) }
 {
-    let mut frames = Vec::with_capacity(alloc, others.len())?;
+    let mut prefixes = Vec::with_capacity(alloc, others.len())?;
     let mut rows = Vec::with_capacity(alloc, others.len())?;
     for keys in others {
-        frames.push(keys.frames)?;
+        prefixes.push(keys.prefixes)?;
         rows.push(keys.rows)?;
     }
-    Ok((frames, rows))
+    Ok((prefixes, rows))
 }

@@ -1,6 +1,6 @@
 ghost use Rattle.std.specs.Prelude.{◌≡◌, Some, true, IfOk, OnErr, OnOk, map, slice_get};
 ghost use Rattle.std.specs.List.{IsDistinct};
-ghost use Rattle.ga_numbers.specs.Numbers.{AreNotedInTurn, places_of};
+ghost use Rattle.ga_numbers.specs.NotedNumbers.{AreNotedInTurn, places_of};
 ghost use Rattle.ga_shards.specs.Numbers.{noted, place_of};
 ghost use Rattle.ga_shards.specs.Steps.{all_noted};
 
@@ -9,7 +9,7 @@ use ga_shards::Dictionary;
 use std::alloc::Global;
 
 /// So many items a dictionary holds.
-const MOST: u32 = u32::MAX - 1;
+const DICTIONARY_MAX: u32 = u32::MAX - 1;
 
 /// Notes items, and gives the number of each.
 pub(crate) fn note_all<T: Noted + Drop>(
@@ -51,7 +51,7 @@ pub(crate) fn note<T: Noted + Drop>(items: &mut Dictionary<T>, item: T) -> Resul
     ensures distinct { IsDistinct T.eq items.new }
     ensures err { OnErr result (items.new ≡ items.old) }
 {
-    if items.len() >= MOST {
+    if items.len() >= DICTIONARY_MAX {
         return Err(NoMemory);
     }
     items.note(item)

@@ -1,13 +1,13 @@
 ghost use Rattle.std.specs.Prelude.{◌≡◌, ◌<◌, ℕ, List, Some, IfOk, IfSome, IfNone, OnErr, OnOk, map, slice_get, vec_len};
-ghost use Rattle.ga_numbers.specs.Kept.{AreNamed, AreShards, StandsAt, rows_in};
-ghost use Rattle.ga_numbers.specs.Numbers.{IsNumbered};
-ghost use Rattle.ga_numbers.specs.Rows.{is_same_row};
-ghost use Rattle.ga_numbers.specs.declared.row.Row.{Row};
+ghost use Rattle.ga_numbers.specs.Steps.Kept.{AreNamed, AreShards, StandsAt, rows_in};
+ghost use Rattle.ga_numbers.specs.NotedNumbers.{IsNumbered};
+ghost use Rattle.ga_numbers.specs.Steps.ShardRows.{is_same_row};
+ghost use Rattle.ga_numbers.specs.declared.shard_row.ShardRow.{ShardRow};
 
 use ga_base::NoMemory;
 
 /// So many numbers there are.
-const MOST: usize = u32::MAX as usize;
+const PLACES_MAX: usize = u32::MAX as usize;
 
 /// Where a row stands.
 #[derive(Clone, Copy, Debug, PartialEq, Eq)]
@@ -25,9 +25,9 @@ pub(crate) fn assign(
     place: Place,
 ) -> Result<u32, NoMemory>
     requires { place.shard < vec_len numbers.old }
-    ensures ok { (shards : List (List Row)) (row : Row) → AreShards shards → AreNamed shards (map (λ l. l.items) numbers.old.items) places.old.items → StandsAt shards place row
+    ensures ok { (shards : List (List ShardRow)) (row : ShardRow) → AreShards shards → AreNamed shards (map (λ l. l.items) numbers.old.items) places.old.items → StandsAt shards place row
         → IfOk result (λ number. IsNumbered is_same_row row number (rows_in shards places.old.items) (rows_in shards places.new.items)) }
-    ensures named { (shards : List (List Row)) (row : Row) → AreShards shards → AreNamed shards (map (λ l. l.items) numbers.old.items) places.old.items → StandsAt shards place row
+    ensures named { (shards : List (List ShardRow)) (row : ShardRow) → AreShards shards → AreNamed shards (map (λ l. l.items) numbers.old.items) places.old.items → StandsAt shards place row
         → AreNamed shards (map (λ l. l.items) numbers.new.items) places.new.items }
     ensures many { vec_len numbers.new ≡ vec_len numbers.old }
     ensures err { OnErr result (places.new.items ≡ places.old.items) }
@@ -36,7 +36,7 @@ pub(crate) fn assign(
     if let Some(number) = number_at(&numbers[shard], places, place) {
         return Ok(number);
     }
-    if places.len() >= MOST {
+    if places.len() >= PLACES_MAX {
         return Err(NoMemory);
     }
     let number = places.len() as u32;

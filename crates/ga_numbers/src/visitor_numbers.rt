@@ -1,16 +1,16 @@
 ghost use Rattle.std.specs.Prelude.{◌≡◌, ◌<◌, [], Some, IfOk, OnErr, length, map, slice_get};
 ghost use Rattle.std.specs.List.{IsDistinct};
 ghost use Rattle.ga_base.specs.Orders.{is_same_visitor};
-ghost use Rattle.ga_numbers.specs.Numbers.{AreNotedInTurn, IsNumbered};
-ghost use Rattle.ga_numbers.specs.Refs.{visitor_of};
-ghost use Rattle.ga_numbers.specs.Rows.{AreMade, is_same_row};
-ghost use Rattle.ga_numbers.specs.Three.{AllThree};
-ghost use Rattle.ga_numbers.specs.Visitors.{IsAgent, visitors_in};
+ghost use Rattle.ga_numbers.specs.NotedNumbers.{AreNotedInTurn, IsNumbered};
+ghost use Rattle.ga_numbers.specs.VisitorRefs.{visitor_of};
+ghost use Rattle.ga_numbers.specs.Steps.ShardRows.{AreMade, is_same_row};
+ghost use Rattle.ga_numbers.specs.Steps.Three.{AllThree};
+ghost use Rattle.ga_numbers.specs.Steps.VisitorRows.{IsAgent, visitors_in};
 
-use crate::grown::Grown;
+use crate::extended::Extended;
 use crate::noting::note_all;
-use crate::row::RowRef;
-use crate::rows::Rows;
+use crate::shard_row::ShardRowRef;
+use crate::sharded_rows::ShardedRows;
 use crate::visitor_ref::VisitorRef;
 use ga_base::{NoMemory, Visitor};
 use ga_shards::{Dictionary, Keyed};
@@ -22,9 +22,9 @@ use std::thread::Threads;
 #[derive(Drop)]
 pub struct VisitorNumbers {
     /// The agents, each a row that shares nothing with others, on day 0.
-    agents: Rows,
+    agents: ShardedRows,
     /// The visitors but for their agents: what a row shares with others is the agent of this number.
-    rows: Rows,
+    rows: ShardedRows,
     /// How the dictionaries hash.
     keyed: Keyed,
 }
@@ -32,8 +32,8 @@ pub struct VisitorNumbers {
 impl Model for VisitorNumbers {
     ghost use Rattle.std.specs.Prelude.{List};
     ghost use Rattle.ga_base.specs.declared.key.Visitor.{Visitor};
-    ghost use Rattle.ga_numbers.specs.Visitors.{IsAgent, visitors_in};
-    ghost use Rattle.ga_numbers.specs.Rows.{AreRowsOf, is_same_row};
+    ghost use Rattle.ga_numbers.specs.Steps.VisitorRows.{IsAgent, visitors_in};
+    ghost use Rattle.ga_numbers.specs.Steps.ShardRows.{AreRowsOf, is_same_row};
 
     ghost Value = { List Visitor };
 
@@ -48,8 +48,8 @@ impl VisitorNumbers {
         ensures { result ≡ [] }
     {
         VisitorNumbers {
-            agents: Rows::new(alloc, keyed),
-            rows: Rows::new(alloc, keyed),
+            agents: ShardedRows::new(alloc, keyed),
+            rows: ShardedRows::new(alloc, keyed),
             keyed,
         }
     }
@@ -75,13 +75,13 @@ impl VisitorNumbers {
         ensures ok { IfOk result (λ number. IsNumbered is_same_visitor (visitor_of visitor.now) number self.old self.new) }
         ensures err { OnErr result (self.new ≡ self.old) }
     {
-        let agent = RowRef {
-            frame: 0,
+        let agent = ShardRowRef {
+            prefix: 0,
             date: 0,
             text: visitor.agent,
         };
-        let row = RowRef {
-            frame: self.agents.number(alloc, agent)?,
+        let row = ShardRowRef {
+            prefix: self.agents.number(alloc, agent)?,
             date: visitor.date,
             text: visitor.host,
         };
@@ -95,15 +95,15 @@ impl VisitorNumbers {
         rt: &R,
         alloc: Global,
         others: Vec<VisitorNumbers>,
-    ) -> Result<Grown<VisitorNumbers>, NoMemory>
-        ensures { IfOk result (λ grown. AreNotedInTurn is_same_visitor others.items (map (λ l. l.items) grown.numbers.items) self grown.known) }
+    ) -> Result<Extended<VisitorNumbers>, NoMemory>
+        ensures { IfOk result (λ extended. AreNotedInTurn is_same_visitor others.items (map (λ l. l.items) extended.numbers.items) self extended.known) }
     {
         let VisitorNumbers {
             agents,
             rows,
             keyed,
         } = self;
-        let (more_agents, more_rows) = apart(alloc, others)?;
+        let (more_agents, more_rows) = agents_and_rows(alloc, others)?;
         let (agents, places) = agents.with(rt, alloc, more_agents, &[])?;
         let (rows, numbers) = rows.with(rt, alloc, more_rows, &places)?;
         let known = VisitorNumbers {
@@ -111,7 +111,7 @@ impl VisitorNumbers {
             rows,
             keyed,
         };
-        Ok(Grown { known, numbers })
+        Ok(Extended { known, numbers })
     }
 
     /// The visitors in texts of their own, in their order.
@@ -131,7 +131,7 @@ impl VisitorNumbers {
     pub fn into_dictionary(self, alloc: Global) -> Result<Dictionary<Visitor>, NoMemory>
         ensures { IfOk result (λ visitors. visitors ≡ self) }
     {
-        let mut visitors = Dictionary::new(alloc, self.keyed);
+        let mut visitors = Dictionary::keyed(alloc, self.keyed);
         note_all(alloc, &mut visitors, self.items(alloc)?)?;
         Ok(visitors)
     }
@@ -145,13 +145,16 @@ impl VisitorNumbers {
         Ok(Visitor {
             host: row.text.clone()?,
             date: row.date,
-            agent: self.agents.row(row.frame).text.clone()?,
+            agent: self.agents.row(row.prefix).text.clone()?,
         })
     }
 }
 
 /// The agents of each of these, and the rows.
-fn apart(alloc: Global, others: Vec<VisitorNumbers>) -> Result<(Vec<Rows>, Vec<Rows>), NoMemory>
+fn agents_and_rows(
+    alloc: Global,
+    others: Vec<VisitorNumbers>,
+) -> Result<(Vec<ShardedRows>, Vec<ShardedRows>), NoMemory>
     ensures { IfOk result (λ parts. AllThree (AreMade is_same_row IsAgent visitors_in) others.items parts.0.items parts.1.items) }
 {
     let mut agents = Vec::with_capacity(alloc, others.len())?;

@@ -1,4 +1,4 @@
--- Outcomes behind others: what lines come to, and where a counter passes its limit.
+-- Outcomes after others, and where a counter passes its limit.
 use Rattle.std.proofs.Common.{◌≡◌, ℕ, Bool, List, [], ◌∷◌, ◌++◌, refl, ap, sym, ◌∙◌, subst, Option, Some, None, arith, cond, length, sum_by, add_assoc, add-zero, zero-add}
 use Rattle.std.specs.Prelude.{count_by, ◌+◌}
 use Rattle.std.proofs.lemmas.List.Sums.{sum_by-cons}
@@ -7,8 +7,8 @@ use Rattle.ga_base.specs.declared.counts.Totals.{Totals}
 use Rattle.ga_summary.specs.Limits.{over, passes, or_else}
 use Rattle.ga_summary.specs.Outcomes.{Hit, Outcome, Counted, hits_of, is_failed, is_excluded, totals_of}
 use Rattle.ga_summary.specs.Outcomes as outcomes
-use Rattle.ga_summary.specs.Rows.{totals_plus}
-use Rattle.ga_outcomes.specs.Counting.{Come, listed}
+use Rattle.ga_base.specs.Totals.{totals_plus}
+use Rattle.ga_outcomes.specs.LineOutcomes.{HaveOutcomes, listed}
 use Rattle.ga_outcomes.specs.declared.setup.Setup.{Setup}
 
 abbrev pub six : ℕ → ℕ → ℕ → ℕ → ℕ → ℕ → Totals
@@ -60,11 +60,11 @@ over-append t (x ∷ xs) ys e =
     plus-assoc t (totals_of (x ∷ [])) (totals_of xs) ∙ ap (λ (u : Totals). totals_plus t u) (totals-cons x xs) in
     ap (λ (o : Option (Counter × ℕ)). or_else o (over more (xs ++ ys))) parts.0 ∙ rest ∙ ap (λ (u : Totals). over u ys) sums
 
--- lines before and behind come to outcomes before and behind
-pub come-append : (setup : Setup) (xs ys : List (List ℕ)) (os ps : List Outcome) → Come setup xs os → Come setup ys ps → Come setup (xs ++ ys) (os ++ ps)
-come-append setup [] ys os ps h k = subst (λ (o : List Outcome). Come setup ys (o ++ ps)) (sym h) k
-come-append setup (x ∷ xs) ys os ps (first, rest, comes, h, is) k =
-    (first, rest ++ ps, comes, come-append setup xs ys rest ps h k, ap (λ (o : List Outcome). o ++ ps) is ∙ listed-append first rest ps)
+-- lines before and after have outcomes before and after
+pub have_outcomes-append : (setup : Setup) (xs ys : List (List ℕ)) (os ps : List Outcome) → HaveOutcomes setup xs os → HaveOutcomes setup ys ps → HaveOutcomes setup (xs ++ ys) (os ++ ps)
+have_outcomes-append setup [] ys os ps h k = subst (λ (o : List Outcome). HaveOutcomes setup ys (o ++ ps)) (sym h) k
+have_outcomes-append setup (x ∷ xs) ys os ps (first, rest, comes, h, is) k =
+    (first, rest ++ ps, comes, have_outcomes-append setup xs ys rest ps h k, ap (λ (o : List Outcome). o ++ ps) is ∙ listed-append first rest ps)
   where
     listed-append : (first : Option Outcome) (rest ps : List Outcome) → listed first rest ++ ps ≡ listed first (rest ++ ps)
     listed-append None rest ps = refl

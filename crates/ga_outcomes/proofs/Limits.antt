@@ -7,8 +7,7 @@ use Rattle.ga_base.specs.declared.counts.Counter.TheVariants.{Lines, Bytes, Micr
 use Rattle.ga_base.specs.declared.counts.TheConstants.{LIMIT}
 use Rattle.ga_base.specs.declared.counts.Totals.{Totals}
 use Rattle.ga_summary.specs.Limits.{passes}
-use Rattle.ga_summary.specs.Rows.{totals_plus}
-use Rattle.ga_summary.specs.Sound.{TotalsFit}
+use Rattle.ga_base.specs.Totals.{totals_plus, TotalsFit}
 
 above : (n : ℕ) → LIMIT < n → nat_lt LIMIT n ≡ true
 above n h = grind (arith, nat_tests)

@@ -1,2 +1,2 @@
--- What the lines of logs come to.
-pub mod Counting
+-- The outcomes of the lines of logs.
+pub mod LineOutcomes

@@ -1,6 +1,6 @@
-//! What the lines of logs come to: outcomes, and their sum.
+//! The outcomes of the lines of logs, and their sum.
 //!
-//! `Setup` is how lines are read and counted; `specs/Counting.antt` says what lines come to by it.
+//! `Setup` is how lines are read and counted; `specs/Counting.antt` says which outcomes lines have by it.
 #![tactic(auto)]
 
 mod setup;

@@ -6,7 +6,7 @@ use Rattle.std.proofs.lemmas.List.Elements.{All-get_or, All-weaker, All-contains
 use Rattle.std.proofs.lemmas.List.Kept.{AllPairs-cons}
 use Rattle.std.proofs.lemmas.List.Sums.{sum_by-cons}
 use Rattle.atomic_table.specs.Table.{Final, Seen}
-use Rattle.ga_shares.proofs.Views.{seat-there, seat-is, sum-whole}
+use Rattle.ga_draws.proofs.Views.{seat-there, seat-is, sum-whole}
 use Rattle.ga_pairs.specs.Homes.{IsPair, word_of}
 use Rattle.ga_pairs.specs.Pairs.{Inv, IsClosed, IsSpent, HasPairs, times, times_in}
 use Rattle.ga_pairs.specs.Events.{nothing}

@@ -10,8 +10,8 @@ use Rattle.std.proofs.lemmas.List.{get_or-set_same, get_or-set_other}
 use Rattle.std.proofs.lemmas.List.Elements.{All-nil, All-set, All-get_or, All-weaker, All-push, All-append, Contains-push, Contains-append_left, Contains-append_right}
 use Rattle.std.proofs.lemmas.List.Sums.{sum_by-set, sum_by_push, sum_by-append}
 use native.Mathlib.Decide.{ℕ_discrete, dec_lt}
-use Rattle.ga_shares.specs.Views.{after_split, after_join}
-use Rattle.ga_shares.proofs.Views.{all-split, all-join, sum-split, sum-join}
+use Rattle.ga_draws.specs.SeatViews.{after_split, after_join}
+use Rattle.ga_draws.proofs.Views.{all-split, all-join, sum-split, sum-join}
 use Rattle.ga_pairs.specs.Homes.{IsPair, word_of, home, round}
 use Rattle.ga_pairs.specs.Pairs.{PairState, Inv, IsSpent, HasPairs, HasPassed, times, times_in, place_after, cell_after, won, met, given, left, joined}
 use Rattle.ga_pairs.specs.Events.{PairEvent, tries, splits, joins, resting, looking, nothing, cells_passed, passed_of, IsFreeFor, IsLawful, AreLawful, after_look, after, after_all, ChangesOnlyFromZero}

@@ -12,7 +12,7 @@ use prog.Atomic.{either}
 use lib.ListN.{get_elem?}
 use Rattle.atomic_table.specs.Table.{Me, Act, keeps, stepped, Valid, Allows, Splits, Joins, carried_after}
 use Rattle.atomic_table.proofs.Lists.{exchanged, set_else}
-use Rattle.ga_shares.proofs.Views.{seat-there, seat-is}
+use Rattle.ga_draws.proofs.Views.{seat-there, seat-is}
 use Rattle.ga_pairs.specs.Homes.{IsPair, word_of}
 use Rattle.ga_pairs.specs.Pairs.{Inv, place_after, cell_after, won, met, given, left, joined}
 use Rattle.ga_pairs.specs.Events.{resting, looking, nothing, passed_of, IsFreeFor}

@@ -1,6 +1,6 @@
 -- What can happen to claims, one event at a time. A seat is a place in the list of views.
 use Rattle.std.specs.Prelude.{◌≡◌, ◌≢◌, ℕ, ◌+◌, ◌<◌, ◌≤◌, Bool, true, false, ◌==◌, ⊤, List, [], ◌∷◌, length, slice_index, slice_set, slice_index_or, Option, Some, None, IfSome}
-use Rattle.ga_shares.specs.Views.{after_split, after_join}
+use Rattle.ga_draws.specs.SeatViews.{after_split, after_join}
 use Rattle.ga_pairs.specs.Homes.{IsPair, word_of}
 use Rattle.ga_pairs.specs.Pairs.{PairState, place_after, cell_after, won, met, given, left, joined}
 use Rattle.ga_pairs.specs.declared.view.Claims.{Claims}

@@ -4,8 +4,8 @@ use Rattle.atomic_table.specs.Table.{State, Me}
 use Rattle.ga_pairs.specs.Homes.{word_of}
 use Rattle.ga_pairs.specs.Pairs.{Inv, won, met, given}
 use Rattle.ga_pairs.specs.Events.{resting, looking, passed_of}
-use Rattle.ga_pairs.specs.declared.answer.Insert.{Insert}
-use Rattle.ga_pairs.specs.declared.answer.Insert.TheVariants.{Won, Present}
+use Rattle.ga_pairs.specs.declared.insert.Insert.{Insert}
+use Rattle.ga_pairs.specs.declared.insert.Insert.TheVariants.{Won, Present}
 use Rattle.ga_pairs.specs.declared.view.Claims.{Claims}
 use Rattle.ga_pairs.specs.declared.view.Opening.{Opening}
 use Rattle.ga_pairs.specs.declared.view.Pair.{Pair}

@@ -6,18 +6,15 @@
 //! `specs/Pairs.antt` has the state and its invariant, `specs/Events.antt` what can happen to it.
 #![tactic(auto)]
 
-mod answer;
-mod closed;
 mod home;
+mod insert;
 pub mod laws;
+mod pair_closed;
 mod rule;
 mod set;
 mod view;
 
-pub use answer::Insert;
-pub use closed::PairClosed;
+pub use insert::Insert;
+pub use pair_closed::PairClosed;
 pub use set::{PairSeat, PairSet};
 pub use view::{Claims, Opening, Pair, PairView, Probe};
-
-#[cfg(test)]
-mod tests;

@@ -1,11 +1,11 @@
-//! The rule of the running table, and what its steps tell. These types are for the proofs alone.
+//! The rule of the running table, and what its steps say. These types are for the proofs alone.
 
 ghost use Rattle.std.specs.Prelude.{ℕ};
 ghost use Rattle.ga_pairs.specs.declared.view.Pair.{Pair as ThePair};
 
 use crate::view::{Opening, PairView};
 use atomic_table::{Join, Play, Split, TableRule};
-use ga_shares::Cut;
+use ga_draws::Cut;
 use std::marker::{Brand, PhantomData};
 
 /// The pair that a call looks for, and the number of cells. Each call picks them.
@@ -23,9 +23,9 @@ impl Asked for Brand {
 }
 
 /// The state that words and views are keeps its invariant.
-pub struct Claimed;
+pub struct ClaimRule;
 
-impl TableRule<(), PairView, Opening> for Claimed {
+impl TableRule<(), PairView, Opening> for ClaimRule {
     ghost use Rattle.ga_pairs.specs.Running.{Holds, first_view};
 
     ghost holds = { Holds };

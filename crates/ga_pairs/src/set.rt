@@ -4,14 +4,14 @@ ghost use Rattle.ga_pairs.specs.Homes.{IsPair};
 ghost use Rattle.ga_pairs.specs.Pairs.{SeatSeen, IsClosed, given, joined, left, used};
 ghost use Rattle.ga_pairs.specs.Running.{Answers};
 
-use crate::answer::Insert;
-use crate::closed::PairClosed;
 use crate::home::{home, word};
-use crate::rule::{Asked, Both, Claimed, CutOff, Try};
+use crate::insert::Insert;
+use crate::pair_closed::PairClosed;
+use crate::rule::{Asked, Both, ClaimRule, CutOff, Try};
 use crate::view::{Opening, Pair, PairView};
 use atomic_table::{Closed, Seat, Table};
 use ga_base::{NoMemory, Steps};
-use ga_shares::Cut;
+use ga_draws::Cut;
 use std::alloc::Global;
 use std::marker::{Brand, Model};
 use std::sync::ledger::Ledger;
@@ -20,7 +20,7 @@ use std::sync::ledger::Ledger;
 #[derive(Drop)]
 pub struct PairSet {
     /// The cells.
-    table: Table<(), PairView, Opening, Claimed, Global>,
+    table: Table<(), PairView, Opening, ClaimRule, Global>,
     /// How many there are.
     cells: u32,
 }

@@ -1,15 +1,15 @@
 -- The rows of the table stand in the panels' order, and their columns have the panels' form.
 use Rattle.std.proofs.Common.{◌≡◌, ◌≢◌, ℕ, Bool, true, false, List, [], ◌∷◌, refl, sym, ap, ◌∙◌}
-use Rattle.std.specs.Prelude.{codes, if◌then◌else◌}
+use Rattle.std.specs.Prelude.{codes, if◌then◌else◌, not}
 use Rattle.std.specs.List.{AllByRecursion}
 use Rattle.ga_agents.specs.Classes.{HasNames}
 use Rattle.ga_base.specs.Days.{eight_digits}
-use Rattle.ga_base.specs.Layers.{has_groups, has_requests}
+use Rattle.ga_base.specs.Layers.{has_groups, has_requests, is_empty}
 use Rattle.ga_base.specs.declared.panel.Panel.{Panel}
 use Rattle.ga_base.specs.declared.panel.Panel.TheVariants.{Visitors, Requests, RequestsStatic, NotFound, Hosts, Os, Browsers, VisitTimes, VirtualHosts, Referrers, ReferringSites, Keyphrases, StatusCodes, RemoteUser, CacheStatus, MimeType, TlsType}
 use Rattle.ga_base.specs.declared.record.Record.{Record}
 use Rattle.ga_panels.specs.Facts.{Facts}
-use Rattle.ga_panels.specs.Labels.{is_present, or_unknown, before_slash, status_group}
+use Rattle.ga_panels.specs.Labels.{or_unknown, before_slash, status_group}
 use Rattle.ga_panels.specs.Table.{row, table}
 use Rattle.ga_panels.specs.declared.setup.PanelSetup.{PanelSetup}
 use Rattle.ga_panels.proofs.RowKeys.{IsFormed, StandFrom}
@@ -17,7 +17,7 @@ use Rattle.ga_panels.proofs.RowKeys.{IsFormed, StandFrom}
 pub rows_stand : (setup : PanelSetup) (rec : Record) (facts : Facts) → StandFrom 0 (table setup rec facts)
 rows_stand setup rec facts = (refl, (refl, (refl, (refl, (refl, (refl, (refl, (refl, (refl, (refl, (refl, (refl, (refl, (refl, (refl, (refl, (refl, tt)))))))))))))))))
 
-present_some : (text : List ℕ) → is_present text ≡ true → text ≢ []
+present_some : (text : List ℕ) → not (is_empty text) ≡ true → text ≢ []
 present_some [] present = λ e. cc
 present_some (b ∷ text) present = λ e. cc
 
@@ -32,11 +32,11 @@ status_group_some status = by_tests _ _ _ _
     by_tests false false false false = λ e. cc
 
 or_unknown_some : (text : List ℕ) → or_unknown text ≢ []
-or_unknown_some text = by_test (is_present text) (present_some text)
+or_unknown_some text = by_test (is_empty text) (present_some text)
   where
-    by_test : (present : Bool) → (present ≡ true → text ≢ []) → (if present then text else codes "Unknown") ≢ []
-    by_test true some = some refl
-    by_test false some = λ e. cc
+    by_test : (empty : Bool) → (not empty ≡ true → text ≢ []) → (if empty then codes "Unknown" else text) ≢ []
+    by_test true some = λ e. cc
+    by_test false some = some refl
 
 module _ (date : ℕ) where
   -- an entry without a group

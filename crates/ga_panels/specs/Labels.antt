@@ -1,21 +1,14 @@
 -- The texts that keys have beside those of a record: numbers in a fixed number of digits, and the groups of status codes
 -- and of MIME types, which are this program's own.
-use Rattle.std.specs.Prelude.{ℕ, ◌+◌, ◌/◌, ◌%◌, ◌^◌, ◌==◌, Bool, not, if◌then◌else◌, List, [], ◌∷◌, map, length, Option, Some, None, codes}
+use Rattle.std.specs.Prelude.{ℕ, ◌+◌, ◌/◌, ◌%◌, ◌^◌, ◌==◌, if◌then◌else◌, List, [], ◌∷◌, map, Option, Some, None, codes}
 use Rattle.std.specs.List.{before_first}
+use Rattle.ga_base.specs.Bytes.{byte_of}
+use Rattle.ga_base.specs.Days.{two_digits}
+use Rattle.ga_base.specs.Layers.{is_empty}
 
--- the text is not empty: the record has it
-abbrev pub is_present : List ℕ → Bool
-is_present text = not (length text == 0)
-
--- the digits of a number at these places; 48 is the digit 0
-abbrev pub digits_at : List ℕ → ℕ → List ℕ
-digits_at places number = map (λ place. 48 + number / 10 ^ place % 10) places
-
-abbrev pub two_digits : ℕ → List ℕ
-two_digits number = digits_at (1 ∷ 0 ∷ []) number
-
+-- the last three digits of a number; 48 is the digit 0
 abbrev pub three_digits : ℕ → List ℕ
-three_digits number = digits_at (2 ∷ 1 ∷ 0 ∷ []) number
+three_digits number = map (λ place. 48 + number / 10 ^ place % 10) (2 ∷ 1 ∷ 0 ∷ [])
 
 -- the hour of a minute of the day
 abbrev pub hour_of : Option ℕ → List ℕ
@@ -32,17 +25,13 @@ status_group status =
     if digit == 4 then codes "4xx Client Errors" else
     codes "5xx Server Errors"
 
--- the byte `/`
-abbrev pub slash : ℕ
-slash = 47
-
 -- the text, or `Unknown` in place of an empty one
 abbrev pub or_unknown : List ℕ → List ℕ
-or_unknown text = if is_present text then text else codes "Unknown"
+or_unknown text = if is_empty text then codes "Unknown" else text
 
 -- what stands before the first `/`, or all of the text
 abbrev pub before_slash : List ℕ → List ℕ
-before_slash text = before_first (λ b. b == slash) text
+before_slash text = before_first (λ b. b == byte_of (codes "/")) text
 
 -- the group of a MIME type
 abbrev pub mime_group : List ℕ → List ℕ

@@ -3,13 +3,14 @@
 use Rattle.std.specs.Prelude.{◌≡◌, ℕ, Bool, true, false, not, ◌&&◌, ◌||◌, ◌==◌, if◌then◌else◌, Option, Some, None, is_some, List, [], ◌∷◌, ◌++◌, flat_map, slice_get}
 use Rattle.std.specs.Option.{option_and_then}
 use Rattle.ga_base.specs.Days.{eight_digits}
+use Rattle.ga_base.specs.Layers.{is_empty}
 use Rattle.ga_base.specs.Panels.{has_panel, is_same_panel, panel_number}
 use Rattle.ga_base.specs.declared.key.Key.{Key}
 use Rattle.ga_base.specs.declared.record.Record.{Record}
 use Rattle.ga_base.specs.declared.panel.Panel.{Panel}
 use Rattle.ga_base.specs.declared.panel.Panel.TheVariants.{Visitors, Requests, RequestsStatic, NotFound, Hosts, Os, Browsers, VisitTimes, VirtualHosts, Referrers, ReferringSites, Keyphrases, StatusCodes, RemoteUser, CacheStatus, MimeType, TlsType}
 use Rattle.ga_panels.specs.Facts.{Facts, HasFacts}
-use Rattle.ga_panels.specs.Labels.{hour_of, is_present, mime_group, status_group, text_in, three_digits}
+use Rattle.ga_panels.specs.Labels.{hour_of, mime_group, status_group, text_in, three_digits}
 use Rattle.ga_panels.specs.declared.setup.PanelSetup.{PanelSetup}
 
 -- what the table says of a record in a panel: whether it has a key there, that key's group, which is empty in a panel
@@ -37,18 +38,18 @@ table setup rec facts =
     row RequestsStatic (not missing && facts.is_static) [] rec.url true ∷
     row NotFound missing [] rec.url true ∷
     row Hosts true [] rec.host false ∷
-    row Os (is_present rec.agent) agent.system_group agent.system false ∷
-    row Browsers (is_present rec.agent) agent.category agent.browser false ∷
+    row Os (not (is_empty rec.agent)) agent.system_group agent.system false ∷
+    row Browsers (not (is_empty rec.agent)) agent.category agent.browser false ∷
     row VisitTimes (is_some rec.minute) [] (hour_of rec.minute) false ∷
-    row VirtualHosts (is_present rec.vhost) [] rec.vhost false ∷
-    row Referrers (is_present rec.referrer) [] rec.referrer false ∷
+    row VirtualHosts (not (is_empty rec.vhost)) [] rec.vhost false ∷
+    row Referrers (not (is_empty rec.referrer)) [] rec.referrer false ∷
     row ReferringSites (is_some facts.site) [] (text_in facts.site) false ∷
     row Keyphrases (is_some facts.phrase) [] (text_in facts.phrase) false ∷
     row StatusCodes (not (rec.status == 0)) (status_group rec.status) (three_digits rec.status) false ∷
-    row RemoteUser (is_present rec.user) [] rec.user false ∷
-    row CacheStatus (is_present rec.cache) [] rec.cache false ∷
-    row MimeType (is_present rec.mime) (mime_group rec.mime) rec.mime false ∷
-    row TlsType (is_present rec.tls) [] rec.tls false ∷
+    row RemoteUser (not (is_empty rec.user)) [] rec.user false ∷
+    row CacheStatus (not (is_empty rec.cache)) [] rec.cache false ∷
+    row MimeType (not (is_empty rec.mime)) (mime_group rec.mime) rec.mime false ∷
+    row TlsType (not (is_empty rec.tls)) [] rec.tls false ∷
     []
 
 -- the key of the entry that a row gives, where it gives one

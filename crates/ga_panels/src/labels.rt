@@ -1,5 +1,5 @@
 ghost use Rattle.std.specs.Prelude.{◌≡◌, ◌+◌, ◌%◌, ◌/◌, ◌<◌, ◌∷◌, []};
-ghost use Rattle.ga_base.specs.Days.{eight_digits};
+ghost use Rattle.ga_base.specs.Days.{eight_digits, two_digits};
 ghost use Rattle.ga_panels.specs.Labels as labels;
 
 use std::marker::Model;
@@ -34,9 +34,10 @@ impl<const N: usize> Digits<N> {
     }
 }
 
-/// The two digits of a number.
+/// The two digits of a number below 100.
 pub(crate) fn two_digits(number: u32) -> Digits<2>
-    ensures { result ≡ labels.two_digits number }
+    requires { number < 100 }
+    ensures { result ≡ two_digits number }
 {
     Digits {
         bytes: [digit(number / 10), digit(number)],

@@ -5,7 +5,7 @@ ghost use Rattle.ga_agents.specs.Classes.{AreNamed};
 ghost use Rattle.ga_base.specs.declared.key.Key.{Key};
 ghost use Rattle.ga_base.specs.declared.record.Record.{Record};
 ghost use Rattle.ga_panels.specs.Facts.{CanHaveKeys, Facts};
-ghost use Rattle.ga_panels.specs.declared.record_facts.TheConstants.{PANELS};
+ghost use Rattle.ga_base.specs.declared.panel.TheConstants.Panel.{ALL as ALL_PANELS};
 ghost use Rattle.ga_panels.specs.Form.{AreKeysOfDay};
 ghost use Rattle.ga_panels.specs.Table.{AreKeysOf, keys_in, table_keys};
 ghost use Rattle.ga_panels.specs.declared.setup.PanelSetup.{PanelSetup};
@@ -35,5 +35,5 @@ pub fn keys_are_of_the_day()
 /// The keys of a record are those that it has in each panel, one panel after another.
 pub fn keys_are_those_of_each_panel()
     ensures { (setup : PanelSetup) (rec : Record) (facts : Facts) →
-        flat_map (keys_in setup rec facts) PANELS ≡ table_keys setup rec facts }
+        flat_map (keys_in setup rec facts) ALL_PANELS ≡ table_keys setup rec facts }
 {}

@@ -11,12 +11,10 @@ mod labels;
 pub mod laws;
 mod record_facts;
 mod setup;
-#[cfg(test)]
-mod tests;
 mod visitors;
 
 pub use key_ref::KeyRef;
 pub use keys::keys_of;
-pub use record_facts::{PANELS, RecordFacts};
+pub use record_facts::RecordFacts;
 pub use setup::PanelSetup;
 pub use visitors::{is_excluded, visitor_of};

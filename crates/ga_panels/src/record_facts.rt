@@ -3,11 +3,12 @@ ghost use Rattle.std.specs.Option.{option_map, unwrap_or};
 ghost use Rattle.ga_agents.specs.Classes.{HasNames, IsAgent, agent_of};
 ghost use Rattle.ga_base.specs.declared.record.Record.{Record as TheRecord};
 ghost use Rattle.ga_panels.specs.declared.setup.PanelSetup.{PanelSetup as TheSetup};
-ghost use Rattle.ga_base.specs.Days.{HasEightDigits, eight_digits as the_day};
+ghost use Rattle.ga_base.specs.Days.{HasEightDigits, eight_digits as the_day, two_digits as the_hour};
+ghost use Rattle.ga_base.specs.Layers.{is_empty};
 ghost use Rattle.ga_base.specs.Records.{record_in};
 ghost use Rattle.ga_panels.specs.Facts.{CanHaveKeys};
 ghost use Rattle.ga_panels.specs.Form.{AreKeysOfDay};
-ghost use Rattle.ga_panels.specs.Labels.{is_present, status_group as the_group, text_in, three_digits as the_status, two_digits as the_hour};
+ghost use Rattle.ga_panels.specs.Labels.{status_group as the_group, text_in, three_digits as the_status};
 ghost use Rattle.ga_panels.specs.Refs.{key_of};
 ghost use Rattle.ga_panels.specs.Steps as steps;
 ghost use Rattle.ga_panels.specs.Table as table;
@@ -31,27 +32,6 @@ const NO_RESPONSE: u32 = 444;
 
 /// The minutes of an hour.
 const HOUR: u32 = 60;
-
-/// The panels, in the report's order.
-pub const PANELS: [Panel; 17] = [
-    Panel::Visitors,
-    Panel::Requests,
-    Panel::RequestsStatic,
-    Panel::NotFound,
-    Panel::Hosts,
-    Panel::Os,
-    Panel::Browsers,
-    Panel::VisitTimes,
-    Panel::VirtualHosts,
-    Panel::Referrers,
-    Panel::ReferringSites,
-    Panel::Keyphrases,
-    Panel::StatusCodes,
-    Panel::RemoteUser,
-    Panel::CacheStatus,
-    Panel::MimeType,
-    Panel::TlsType,
-];
 
 /// A record with what the panels' table looks at: what its agent is, what its referrer says, whether its URL is of a
 /// static file, and its numbers as digits. It tells the record's keys panel by panel, as borrowed texts.
@@ -146,7 +126,7 @@ impl<'a> RecordFacts<'a> {
         ensures form { IfOk result (AreKeysOfDay (record_of self.now).date) }
     {
         let mut keys = Keys::new(alloc);
-        for panel in PANELS {
+        for panel in Panel::ALL {
             push_with_group(alloc, self.key_in(panel), &mut keys)?;
         }
         Ok(keys)
@@ -189,8 +169,14 @@ impl<'a> RecordFacts<'a> {
             Panel::RequestsStatic => request(rec, panel, is_found(is_missing, self.is_static)),
             Panel::NotFound => request(rec, panel, is_missing),
             Panel::Hosts => entry(date, panel, true, rec.host),
-            Panel::Os => grouped(date, panel, has_agent, class.system_group, class.system),
-            Panel::Browsers => grouped(date, panel, has_agent, class.category, class.browser),
+            Panel::Os => entry_in_group(date, panel, has_agent, class.system_group, class.system),
+            Panel::Browsers => entry_in_group(
+                date,
+                panel,
+                has_agent,
+                class.category,
+                class.browser,
+            ),
             Panel::VisitTimes => entry(date, panel, rec.minute.is_some(), self.hour.as_str()),
             Panel::VirtualHosts => text(date, panel, rec.vhost),
             Panel::Referrers => text(date, panel, rec.referrer),
@@ -200,7 +186,7 @@ impl<'a> RecordFacts<'a> {
             Panel::RemoteUser => text(date, panel, rec.user),
             Panel::CacheStatus => text(date, panel, rec.cache),
             Panel::MimeType => {
-                grouped(
+                entry_in_group(
                     date,
                     panel,
                     !rec.mime.is_empty(),
@@ -214,7 +200,7 @@ impl<'a> RecordFacts<'a> {
 }
 
 /// The key of an entry in a group.
-fn grouped<'b>(
+fn entry_in_group<'b>(
     date: u32,
     panel: Panel,
     has_key: bool,
@@ -240,12 +226,12 @@ fn grouped<'b>(
 fn entry(date: u32, panel: Panel, has_key: bool, label: &str) -> Option<KeyRef<'_>>
     ensures { option_map key_of result ≡ steps.entry_at date panel has_key [] label.now }
 {
-    grouped(date, panel, has_key, "", label)
+    entry_in_group(date, panel, has_key, "", label)
 }
 
 /// The key of a text, where it isn't empty.
 fn text(date: u32, panel: Panel, text: &str) -> Option<KeyRef<'_>>
-    ensures { option_map key_of result ≡ steps.entry_at date panel (is_present text.now) [] text.now }
+    ensures { option_map key_of result ≡ steps.entry_at date panel (not (is_empty text.now)) [] text.now }
 {
     entry(date, panel, !text.is_empty(), text)
 }

@@ -11,10 +11,10 @@ use Rattle.ga_base.specs.declared.key.Key.{Key}
 use Rattle.ga_base.specs.declared.key.Visitor.{Visitor}
 use Rattle.ga_pairs.specs.declared.view.Pair.{Pair as Claim}
 use Rattle.ga_pool.specs.Steps.Filling.{claim_of, claims_of, lists_from, numbers_at}
-use Rattle.ga_pool.specs.Steps.Parts.{AreRowsOf}
-use Rattle.ga_pool.specs.declared.parts.Rows.{Rows}
+use Rattle.ga_pool.specs.Steps.TableInputs.{AreRowsOf}
+use Rattle.ga_pool.specs.declared.table_inputs.TableRows.{TableRows}
 use Rattle.ga_pool.proofs.AllWorkers.{HaveNumbers, keys_in, visitors_in}
-use Rattle.ga_pool.proofs.DrawnPieces.{together-cons}
+use Rattle.ga_workers.proofs.DrawnPieces.{together-cons}
 use Rattle.ga_pool.proofs.Numbered.{some-inj}
 use Rattle.ga_pool.proofs.OneWorker.{HasNumbers}
 use Rattle.ga_shards.specs.Numbers.{item_of}
@@ -83,7 +83,7 @@ module _ (items : List Key) (numbers : List (List ℕ)) (people : List Visitor) 
     pub visits : has_visit key visitor os ≡ true
 
   -- of one worker
-  one-claim : (ns vs : List ℕ) (os : List Outcome) (t : TallySeen) (r : Rows) → IsTallyOf os t → AreRowsOf t r → HasNumbers items ns t.keys → HasNumbers people vs t.visitors
+  one-claim : (ns vs : List ℕ) (os : List Outcome) (t : TallySeen) (r : TableRows) → IsTallyOf os t → AreRowsOf t r → HasNumbers items ns t.keys → HasNumbers people vs t.visitors
       → (claim : Claim) → Contains (map (claim_of ns vs) r.pairs.items) claim → IsClaim os claim
   one-claim ns vs os t r is mine hk hv claim has =
       let (pair, there, same) = contains-map-back (claim_of ns vs) r.pairs.items claim has in
@@ -98,7 +98,7 @@ module _ (items : List Key) (numbers : List (List ℕ)) (people : List Visitor) 
         visits = visits;
       }
 
-  pub claims-are : (worker : ℕ) (parts : List (List Outcome)) (ts : List TallySeen) (rows : List Rows) → AreTalliesOf parts ts → AllZip AreRowsOf ts rows → HaveNumbers keys_in items numbers worker ts
+  pub claims-are : (worker : ℕ) (parts : List (List Outcome)) (ts : List TallySeen) (rows : List TableRows) → AreTalliesOf parts ts → AllZip AreRowsOf ts rows → HaveNumbers keys_in items numbers worker ts
       → HaveNumbers visitors_in people names worker ts → (claim : Claim) → Contains (lists_from (claims_of numbers names) worker rows) claim → IsClaim (together parts) claim
   claims-are worker [] [] [] are mine hk hv claim (i, within, is) = absurd (omega arith)
   claims-are worker [] [] (r ∷ rows) are mine hk hv claim has = absurd mine
@@ -124,7 +124,7 @@ module _ (items : List Key) (numbers : List (List ℕ)) (people : List Visitor) 
     pub visitor_is : slice_get people claim.visitor ≡ Some visitor
     pub there : Contains claims claim
 
-  one-visit : (ns vs : List ℕ) (os : List Outcome) (t : TallySeen) (r : Rows) → IsTallyOf os t → AreRowsOf t r → HasNumbers items ns t.keys → HasNumbers people vs t.visitors
+  one-visit : (ns vs : List ℕ) (os : List Outcome) (t : TallySeen) (r : TableRows) → IsTallyOf os t → AreRowsOf t r → HasNumbers items ns t.keys → HasNumbers people vs t.visitors
       → (key : Key) (visitor : Visitor) → has_visit key visitor os ≡ true → HasClaim key visitor (map (claim_of ns vs) r.pairs.items)
   one-visit ns vs os t r is mine hk hv key visitor visits =
       let (l, m, known, seen, at-key, same-k, at-visitor, same-v, has) = is.visits key visitor visits in
@@ -140,7 +140,7 @@ module _ (items : List Key) (numbers : List (List ℕ)) (people : List Visitor) 
         there = contains-map (claim_of ns vs) r.pairs.items pair there;
       }
 
-  pub claims-have : (worker : ℕ) (parts : List (List Outcome)) (ts : List TallySeen) (rows : List Rows) → AreTalliesOf parts ts → AllZip AreRowsOf ts rows → HaveNumbers keys_in items numbers worker ts
+  pub claims-have : (worker : ℕ) (parts : List (List Outcome)) (ts : List TallySeen) (rows : List TableRows) → AreTalliesOf parts ts → AllZip AreRowsOf ts rows → HaveNumbers keys_in items numbers worker ts
       → HaveNumbers visitors_in people names worker ts → (key : Key) (visitor : Visitor) → has_visit key visitor (together parts) ≡ true → HasClaim key visitor (lists_from (claims_of numbers names) worker rows)
   claims-have worker [] [] [] are mine hk hv key visitor e = absurd (cc e)
   claims-have worker [] [] (r ∷ rows) are mine hk hv key visitor e = absurd mine

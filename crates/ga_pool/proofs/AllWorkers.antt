@@ -5,9 +5,9 @@ use Rattle.std.specs.List.{AllZip}
 use Rattle.ga_base.specs.declared.key.Key.{Key}
 use Rattle.ga_base.specs.declared.key.Visitor.{Visitor}
 use Rattle.ga_pool.specs.Steps.Filling.{added_at, adds, at_place, at_word, max_from, numbers_at, raised_to, raises, sum_from}
-use Rattle.ga_pool.specs.Steps.Parts.{AreRowsOf}
-use Rattle.ga_pool.specs.declared.parts.Rows.{Rows}
-use Rattle.ga_pool.proofs.DrawnPieces.{together-cons}
+use Rattle.ga_pool.specs.Steps.TableInputs.{AreRowsOf}
+use Rattle.ga_pool.specs.declared.table_inputs.TableRows.{TableRows}
+use Rattle.ga_workers.proofs.DrawnPieces.{together-cons}
 use Rattle.ga_pool.proofs.OneWorker.{HasNumbers, at-none, at-place-none, at-place-plus, at-plus, worker-adds, worker-raises}
 use Rattle.ga_summary.specs.Outcomes.{Outcome, sums_of}
 use Rattle.ga_summary.proofs.Appends.{sums_of-append}
@@ -25,7 +25,7 @@ abbrev pub visitors_in : TallySeen → List Visitor
 visitors_in t = t.visitors
 
 module _ (items : List Key) (numbers : List (List ℕ)) (k : ℕ) (key : Key) (at : slice_get items k ≡ Some key) where
-  pub all-add : (word j : ℕ) → word ≡ 3 * k + j → j < 3 → (worker : ℕ) (parts : List (List Outcome)) (ts : List TallySeen) (rows : List Rows) → AreTalliesOf parts ts → AllZip AreRowsOf ts rows
+  pub all-add : (word j : ℕ) → word ≡ 3 * k + j → j < 3 → (worker : ℕ) (parts : List (List Outcome)) (ts : List TallySeen) (rows : List TableRows) → AreTalliesOf parts ts → AllZip AreRowsOf ts rows
       → HaveNumbers keys_in items numbers worker ts → sum_from (adds numbers word) worker rows ≡ at_word word k (sums_of key (together parts))
   all-add word j w lt worker [] [] [] are mine have = sym (at-none word k)
   all-add word j w lt worker [] [] (r ∷ rows) are mine have = absurd mine
@@ -40,7 +40,7 @@ module _ (items : List Key) (numbers : List (List ℕ)) (k : ℕ) (key : Key) (a
       ap (λ (os : List Outcome). at_word word k (sums_of key os)) (together-cons p parts) ∙ ap (at_word word k) (sums_of-append key p (together parts)) ∙ at-plus word k (sums_of key p) (sums_of key (together parts)) in
       omega (arith, here, rest, whole)
 
-  pub all-raise : (worker : ℕ) (parts : List (List Outcome)) (ts : List TallySeen) (rows : List Rows) → AreTalliesOf parts ts → AllZip AreRowsOf ts rows
+  pub all-raise : (worker : ℕ) (parts : List (List Outcome)) (ts : List TallySeen) (rows : List TableRows) → AreTalliesOf parts ts → AllZip AreRowsOf ts rows
       → HaveNumbers keys_in items numbers worker ts → max_from (raises numbers k) worker rows ≡ at_place k k (sums_of key (together parts))
   all-raise worker [] [] [] are mine have = sym (at-place-none k k)
   all-raise worker [] [] (r ∷ rows) are mine have = absurd mine

@@ -11,16 +11,15 @@ use Rattle.ga_base.specs.declared.key.Key.{Key}
 use Rattle.ga_base.specs.declared.key.Visitor.{Visitor}
 use Rattle.ga_base.specs.Orders.{is_same_key}
 use Rattle.ga_pool.specs.Steps.Filling.{CanAdd, CanClaim, CanPut, numbers_at, weight_of_rows}
-use Rattle.ga_pool.specs.Steps.Parts.{AreRowsOf}
-use Rattle.ga_pool.specs.Together.{totals_in}
-use Rattle.ga_pool.specs.declared.parts.Rows.{Rows}
+use Rattle.ga_pool.specs.Steps.TableInputs.{AreRowsOf}
+use Rattle.ga_workers.specs.Together.{totals_in}
+use Rattle.ga_pool.specs.declared.table_inputs.TableRows.{TableRows}
 use Rattle.ga_pool.proofs.AllPairs.{contains-map}
 use Rattle.ga_pool.proofs.AllWorkers.{HaveNumbers, keys_in, visitors_in}
 use Rattle.ga_pool.proofs.Numbered.{one-place}
 use Rattle.ga_pool.proofs.OneWorker.{HasNumbers}
 use Rattle.ga_summary.specs.Outcomes.{Counted, Excluded, Failed, Hit, Outcome, has_key, hits_of, sums_of, totals_of}
-use Rattle.ga_summary.specs.Rows.{totals_plus}
-use Rattle.ga_outcomes.specs.Counting.{no_totals}
+use Rattle.ga_base.specs.Totals.{totals_plus, no_totals}
 use Rattle.ga_tallies.specs.Tallies.{AreTalliesOf, IsTallyOf, TallySeen, pair_of}
 use Rattle.ga_tallies.specs.declared.pairs.Pair.{Pair}
 use Rattle.ga_numbers.proofs.Same.{key-itself, same-key}
@@ -58,7 +57,7 @@ sums-within key os most fit = (
   omega (arith, fit, part-of (λ (h : Hit). h.micros) (has_key key) (hits_of os)),
 )
 
-module _ (items : List Key) (people : List Visitor) (ns vs : List ℕ) (os : List Outcome) (t : TallySeen) (r : Rows) (is : IsTallyOf os t) (mine : AreRowsOf t r)
+module _ (items : List Key) (people : List Visitor) (ns vs : List ℕ) (os : List Outcome) (t : TallySeen) (r : TableRows) (is : IsTallyOf os t) (mine : AreRowsOf t r)
     (hk : HasNumbers items ns t.keys) (hv : HasNumbers people vs t.visitors) (few : length t.keys < 4294967296) where
   long : length r.sums.items ≡ length t.keys
   long = ap length mine.sums ∙ ap length is.sums ∙ length-map t.keys (λ (x : Key). sums_of x os)
@@ -122,9 +121,9 @@ module _ (items : List Key) (people : List Visitor) (ns vs : List ℕ) (os : Lis
       same-default (x ∷ xs) (suc i) d e less = same-default xs i d e (omega arith)
 
 -- so can those of each worker
-pub all-can : (items : List Key) (people : List Visitor) (numbers names : List (List ℕ)) (worker : ℕ) (parts : List (List Outcome)) (ts : List TallySeen) (rows : List Rows) → AreTalliesOf parts ts
+pub all-can : (items : List Key) (people : List Visitor) (numbers names : List (List ℕ)) (worker : ℕ) (parts : List (List Outcome)) (ts : List TallySeen) (rows : List TableRows) → AreTalliesOf parts ts
     → AllZip AreRowsOf ts rows → HaveNumbers keys_in items numbers worker ts → HaveNumbers visitors_in people names worker ts → sum_by (λ (l : List Key). length l) (map keys_in ts) < 4294967295
-    → (i : ℕ) (d : Rows) → i < length rows → CanPut (length items) (length people) numbers names (worker + i) (get_or rows i d)
+    → (i : ℕ) (d : TableRows) → i < length rows → CanPut (length items) (length people) numbers names (worker + i) (get_or rows i d)
 all-can items people numbers names worker [] [] [] are mine hk hv few i d lt = absurd (omega arith)
 all-can items people numbers names worker [] [] (r ∷ rows) are mine hk hv few i d lt = absurd mine
 all-can items people numbers names worker [] (t ∷ ts) rows are mine hk hv few i d lt = absurd are
@@ -142,7 +141,7 @@ all-can items people numbers names worker (p ∷ parts) (t ∷ ts) (r ∷ rows) 
     (all-can items people numbers names (worker + 1) parts ts rows are.1 mine.1 hk.1 hv.1 (omega (arith, few, sum_by-cons (λ (l : List Key). length l) t.keys (map keys_in ts))) i d (omega arith))
 
 -- the weights of all rows are those of all tallies
-weigh-from : (start : Totals) (ts : List TallySeen) (rows : List Rows) → AllZip AreRowsOf ts rows → let sum = fold (λ (sum : Totals) (t : TallySeen). totals_plus sum t.totals) start ts in
+weigh-from : (start : Totals) (ts : List TallySeen) (rows : List TableRows) → AllZip AreRowsOf ts rows → let sum = fold (λ (sum : Totals) (t : TallySeen). totals_plus sum t.totals) start ts in
     start.lines + start.bytes + start.micros + sum_by weight_of_rows rows ≡ sum.lines + sum.bytes + sum.micros
 weigh-from start [] [] mine = omega arith
 weigh-from start [] (r ∷ rows) mine = absurd mine
@@ -150,5 +149,5 @@ weigh-from start (t ∷ ts) [] mine = absurd mine
 weigh-from start (t ∷ ts) (r ∷ rows) mine =
     omega (arith, weigh-from (totals_plus start t.totals) ts rows mine.1, sum_by-cons weight_of_rows r rows, ap (λ (u : Totals). u.lines) mine.0.totals, ap (λ (u : Totals). u.bytes) mine.0.totals, ap (λ (u : Totals). u.micros) mine.0.totals)
 
-pub weigh-all : (ts : List TallySeen) (rows : List Rows) → AllZip AreRowsOf ts rows → sum_by weight_of_rows rows ≡ (totals_in ts).lines + (totals_in ts).bytes + (totals_in ts).micros
+pub weigh-all : (ts : List TallySeen) (rows : List TableRows) → AllZip AreRowsOf ts rows → sum_by weight_of_rows rows ≡ (totals_in ts).lines + (totals_in ts).bytes + (totals_in ts).micros
 weigh-all ts rows mine = omega (arith, weigh-from no_totals ts rows mine)

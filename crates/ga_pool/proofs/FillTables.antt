@@ -8,9 +8,9 @@ use Rattle.ga_counts.specs.Counts.{blank, given, joined, maximum_at, tally_at}
 use Rattle.ga_counts.specs.declared.view.CountView.{CountView}
 use Rattle.ga_counts.proofs.Rows.{added-at, greater-at, zeros-at}
 use Rattle.ga_pool.specs.Steps.Filling.{lists_from, max_from, sum_from}
-use Rattle.ga_pool.specs.declared.filling.Put.{Put}
-use Rattle.ga_pool.specs.declared.parts.Rows.{Rows}
-use Rattle.ga_shares.specs.Views.{greatest_by}
+use Rattle.ga_pool.specs.declared.filling.TableSeats.{TableSeats}
+use Rattle.ga_pool.specs.declared.table_inputs.TableRows.{TableRows}
+use Rattle.ga_counts.specs.Greatest.{greatest_by}
 
 pub tally-joined : (word : ℕ) (v w : CountView) → tally_at word (joined v w) ≡ tally_at word v + tally_at word w
 tally-joined word v w = added-at v.tallies w.tallies word
@@ -51,8 +51,8 @@ last-push [] y d = refl
 last-push (x ∷ xs) y d = last-push xs y d
 
 -- numbers that are known place by place, added up
-pub sum-each : (f : ℕ → Rows → ℕ) (h : Put → ℕ) (k : ℕ) (puts : List Put) (rows : List Rows) → length puts ≡ length rows
-    → ((i : ℕ) (p : Put) (r : Rows) → i < length rows → h (get_or puts i p) ≡ f (k + i) (get_or rows i r)) → sum_by h puts ≡ sum_from f k rows
+pub sum-each : (f : ℕ → TableRows → ℕ) (h : TableSeats → ℕ) (k : ℕ) (puts : List TableSeats) (rows : List TableRows) → length puts ≡ length rows
+    → ((i : ℕ) (p : TableSeats) (r : TableRows) → i < length rows → h (get_or puts i p) ≡ f (k + i) (get_or rows i r)) → sum_by h puts ≡ sum_from f k rows
 sum-each f h k [] [] long each = refl
 sum-each f h k [] (r ∷ rows) long each = absurd (omega arith)
 sum-each f h k (p ∷ puts) [] long each = absurd (omega arith)
@@ -62,8 +62,8 @@ sum-each f h k (p ∷ puts) (r ∷ rows) long each =
     omega (arith, sum_by-cons h p puts, here, rest)
 
 -- the greatest of them
-pub max-each : (f : ℕ → Rows → ℕ) (h : Put → ℕ) (k : ℕ) (puts : List Put) (rows : List Rows) → length puts ≡ length rows
-    → ((i : ℕ) (p : Put) (r : Rows) → i < length rows → h (get_or puts i p) ≡ f (k + i) (get_or rows i r)) → greatest_by h puts ≡ max_from f k rows
+pub max-each : (f : ℕ → TableRows → ℕ) (h : TableSeats → ℕ) (k : ℕ) (puts : List TableSeats) (rows : List TableRows) → length puts ≡ length rows
+    → ((i : ℕ) (p : TableSeats) (r : TableRows) → i < length rows → h (get_or puts i p) ≡ f (k + i) (get_or rows i r)) → greatest_by h puts ≡ max_from f k rows
 max-each f h k [] [] long each = refl
 max-each f h k [] (r ∷ rows) long each = absurd (omega arith)
 max-each f h k (p ∷ puts) [] long each = absurd (omega arith)
@@ -73,8 +73,8 @@ max-each f h k (p ∷ puts) (r ∷ rows) long each =
     omega (arith, here, rest)
 
 -- and lists, one behind the other
-pub lists-each : {X : Type 0} (f : ℕ → Rows → List X) (h : Put → List X) (k : ℕ) (puts : List Put) (rows : List Rows) → length puts ≡ length rows
-    → ((i : ℕ) (p : Put) (r : Rows) → i < length rows → h (get_or puts i p) ≡ f (k + i) (get_or rows i r)) → flat_map h puts ≡ lists_from f k rows
+pub lists-each : {X : Type 0} (f : ℕ → TableRows → List X) (h : TableSeats → List X) (k : ℕ) (puts : List TableSeats) (rows : List TableRows) → length puts ≡ length rows
+    → ((i : ℕ) (p : TableSeats) (r : TableRows) → i < length rows → h (get_or puts i p) ≡ f (k + i) (get_or rows i r)) → flat_map h puts ≡ lists_from f k rows
 lists-each f h k [] [] long each = refl
 lists-each f h k [] (r ∷ rows) long each = absurd (omega arith)
 lists-each f h k (p ∷ puts) [] long each = absurd (omega arith)

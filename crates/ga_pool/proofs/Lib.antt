@@ -1,10 +1,3 @@
-pub mod PieceLines
-pub mod Alike
-pub mod DrawnPieces
-pub mod Answers
-pub mod JobMore
-pub mod Workers
-pub mod WeighedLines
 pub mod PutRows
 pub mod FillTables
 pub mod FilledTables
@@ -16,4 +9,7 @@ pub mod Standing
 pub mod CanPutRows
 pub mod SumExists
 pub mod Tables
-pub mod Together
+pub mod Visits
+pub mod OneSummary
+pub mod NamesUnder
+pub mod Strictly

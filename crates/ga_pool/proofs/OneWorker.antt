@@ -14,7 +14,7 @@ use Rattle.std.proofs.lemmas.Bool.{true≢false}
 use Rattle.ga_pool.proofs.Numbered.{one-place}
 use Rattle.ga_pool.proofs.PutRows.{added-absent, at-other}
 use Rattle.ga_summary.specs.Outcomes.{Hit, Outcome, greatest_time, hits_at, sums_of}
-use Rattle.ga_summary.specs.Rows.{no_sums, sums_plus}
+use Rattle.ga_summary.specs.SummaryRows.{no_sums, sums_plus}
 use Rattle.ga_tallies.specs.Tallies.{IsTallyOf, TallySeen}
 use Rattle.ga_numbers.proofs.Same.{key-itself, key-laws, same-key}
 

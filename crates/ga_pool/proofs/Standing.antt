@@ -20,55 +20,19 @@ use Rattle.ga_pairs.specs.declared.view.Pair.{Pair as Claim}
 use Rattle.ga_pool.specs.Stands.{IsVisit, Stands, said_of, sums_at_number}
 use Rattle.ga_pool.specs.Steps.Filled.{ClosesOver}
 use Rattle.ga_pool.specs.Steps.Filling.{adds, at_place, at_word, claims_of, lists_from, max_from, raises, sum_from}
-use Rattle.ga_pool.specs.Steps.Parts.{AreRowsOf}
-use Rattle.ga_pool.specs.Together.{totals_in}
+use Rattle.ga_pool.specs.Steps.TableInputs.{AreRowsOf}
+use Rattle.ga_workers.specs.Together.{totals_in}
 use Rattle.ga_pool.specs.declared.counted.Counted.{Counted}
-use Rattle.ga_pool.specs.declared.parts.Rows.{Rows}
+use Rattle.ga_pool.specs.declared.table_inputs.TableRows.{TableRows}
 use Rattle.ga_pool.proofs.AllPairs.{claims-are, claims-have, key-counted, key-found, visitor-used}
 use Rattle.ga_pool.proofs.AllWorkers.{HaveNumbers, all-add, all-raise, keys_in, visitors_in}
-use Rattle.ga_pool.proofs.DrawnPieces.{contains-times, together-cons}
+use Rattle.ga_workers.proofs.DrawnPieces.{contains-times, together-cons}
 use Rattle.ga_pool.proofs.Numbered.{AreNumbered}
-use Rattle.ga_pool.proofs.WeighedLines.{plus-assoc}
+use Rattle.ga_workers.proofs.Together.{totals-together}
 use Rattle.ga_shards.specs.Numbers.{NumberingSeen}
 use Rattle.ga_summary.specs.Outcomes.{Outcome, sums_of, totals_of}
-use Rattle.ga_summary.specs.Rows.{totals_plus}
-use Rattle.ga_summary.proofs.Appends.{totals_of-append}
-use Rattle.ga_outcomes.specs.Counting.{no_totals}
 use Rattle.ga_tallies.specs.Tallies.{AreTalliesOf, TallySeen, together}
 use Rattle.ga_numbers.proofs.Same.{key-laws, same-key}
-
-pub none-plus : (t : Totals) → totals_plus no_totals t ≡ t
-none-plus t = λ i. record {
-  lines = zero-add t.lines i;
-  failed = zero-add t.failed i;
-  excluded = zero-add t.excluded i;
-  hits = zero-add t.hits i;
-  bytes = zero-add t.bytes i;
-  micros = zero-add t.micros i;
-}
-
-pub totals-from : (start : Totals) (parts : List (List Outcome)) (ts : List TallySeen) → AreTalliesOf parts ts
-    → fold (λ (sum : Totals) (t : TallySeen). totals_plus sum t.totals) start ts ≡ totals_plus start (totals_of (together parts))
-totals-from start [] [] are = λ i. record {
-  lines = sym (add-none start.lines) i;
-  failed = sym (add-none start.failed) i;
-  excluded = sym (add-none start.excluded) i;
-  hits = sym (add-none start.hits) i;
-  bytes = sym (add-none start.bytes) i;
-  micros = sym (add-none start.micros) i;
-}
-  where
-    add-none : (n : ℕ) → n + 0 ≡ n
-    add-none n = omega arith
-totals-from start [] (t ∷ ts) are = absurd are
-totals-from start (p ∷ parts) [] are = absurd are
-totals-from start (p ∷ parts) (t ∷ ts) are =
-    totals-from (totals_plus start t.totals) parts ts are.1 ∙ plus-assoc start t.totals (totals_of (together parts))
-    ∙ ap (totals_plus start) (ap (λ (u : Totals). totals_plus u (totals_of (together parts))) are.0.totals ∙ sym (totals_of-append p (together parts)) ∙ ap totals_of (sym (together-cons p parts)))
-
--- the totals of all tallies are those of all outcomes
-pub totals-together : (parts : List (List Outcome)) (ts : List TallySeen) → AreTalliesOf parts ts → totals_in ts ≡ totals_of (together parts)
-totals-together parts ts are = totals-from no_totals parts ts are ∙ none-plus (totals_of (together parts))
 
 -- the numbers of each worker's items
 pub have-numbers : {T : Type 0} (own : TallySeen → List T) (lists : List (List T)) (n : NumberingSeen T) → AreNumbered lists n → (worker : ℕ) (ts : List TallySeen)
@@ -128,14 +92,14 @@ times-contains word (w ∷ words) some = by (eqb w word) refl (times-contains wo
         (suc i, omega arith, at)
 
 -- what the tables have
-pub record AreFilled (keys : NumberingSeen Key) (visitors : NumberingSeen Visitor) (rows : List Rows) (counts : ClosedSeen) (cells : List ℕ) : Type 0 where
+pub record AreFilled (keys : NumberingSeen Key) (visitors : NumberingSeen Visitor) (rows : List TableRows) (counts : ClosedSeen) (cells : List ℕ) : Type 0 where
   pub words : length counts.sums ≡ 3 * length keys.items
   pub places : length counts.maxima ≡ length keys.items
   pub sums : (word : ℕ) → slice_index counts.sums word ≡ sum_from (adds keys.numbers word) 0 rows
   pub maxima : (place : ℕ) → slice_index counts.maxima place ≡ max_from (raises keys.numbers place) 0 rows
   pub pairs : ClosesOver (lists_from (claims_of keys.numbers visitors.numbers) 0 rows) cells
 
-module _ (parts : List (List Outcome)) (ts : List TallySeen) (rows : List Rows) (keys : NumberingSeen Key) (visitors : NumberingSeen Visitor) (counts : ClosedSeen) (cells : List ℕ) (totals : Totals)
+module _ (parts : List (List Outcome)) (ts : List TallySeen) (rows : List TableRows) (keys : NumberingSeen Key) (visitors : NumberingSeen Visitor) (counts : ClosedSeen) (cells : List ℕ) (totals : Totals)
     (are : AreTalliesOf parts ts) (mine : AllZip AreRowsOf ts rows) (nk : AreNumbered (map keys_in ts) keys) (nv : AreNumbered (map visitors_in ts) visitors)
     (dk : IsDistinct is_same_key keys.items) (dv : IsDistinct is_same_visitor visitors.items) (sum : totals ≡ totals_in ts) (filled : AreFilled keys visitors rows counts cells) where
   all : List Outcome

@@ -2,15 +2,16 @@
 use Rattle.std.proofs.Common.{◌≡◌, ℕ, nat_lt, List, [], ◌∷◌, sym, ◌∙◌, subst}
 use Rattle.std.proofs.lemmas.List.Elements.{All-head, All-tail}
 use Rattle.ga_base.specs.declared.counts.Totals.{Totals}
-use Rattle.ga_pool.specs.Batches.{CountsBatch, StandsForSum}
+use Rattle.ga_pool.specs.CountedBatch.{CountsBatch, StandsForSum}
 use Rattle.ga_pool.specs.Stands.{Stands, said_by, said_of}
-use Rattle.ga_pool.specs.Together.{AreAlike, AreCounted}
+use Rattle.ga_workers.specs.Together.{AreAlike, AreCounted}
 use Rattle.ga_pool.specs.declared.counted.Counted.{Counted as TheCounted}
-use Rattle.ga_pool.proofs.WeighedLines.{over-none}
+use Rattle.ga_workers.proofs.WeighedLines.{over-none}
 use Rattle.ga_summary.specs.OneLine.{line_value}
 use Rattle.ga_summary.specs.Outcomes.{Counted, Excluded, Failed, Hit, Outcome, hits_of, totals_of}
-use Rattle.ga_summary.specs.Rows.{SummaryValue, totals_plus}
-use Rattle.ga_summary.specs.Sound.{AllCountable, IsCountable, TotalsFit}
+use Rattle.ga_summary.specs.SummaryRows.{SummaryValue}
+use Rattle.ga_base.specs.Totals.{totals_plus, TotalsFit}
+use Rattle.ga_summary.specs.Sound.{AllCountable, IsCountable}
 use Rattle.ga_summary.specs.Steps.Joined.{merged_value}
 use Rattle.ga_summary.specs.Sums.{IsSumOf}
 use Rattle.ga_summary.proofs.Appends.{IsSumOf-append}
@@ -19,7 +20,7 @@ use Rattle.ga_summary.proofs.OneLine.{IsSumOf-line}
 use Rattle.ga_summary.proofs.Soundness.{IsMerged-merged_value}
 use Rattle.ga_summary.proofs.SoundSums.{IsSound-sum}
 use Rattle.ga_tallies.specs.Tallies.{AreTalliesOf, TallySeen, together}
-use Rattle.ga_outcomes.specs.Counting.{Come}
+use Rattle.ga_outcomes.specs.LineOutcomes.{HaveOutcomes}
 use Rattle.ga_outcomes.specs.declared.setup.Setup.{Setup}
 
 -- the sum of one outcome and of those behind it
@@ -55,11 +56,11 @@ stands-for-sum os ts counted fit stands are can =
     }
 
 -- a batch whose lines were counted by workers, and whose counters fit
-pub counts-batch : (setup : Setup) (before : Totals) (lines : List (List ℕ)) (outcomes : List Outcome) (counted : TheCounted) → Come setup lines outcomes → AllCountable outcomes
+pub counts-batch : (setup : Setup) (before : Totals) (lines : List (List ℕ)) (outcomes : List Outcome) (counted : TheCounted) → HaveOutcomes setup lines outcomes → AllCountable outcomes
     → TotalsFit (totals_plus before (totals_of outcomes)) → StandsForSum outcomes counted → CountsBatch setup before lines counted
-counts-batch setup before lines outcomes counted come can fit stands = record {
+counts-batch setup before lines outcomes counted have_outcomes can fit stands = record {
   outcomes = outcomes;
-  come = come;
+  have_outcomes = have_outcomes;
   countable = can;
   fits = over-none before outcomes fit;
   sum = stands.sum;

@@ -7,8 +7,8 @@ use Rattle.ga_base.specs.declared.key.Key.{Key}
 use Rattle.ga_base.specs.declared.key.Visitor.{Visitor}
 use Rattle.ga_base.specs.Orders.{is_same_key, is_same_visitor}
 use Rattle.ga_pool.specs.Steps.Filling.{CanPut}
-use Rattle.ga_pool.specs.Steps.Parts.{AreRowsOf}
-use Rattle.ga_pool.specs.declared.parts.Rows.{Rows}
+use Rattle.ga_pool.specs.Steps.TableInputs.{AreRowsOf}
+use Rattle.ga_pool.specs.declared.table_inputs.TableRows.{TableRows}
 use Rattle.ga_pool.proofs.AllWorkers.{keys_in, visitors_in}
 use Rattle.ga_pool.proofs.CanPutRows.{all-can}
 use Rattle.ga_pool.proofs.Numbered.{AreNumbered, are-numbered}
@@ -40,9 +40,9 @@ pub visitors-numbered : (ts : List TallySeen) (n : NumberingSeen Visitor) → Is
 visitors-numbered ts n is = are-numbered is_same_visitor visitor-itself same-visitor (map visitors_in ts) n is
 
 -- the rows of all tallies can be put in
-pub can-put-all : (parts : List (List Outcome)) (ts : List TallySeen) (rows : List Rows) (keys : NumberingSeen Key) (visitors : NumberingSeen Visitor) → AreTalliesOf parts ts → AllZip AreRowsOf ts rows
+pub can-put-all : (parts : List (List Outcome)) (ts : List TallySeen) (rows : List TableRows) (keys : NumberingSeen Key) (visitors : NumberingSeen Visitor) → AreTalliesOf parts ts → AllZip AreRowsOf ts rows
     → IsNumbering is_same_key (map keys_in ts) keys → IsNumbering is_same_visitor (map visitors_in ts) visitors → sum_by (λ (l : List Key). length l) (map keys_in ts) < 4294967295
-    → (worker : ℕ) (d : Rows) → worker < length rows → CanPut (length keys.items) (length visitors.items) keys.numbers visitors.numbers worker (get_or rows worker d)
+    → (worker : ℕ) (d : TableRows) → worker < length rows → CanPut (length keys.items) (length visitors.items) keys.numbers visitors.numbers worker (get_or rows worker d)
 can-put-all parts ts rows keys visitors are mine nk nv few worker d lt =
     let hk = have-numbers keys_in (map keys_in ts) keys (keys-numbered ts keys nk) 0 ts (λ j. ap (λ (w : ℕ). get_or (map keys_in ts) w []) (zero-add j)) in
     let hv = have-numbers visitors_in (map visitors_in ts) visitors (visitors-numbered ts visitors nv) 0 ts (λ j. ap (λ (w : ℕ). get_or (map visitors_in ts) w []) (zero-add j)) in

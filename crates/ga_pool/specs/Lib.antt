@@ -1,5 +1,4 @@
--- A batch of lines counted by many workers.
+-- What is counted of a batch, in tables, and the summary for which it stands.
 pub mod Stands
-pub mod Batches
-pub mod Together
+pub mod CountedBatch
 pub mod Steps

@@ -10,7 +10,7 @@ use Rattle.ga_counts.specs.Counts.{ClosedSeen}
 use Rattle.ga_pairs.specs.Pairs.{times}
 use Rattle.ga_pool.specs.declared.counted.Counted.{Counted}
 use Rattle.ga_summary.specs.Outcomes.{Outcome, sums_of, has_visit, totals_of}
-use Rattle.ga_summary.specs.Rows.{SummaryValue, row_at, sums_at, has_pair}
+use Rattle.ga_summary.specs.SummaryRows.{SummaryValue, row_at, sums_at, has_pair}
 
 -- what was counted: the totals, which keys there are, the sums of a key, and whether it has a visitor
 pub record Said : Type 0 where

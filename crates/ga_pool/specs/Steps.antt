@@ -1,6 +1,5 @@
--- What only inner contracts and proofs say: how workers draw pieces, and what they add to tables.
-pub mod Drawing
-pub mod Limits
-pub mod Parts
+-- What only inner contracts and proofs say: what workers put into tables, and how the rows of a summary come from them.
+pub mod TableInputs
 pub mod Filling
 pub mod Filled
+pub mod CountedRows

@@ -1,14 +1,15 @@
 ghost use Rattle.std.specs.Prelude.{◌≡◌, ◌+◌, ◌*◌, ◌<◌, ◌≤◌, ◌++◌, ◌^◌, ℕ, All, IfOk, IfSome, flat_map, max, length, slice_index, slice_index_or, sum_by, vec_len};
 ghost use Rattle.ga_base.specs.declared.counts.TheConstants.{LIMIT};
+ghost use Rattle.ga_base.specs.declared.limits.TheConstants.{MAX_JOBS};
 ghost use Rattle.ga_counts.specs.Counts.{blank, given as seat_of, left as left_of, maximum_at, tally_at};
 ghost use Rattle.ga_pairs.specs.Pairs.{given, left as claims_left};
 ghost use Rattle.ga_pool.specs.Steps.Filled.{AreTablesOf, CanBePut, CanPutAll, ClosesOver, HasPut, IsSeated};
 ghost use Rattle.ga_pool.specs.Steps.Filling.{adds, claims_of, lists_from, max_from, raises, sum_from, weight_of_rows};
-ghost use Rattle.ga_shares.specs.Views.{greatest_by};
-ghost use Rattle.ga_summary.specs.Sound.{TotalsFit};
+ghost use Rattle.ga_counts.specs.Greatest.{greatest_by};
+ghost use Rattle.ga_base.specs.Totals.{TotalsFit};
 
-use crate::parts::Rows;
 use crate::putting::{claim_pairs, put_rows};
+use crate::table_inputs::TableRows;
 use ga_base::{Key, NoMemory, Totals, Visitor};
 use ga_counts::{CountClosed, CountSeat, CountTable};
 use ga_pairs::{PairClosed, PairSeat, PairSet};
@@ -18,11 +19,11 @@ use std::thread::{self, Threads};
 
 /// What a worker begins with.
 #[derive(Drop)]
-struct Load {
+struct FillTask {
     /// Its number.
     worker: u32,
     /// What it puts in.
-    rows: Rows,
+    rows: TableRows,
     /// Its seat at the counts.
     counts: CountSeat,
     /// Its seat at the pairs.
@@ -31,7 +32,7 @@ struct Load {
 
 /// What a worker gives back: its seats, which know what was put in.
 #[derive(Drop)]
-struct Put {
+struct TableSeats {
     /// Its seat at the counts.
     counts: CountSeat,
     /// Its seat at the pairs.
@@ -44,11 +45,11 @@ pub(crate) fn fill<R: Threads + Sync>(
     alloc: Global,
     keys: &Numbering<Key>,
     visitors: &Numbering<Visitor>,
-    rows: Vec<Rows>,
+    rows: Vec<TableRows>,
     totals: Totals,
 ) -> Result<(CountClosed, PairClosed), NoMemory>
     requires some { 1 ≤ vec_len rows }
-    requires most { vec_len rows ≤ 16 }
+    requires most { vec_len rows ≤ MAX_JOBS }
     requires each { CanPutAll keys.now visitors.now rows.items }
     requires fit { TotalsFit totals }
     requires whole { sum_by weight_of_rows rows.items ≡ totals.lines + totals.bytes + totals.micros }
@@ -65,7 +66,7 @@ pub(crate) fn fill<R: Threads + Sync>(
     let most = totals.lines + totals.bytes + totals.micros;
     let (counts, mut count_seat) = CountTable::open(alloc, words, keys.len(), workers + 1, most)?;
     let (pairs, mut pair_seat) = PairSet::open(alloc, 2 * asked + 1, asked, workers + 1)?;
-    let loads = loads_of(
+    let loads = fill_tasks(
         alloc,
         &counts,
         &mut count_seat,
@@ -75,17 +76,17 @@ pub(crate) fn fill<R: Threads + Sync>(
     )?;
     let shared_counts = &counts;
     let shared_pairs = &pairs;
-    let put = move |load: Load| -> Put
+    let put = move |load: FillTask| -> TableSeats
         requires { CanBePut shared_counts.now shared_pairs.now keys.now visitors.now load }
         ensures { HasPut shared_counts.entry.now shared_pairs.entry.now keys.entry.now visitors.entry.now load result }
-    { put_load(shared_counts, shared_pairs, keys, visitors, load) };
+    { fill_tables(shared_counts, shared_pairs, keys, visitors, load) };
     let puts = thread::map_vec(rt, loads, &put)?;
     join_all(&counts, &mut count_seat, &pairs, &mut pair_seat, puts);
     Ok((counts.close(count_seat), pairs.close(pair_seat)))
 }
 
 /// How many pairs the rows have, where a set of twice as many cells has numbers of 32 bits.
-fn pairs_in(rows: &[Rows]) -> Option<u32>
+fn pairs_in(rows: &[TableRows]) -> Option<u32>
     ensures many { IfSome result (λ pairs. pairs ≡ sum_by (λ one. length one.pairs.items) rows.now) }
     ensures fits { IfSome result (λ pairs. 2 * pairs + 1 < 2 ^ 32) }
 {
@@ -101,15 +102,15 @@ fn pairs_in(rows: &[Rows]) -> Option<u32>
 }
 
 /// A load for each worker: its rows, and its seats.
-fn loads_of(
+fn fill_tasks(
     alloc: Global,
     counts: &CountTable,
     count_seat: &mut CountSeat,
     pairs: &PairSet,
     pair_seat: &mut PairSeat,
-    rows: Vec<Rows>,
-) -> Result<Vec<Load>, NoMemory>
-    requires few { vec_len rows ≤ 16 }
+    rows: Vec<TableRows>,
+) -> Result<Vec<FillTask>, NoMemory>
+    requires few { vec_len rows ≤ MAX_JOBS }
     requires count_table { count_seat.old.table ≡ counts.now.table }
     requires count_view { count_seat.old.view ≡ blank counts.now.opening.words counts.now.opening.maxima (vec_len rows + 1) (sum_by weight_of_rows rows.items) }
     requires fits { sum_by weight_of_rows rows.items ≤ 3 * LIMIT }
@@ -126,7 +127,7 @@ fn loads_of(
     let mut loads = Vec::with_capacity(alloc, rows.len())?;
     let mut worker = 0;
     for rows in rows {
-        let load = load_of(counts, count_seat, pairs, pair_seat, worker, rows);
+        let load = fill_task(counts, count_seat, pairs, pair_seat, worker, rows);
         loads.push(load)?;
         worker += 1;
     }
@@ -134,14 +135,14 @@ fn loads_of(
 }
 
 /// The load of a worker, with seats that are split off for it.
-fn load_of(
+fn fill_task(
     counts: &CountTable,
     count_seat: &mut CountSeat,
     pairs: &PairSet,
     pair_seat: &mut PairSeat,
     worker: u32,
-    rows: Rows,
-) -> Load
+    rows: TableRows,
+) -> FillTask
     requires count_table { count_seat.old.table ≡ counts.now.table }
     requires count_share { 1 < count_seat.old.view.share }
     requires fits { weight_of_rows rows ≤ 3 * LIMIT }
@@ -159,7 +160,7 @@ fn load_of(
 {
     let weight = rows.totals.lines + rows.totals.bytes + rows.totals.micros;
     let count = rows.pairs.len() as u32;
-    Load {
+    FillTask {
         worker,
         rows,
         counts: counts.split(count_seat, 1, weight),
@@ -168,17 +169,17 @@ fn load_of(
 }
 
 /// Puts a worker's rows into the tables.
-fn put_load(
+fn fill_tables(
     counts: &CountTable,
     pairs: &PairSet,
     keys: &Numbering<Key>,
     visitors: &Numbering<Visitor>,
-    load: Load,
-) -> Put
+    load: FillTask,
+) -> TableSeats
     requires { CanBePut counts.now pairs.now keys.now visitors.now load }
     ensures { HasPut counts.now pairs.now keys.now visitors.now load result }
 {
-    let Load {
+    let FillTask {
         worker,
         rows,
         counts: mut count_seat,
@@ -186,7 +187,7 @@ fn put_load(
     } = load;
     put_rows(counts, &mut count_seat, keys, worker, &rows.sums);
     claim_pairs(pairs, &mut pair_seat, keys, visitors, worker, &rows.pairs);
-    Put {
+    TableSeats {
         counts: count_seat,
         pairs: pair_seat,
     }
@@ -198,7 +199,7 @@ fn join_all(
     count_seat: &mut CountSeat,
     pairs: &PairSet,
     pair_seat: &mut PairSeat,
-    puts: Vec<Put>,
+    puts: Vec<TableSeats>,
 )
     requires count_table { count_seat.old.table ≡ counts.now.table }
     requires pair_table { pair_seat.old.table ≡ pairs.now.table }
@@ -212,7 +213,7 @@ fn join_all(
     ensures asked { pair_seat.new.claims.asked ≡ pair_seat.old.claims.asked ++ flat_map (λ put. put.pairs.claims.asked) puts.items }
 {
     for put in puts {
-        let Put {
+        let TableSeats {
             counts: its_counts,
             pairs: its_pairs,
         } = put;

@@ -1,25 +1,21 @@
-//! A batch of log lines counted by many workers, with one answer whatever the schedule.
+//! A batch of log lines counted by many workers into tables that they share, with one answer whatever the schedule.
 //!
-//! Start with `count_batch`: the batch is cut into pieces of whole lines, workers draw them one by one and count each into a
-//! tally of their own, and then put the tallies into tables that they share. What stands in the tables is a `Counted`;
-//! `specs/Stands.antt` says for which summary it stands, `specs/Batches.antt` of which lines. Many batches are counted by
-//! `count_on`, which gives the tallies back, as `specs/Together.antt` says; `put_together` comes once, behind the last.
+//! Start with `count_batch`: the batch is counted by workers as `ga_workers` does, each into a tally of its own, and then put
+//! into the tables. What stands in them is a `Counted`, of which `Counted::summary` makes the summary. `specs/Stands.antt` says
+//! for which summary it stands, `specs/Batches.antt` of which lines.
 #![tactic(auto)]
 
-mod beside;
 mod counted;
-mod drawing;
-mod fault;
+mod counted_rows;
 mod filling;
-mod limits;
-mod parts;
-mod pieces;
+mod key_names;
 mod pool;
 mod putting;
+mod table_inputs;
 
 pub use counted::Counted;
-pub use fault::PoolFault;
-pub use pool::{count_batch, count_on, new_tallies, put_together};
-
-#[cfg(test)]
-mod tests;
+pub use ga_batches::Batcher;
+pub use ga_draws::{DrawSeat, Draws};
+pub use ga_outcomes::Setup;
+pub use ga_workers::PoolFault;
+pub use pool::count_batch;

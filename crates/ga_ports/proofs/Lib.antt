@@ -1,6 +1,5 @@
 pub mod Places
-pub mod FileStretches
-pub mod Listing
-pub mod OutStretches
+pub mod FileTraces
+pub mod OutTraces
 pub mod Results
 pub mod Sure

@@ -3,16 +3,17 @@ use Rattle.std.proofs.Common.{◌≡◌, ℕ, ◌<◌, ◌≤◌, ◌-◌, ◌^�
 use Rattle.std.specs.Option.{unwrap_or, ForSome}
 use Rattle.std.specs.Str.{bytes_eq}
 use Rattle.std.proofs.lemmas.Bool.{cases_lt}
-use Rattle.ga_ports.specs.Counts.{Rose}
+use Rattle.ga_counters.specs.Counts.{HasListed, Rose}
 use Rattle.ga_ports.specs.Files.{Contents, FilesView, Opens, Sizes, Reads, OpenFailsIfListed, FailsIfListed, ReadsIfListed, found, is_absent}
 use Rattle.ga_ports.specs.Outs.{OutsView, target, is_full}
-use Rattle.ga_ports.specs.Stretch.{FilesCall, FilesWent, OutsWent, HasListed, Narrows}
-use Rattle.ga_ports.specs.Stretch.FilesCall.{open_call, size_call, read_call}
-use Rattle.ga_ports.specs.Stretch.FilesWent.{no_files_call, one_files_call, files_then}
+use Rattle.ga_ports.specs.Trace.{FilesCall, FilesTrace, OutsTrace, Narrows}
+use Rattle.ga_ports.specs.Trace.FilesCall.{open_call, size_call, read_call}
+use Rattle.ga_ports.specs.Trace.FilesTrace.{no_files_call, one_files_call, files_then}
 use Rattle.ga_ports.specs.Sure.{AreSureFiles, NoFileFaults, AreSureOuts, NoOutFaults}
 use Rattle.ga_ports.specs.declared.outs.To.{To}
-use Rattle.ga_ports.proofs.FileStretches.{files-stay, told-at}
-use Rattle.ga_ports.proofs.OutStretches.{outs-stay, outs-fail-as-listed}
+use Rattle.ga_ports.proofs.FileTraces.{files-stay}
+use Rattle.ga_counters.proofs.Listing.{told-at}
+use Rattle.ga_ports.proofs.OutTraces.{outs-stay, outs-fail-as-listed}
 
 -- what a name gives where all others give an empty file
 pub found-or_empty : (name : List ℕ) (named : List (List ℕ × List ℕ)) → found name (Some []) named ≡ Some (unwrap_or (found name None named) [])
@@ -61,7 +62,7 @@ call-fine sure (open_call o e) = opens-fine _ _ _ _ sure o e
 call-fine sure (size_call s e) = sizes-fine _ _ _ sure s e
 call-fine sure (read_call r e) = reads-fine _ _ _ _ _ sure r e
 
-files-stay-sure : (old new : FilesView) → AreSureFiles old → FilesWent old new → AreSureFiles new
+files-stay-sure : (old new : FilesView) → AreSureFiles old → FilesTrace old new → AreSureFiles new
 files-stay-sure old new sure went =
     let kept = files-stay went in
     record {
@@ -69,7 +70,7 @@ files-stay-sure old new sure went =
       names = subst (λ (contents : Option Contents). ForSome contents (λ contents. is_some contents.others ≡ true)) (sym kept.contents) sure.names;
     }
 
-pub no-file-faults : {old new : FilesView} → AreSureFiles old → FilesWent old new → NoFileFaults old new
+pub no-file-faults : {old new : FilesView} → AreSureFiles old → FilesTrace old new → NoFileFaults old new
 no-file-faults sure no_files_call = record { faults = refl; absent = refl }
 no-file-faults sure (one_files_call call) = call-fine sure call
 no-file-faults sure (files_then a b) =
@@ -86,7 +87,7 @@ none-listed : (from to : ℕ) → HasListed [] from to → ⊥
 none-listed from to h = absurd (omega (arith, h.is_listed.1))
 
 -- a target's faults rise only with the number of calls that found no memory
-pub no-out-faults : (old new : OutsView) → AreSureOuts old → OutsWent old new → new.starved ≡ old.starved → old.starved < 2 ^ 64 - 1 → NoOutFaults old new
+pub no-out-faults : (old new : OutsView) → AreSureOuts old → OutsTrace old new → new.starved ≡ old.starved → old.starved < 2 ^ 64 - 1 → NoOutFaults old new
 no-out-faults old new sure went fed below = λ to. by-half to (cases_lt (target to old).faults (target to new).faults)
   where
     because : (to : To) → HasListed [] old.calls new.calls ⊎ (is_full (target to new).room ≡ true) ⊎ Rose old.starved new.starved → ⊥

@@ -2,7 +2,7 @@
 use Rattle.std.specs.Prelude.{◌≡◌, ℕ, ◌-◌, ◌<◌, ◌≤◌, ◌==◌, ◌&&◌, ◌||◌, Bool, true, false, if◌then◌else◌, List, [], ◌∷◌, length, take, drop, min, Option, Some, None, is_none, nat_lt, Result, OnOk, OnErr, IfOk, IfSome}
 use Rattle.std.specs.Result.{is_err}
 use Rattle.std.specs.Str.{bytes_eq}
-use Rattle.ga_ports.specs.Counts.{raised, is_due}
+use Rattle.ga_counters.specs.Counts.{raised, is_due}
 use Rattle.ga_ports.specs.declared.file_counts.FileCounts.{FileCounts}
 
 -- what each name gives: those that are named, the first of a name counting, and all the others

@@ -1,9 +1,8 @@
 -- What the outside is to the program: files to read and targets to write.
-pub mod Counts
 pub mod Places
 pub mod Files
 pub mod Outs
-pub mod Stretch
+pub mod Trace
 pub mod MemFiles
 pub mod MemOuts
 pub mod SureFiles

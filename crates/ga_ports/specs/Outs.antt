@@ -1,7 +1,7 @@
 -- What a form of `Outs` is to the program, and what each call does to that.
 use Rattle.std.specs.Prelude.{◌≡◌, ℕ, ◌-◌, ◌<◌, ◌≤◌, ◌==◌, ◌||◌, Bool, true, false, List, [], ◌++◌, length, take, Option, Some, None, option_map, min, Result, OnOk, OnErr, IfOk, IfSome, IsTrue}
 use Rattle.std.specs.Result.{is_err}
-use Rattle.ga_ports.specs.Counts.{raised, is_due}
+use Rattle.ga_counters.specs.Counts.{raised, is_due}
 use Rattle.ga_ports.specs.declared.outs.To.{To}
 use Rattle.ga_ports.specs.declared.outs.To.TheVariants.{Stdout, Stderr, File}
 

@@ -1,4 +1,4 @@
--- Views over which no call can fail, whatever form has them, and what that says of a stretch of calls.
+-- Views over which no call can fail, whatever form has them, and what that says of a trace of calls.
 use Rattle.std.specs.Prelude.{◌≡◌, [], Some, None, is_some, true}
 use Rattle.std.specs.Option.{ForSome}
 use Rattle.ga_ports.specs.Files.{FilesView}

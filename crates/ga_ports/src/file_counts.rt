@@ -1,5 +1,5 @@
 ghost use Rattle.std.specs.Prelude.{◌≡◌};
-ghost use Rattle.ga_ports.specs.Counts.{raised};
+ghost use Rattle.ga_counters.specs.Counts.{raised};
 ghost use Rattle.ga_ports.specs.Files as files;
 ghost use Rattle.ga_ports.specs.Files.{asks, calls_once, fails_once, gives, measures};
 

@@ -2,10 +2,7 @@ ghost use Rattle.std.specs.Prelude.{IsTrue};
 ghost use Rattle.ga_ports.specs.Files.{FilesView, Opens, Sizes, Reads, OpenFailsIfListed, FailsIfListed, ReadsIfListed};
 
 use ga_base::Text;
-
-/// A call of the outside failed. Its count of faults tells that it did.
-#[derive(Clone, Copy, Debug, PartialEq, Eq)]
-pub struct Failed;
+use ga_counters::Failed;
 
 /// Files to read, one of which is open at a time.
 ///

@@ -1,4 +1,5 @@
-//! The outside: traits by which a run reads files and writes its report, and forms of them in memory.
+//! The outside: traits by which a run reads files and writes its report, and forms of them in memory. The disk of its database
+//! is `ga_disk`'s, and can be had here too.
 //!
 //! Contracts see a form as one plain record (`specs/Files.antt`, `specs/Outs.antt`), and each call says the whole
 //! new record. Start with `Files` and `Outs`; `MemFiles` and `MemOuts` tell their contents and which
@@ -10,7 +11,6 @@ mod file_counts;
 mod files;
 mod gate;
 pub mod laws;
-mod listed;
 mod mem_files;
 mod mem_outs;
 mod outs;
@@ -18,11 +18,11 @@ mod sink;
 mod sure_files;
 mod sure_outs;
 mod target_counts;
-#[cfg(test)]
-mod tests;
 
 pub use file_counts::{FileCounts, is_short};
-pub use files::{Failed, Files};
+pub use files::Files;
+pub use ga_counters::Failed;
+pub use ga_disk::{Disk, MemDisk};
 pub use gate::{Gate, HoldGate, NoGate};
 pub use mem_files::MemFiles;
 pub use mem_outs::MemOuts;

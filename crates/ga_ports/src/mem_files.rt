@@ -2,9 +2,9 @@ ghost use Rattle.std.specs.Prelude.{◌≡◌, OnOk, OnErr};
 ghost use Rattle.ga_ports.specs.MemFiles.{no_files, after_growth, after_renaming, after_listing, files_view};
 
 use crate::contents::{Content, append, change_name, copy_from, find, open_bytes};
-use crate::listed::is_due;
 use crate::{Failed, FileCounts, Files, is_short};
 use ga_base::{NoMemory, Text};
+use ga_counters::is_due;
 use std::alloc::Global;
 use std::marker::Model;
 

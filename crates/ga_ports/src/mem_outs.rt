@@ -1,10 +1,10 @@
 ghost use Rattle.std.specs.Prelude.{◌≡◌, OnOk, OnErr, option_map};
 ghost use Rattle.ga_ports.specs.MemOuts.{no_outs, after_room, after_listing, outs_view, sink};
 
-use crate::listed::is_due;
 use crate::sink::Sink;
 use crate::{Failed, Outs, To};
 use ga_base::{NoMemory, Text};
+use ga_counters::is_due;
 use std::alloc::Global;
 use std::marker::Model;
 

@@ -36,7 +36,7 @@ impl Sink {
             self.counts.fail();
             return Err(Failed);
         }
-        let count = fitting(self.room, piece.len());
+        let count = fitting_count(self.room, piece.len());
         if self.bytes.extend_from_slice(&piece[..count]).is_err() {
             self.counts.fail();
             *starved = starved.saturating_add(1);
@@ -49,7 +49,7 @@ impl Sink {
 }
 
 /// How many of so many bytes fit in a room.
-fn fitting(room: Option<u64>, count: usize) -> usize
+fn fitting_count(room: Option<u64>, count: usize) -> usize
     ensures { result ≡ outs.fitting room count }
 {
     match room {

@@ -1,5 +1,5 @@
 ghost use Rattle.std.specs.Prelude.{◌≡◌};
-ghost use Rattle.ga_ports.specs.Counts.{raised};
+ghost use Rattle.ga_counters.specs.Counts.{raised};
 
 /// The counts of one target of `Outs`. Each stands still at `2^64 - 1`.
 #[derive(Clone, Copy, Debug, PartialEq, Eq)]

@@ -1,9 +1,7 @@
 ghost use Rattle.std.specs.Prelude.{◌≡◌, ◌++◌, ◌∷◌, [], All, IfOk, OnOk, false, map, string_bytes};
-ghost use Rattle.std.specs.Thread.{IsSync};
 ghost use Rattle.serde_json.specs.Data.{string};
 ghost use Rattle.serde_json.specs.View.{items_of, members_view};
 ghost use Rattle.serde_json.specs.Written.{compact_text, items_text};
-ghost use Rattle.ga_base.specs.Layers.{has_groups};
 ghost use Rattle.ga_report.specs.Printable.{HasHits, IsPrintable};
 ghost use Rattle.ga_print.specs.Json.{general_tree, json_text, panel_tree, put_all, row_tree};
 ghost use Rattle.ga_print.specs.Steps.Texts.{object_text, panel_text, text_member, texts_text};
@@ -11,12 +9,15 @@ ghost use Rattle.ga_print.specs.Steps.Texts.{object_text, panel_text, text_membe
 use crate::members::{Members, put};
 use crate::panel_name::panel_name;
 use crate::trees::{general_tree, row_tree};
-use ga_base::{Bytes, NoMemory, Panel};
+use ga_base::{Bytes, NoMemory, Panel, map_pieces};
 use ga_report::{General, PanelList, Report, Row};
 use serde_json::Value;
 use std::alloc::Global;
 use std::marker::Sync;
-use std::thread::{self, Threads};
+use std::thread::Threads;
+
+/// No more panels there are, so that each may be a piece by itself.
+const PIECES: u32 = 32;
 
 /// A panel's text.
 #[derive(Drop)]
@@ -25,10 +26,17 @@ pub(crate) struct PanelText {
     pub(crate) text: String,
 }
 
-/// The report as JSON, which ends with a line feed (own profile). With more jobs than one, the text of each panel is made in a
-/// thread of its own.
-#[tactic(auto, unfolding(crate::specs::Json::json_text))]
-pub fn json<R: Threads + Sync>(
+/// The report as JSON, which ends with a line feed (own profile).
+pub fn json(alloc: Global, report: &Report) -> Result<Bytes, NoMemory>
+    requires { IsPrintable report.now }
+    ensures { IfOk result (λ text. text ≡ json_text report.now) }
+{
+    let panels = panel_texts(alloc, report.panels.items())?;
+    report_text(alloc, report, panels)
+}
+
+/// The report as JSON, as `json` writes it. With more jobs than one, the text of each panel is made in a thread of its own.
+pub fn json_with<R: Threads + Sync>(
     rt: &R,
     alloc: Global,
     report: &Report,
@@ -37,10 +45,24 @@ pub fn json<R: Threads + Sync>(
     requires { IsPrintable report.now }
     ensures { IfOk result (λ text. text ≡ json_text report.now) }
 {
+    let pieces = if jobs > 1 { PIECES } else { 1 };
+    let piece = move |lists: &[PanelList]| -> Result<Vec<PanelText>, NoMemory>
+        requires { All (λ list. All HasHits list.rows) lists.now }
+        ensures { IfOk result (λ texts. map text_member texts.items ≡ map panel_text lists.now) }
+    { panel_texts(alloc, lists) };
+    let panels = map_pieces(rt, pieces, 2, report.panels.items(), &piece)?;
+    report_text(alloc, report, panels)
+}
+
+/// The report as JSON, whose panels have these texts.
+#[tactic(auto, unfolding(crate::specs::Json::json_text))]
+fn report_text(alloc: Global, report: &Report, panels: Vec<PanelText>) -> Result<Bytes, NoMemory>
+    requires { map text_member panels.items ≡ map panel_text report.now.panels }
+    ensures { IfOk result (λ text. text ≡ json_text report.now) }
+{
     let mut members = Members::new(alloc);
     let general = general_text(alloc, &report.general)?;
     put(&mut members, alloc, "general", Value::from(general))?;
-    let panels = panel_texts(rt, alloc, report.panels.items(), jobs > 1)?;
     put_panels(&mut members, alloc, panels)?;
     let mut text = object_text(alloc, &members)?;
     text.push('\n')?;
@@ -54,37 +76,8 @@ fn general_text(alloc: Global, general: &General) -> Result<String, NoMemory>
     Ok(general_tree(alloc, general)?.to_string(alloc)?)
 }
 
-/// The texts of panels, which are made side by side or one after the other.
-#[cycle(writing)]
-fn panel_texts<R: Threads + Sync>(
-    rt: &R,
-    alloc: Global,
-    lists: &[PanelList],
-    side_by_side: bool,
-) -> Result<Vec<PanelText>, NoMemory>
-    requires { All (λ list. All HasHits list.rows) lists.now }
-    ensures { IfOk result (λ texts. map text_member texts.items ≡ map panel_text lists.now) }
-{
-    if !side_by_side || lists.len() < 2 {
-        return texts_in_turn(alloc, lists);
-    }
-    let (low, high) = lists.split_at(lists.len() / 2);
-    let front = move || -> Result<Vec<PanelText>, NoMemory>
-        requires { IsSync R.row × All (λ list. All HasHits list.rows) low.now }
-        ensures { IfOk result (λ texts. map text_member texts.items ≡ map panel_text low.entry.now) }
-    { panel_texts(rt, alloc, low, true) };
-    let back = move || -> Result<Vec<PanelText>, NoMemory>
-        requires { IsSync R.row × All (λ list. All HasHits list.rows) high.now }
-        ensures { IfOk result (λ texts. map text_member texts.items ≡ map panel_text high.entry.now) }
-    { panel_texts(rt, alloc, high, true) };
-    let (front, back) = thread::join(rt, front, back);
-    let mut texts = front?;
-    texts.append(&mut back?)?;
-    Ok(texts)
-}
-
-/// The texts of panels, one after the other.
-fn texts_in_turn(alloc: Global, lists: &[PanelList]) -> Result<Vec<PanelText>, NoMemory>
+/// The texts of panels.
+fn panel_texts(alloc: Global, lists: &[PanelList]) -> Result<Vec<PanelText>, NoMemory>
     requires { All (λ list. All HasHits list.rows) lists.now }
     ensures { IfOk result (λ texts. map text_member texts.items ≡ map panel_text lists.now) }
 {
@@ -106,19 +99,9 @@ fn text_of(alloc: Global, list: &PanelList) -> Result<String, NoMemory>
     ensures { IfOk result (λ text. string_bytes text ≡ compact_text (panel_tree list.now)) }
 {
     let mut text = String::from_str(alloc, "{\"data\":[")?;
-    write_rows(&mut text, alloc, has_groups(list.panel), list.rows.items())?;
+    write_rows(&mut text, alloc, list.panel.has_groups(), list.rows.items())?;
     text.push('}')?;
     Ok(text)
-}
-
-/// Whether the entries of a panel stand in groups.
-fn has_groups(panel: Panel) -> bool
-    ensures { result ≡ has_groups panel }
-{
-    matches!(
-        panel,
-        Panel::Os | Panel::Browsers | Panel::StatusCodes | Panel::MimeType
-    )
 }
 
 /// Writes the rows of a panel, and the bracket behind them.
@@ -171,7 +154,7 @@ fn object_text(alloc: Global, members: &Members) -> Result<String, NoMemory>
         if later {
             text.push(',')?;
         }
-        text.push_str(quoted(alloc, name.as_str())?.as_str())?;
+        text.push_str(quote(alloc, name.as_str())?.as_str())?;
         text.push(':')?;
         text.push_str(value.as_str().unwrap_or(""))?;
         later = true;
@@ -181,7 +164,7 @@ fn object_text(alloc: Global, members: &Members) -> Result<String, NoMemory>
 }
 
 /// A name as JSON has it.
-fn quoted(alloc: Global, name: &str) -> Result<String, NoMemory>
+fn quote(alloc: Global, name: &str) -> Result<String, NoMemory>
     ensures { IfOk result (λ text. string_bytes text ≡ compact_text (string name.now)) }
 {
     Ok(Value::try_from_str(alloc, name)?.to_string(alloc)?)

@@ -1,6 +1,6 @@
 //! A report as text: CSV and JSON.
 //!
-//! Start with `csv` and `json`. `specs/Csv.antt` and `specs/Json.antt` have the layouts, over what the libraries of
+//! Start with `csv` and `json`; `json_with` shares the work among threads. `specs/Csv.antt` and `specs/Json.antt` have the layouts, over what the libraries of
 //! those names say of the texts that they write.
 #![tactic(auto)]
 
@@ -12,7 +12,4 @@ mod percent;
 mod trees;
 
 pub use csv_text::csv;
-pub use json_text::json;
-
-#[cfg(test)]
-mod tests;
+pub use json_text::{json, json_with};

@@ -1,4 +1,4 @@
--- A report on what is told is one on the same told in another order.
+-- A report on a source is one on the same rows in another order.
 use Rattle.std.proofs.Common.{◌≡◌, ℕ, ◌&&◌, Bool, cond, List, [], ◌∷◌, sum_by, sym, ap, ◌∙◌, subst}
 use Rattle.std.specs.List.Sorted.{IsPermutation}
 use Rattle.std.proofs.lemmas.List.Elements.{All-from_recursion, recursion_from_All}
@@ -11,20 +11,20 @@ use Rattle.ga_report.specs.declared.report.General.{General}
 use Rattle.ga_report.specs.declared.report.PanelList.{PanelList}
 use Rattle.ga_report.specs.declared.report.Report.{Report}
 use Rattle.ga_report.specs.declared.report.Row.{Row}
-use Rattle.ga_report.specs.Told.{TellAlike, ToldRow, ToldValue}
+use Rattle.ga_report.specs.Source.{SameSource, SourceRow, SourceValue}
 use Rattle.ga_report.specs.Items.{AreItems, is_child, is_of, is_row, item_of}
 use Rattle.ga_report.specs.Reports.{IsPanelList, IsReport, IsRow, Pairwise, general_of, panels_of}
-use Rattle.ga_report.specs.Sound.{day_rows}
+use Rattle.ga_report.specs.SoundRows.{day_rows}
 use Rattle.ga_report.proofs.ItemSums.{item-moved}
 use Rattle.ga_report.proofs.Lists.{all-weaker, sum_by-filter}
 
-module _ (xs ys : List ToldRow) (moved : IsPermutation xs ys) where
-  days-moved : (f : ToldRow → ℕ) → sum_by f (day_rows ys) ≡ sum_by f (day_rows xs)
+module _ (xs ys : List SourceRow) (moved : IsPermutation xs ys) where
+  days-moved : (f : SourceRow → ℕ) → sum_by f (day_rows ys) ≡ sum_by f (day_rows xs)
   days-moved f =
-      let is-day = λ (row : ToldRow). is_same_panel row.key.panel Visitors in
+      let is-day = λ (row : SourceRow). is_same_panel row.key.panel Visitors in
       sum_by-filter f is-day ys ∙ sum_by-IsPermutation (λ x. cond (is-day x) (f x) 0) xs ys moved ∙ sym (sum_by-filter f is-day xs)
 
-  items-moved : (panel : Panel) (shown : Key → Bool) (items : List ToldRow) → AreItems panel shown xs items → AreItems panel shown ys items
+  items-moved : (panel : Panel) (shown : Key → Bool) (items : List SourceRow) → AreItems panel shown xs items → AreItems panel shown ys items
   items-moved panel shown items are = record {
     once = λ key. are.once key ∙ ap (λ (b : Bool). cond (shown key && b) 1 0) (list_any-IsPermutation (is_of key) xs ys moved);
     sums = All-from_recursion (λ item. item ≡ item_of item.key ys) items
@@ -32,7 +32,7 @@ module _ (xs ys : List ToldRow) (moved : IsPermutation xs ys) where
     ordered = are.ordered;
   }
 
-  row-moved : (general : General) (most : ℕ) (item : ToldRow) (row : Row) → IsRow general most xs item row → IsRow general most ys item row
+  row-moved : (general : General) (most : ℕ) (item : SourceRow) (row : Row) → IsRow general most xs item row → IsRow general most ys item row
   row-moved general most item row is = record {
     is_item = is.is_item;
     children = record {
@@ -42,7 +42,7 @@ module _ (xs ys : List ToldRow) (moved : IsPermutation xs ys) where
     };
   }
 
-  rows-moved : (general : General) (most : ℕ) (items : List ToldRow) (rows : List Row) → Pairwise (IsRow general most xs) items rows → Pairwise (IsRow general most ys) items rows
+  rows-moved : (general : General) (most : ℕ) (items : List SourceRow) (rows : List Row) → Pairwise (IsRow general most xs) items rows → Pairwise (IsRow general most ys) items rows
   rows-moved general most [] [] pairs = pairs
   rows-moved general most [] (row ∷ rows) pairs = pairs
   rows-moved general most (item ∷ items) [] pairs = pairs
@@ -63,7 +63,7 @@ module _ (xs ys : List ToldRow) (moved : IsPermutation xs ys) where
         lists-moved general most panels lists pairs.1,
       )
 
-pub report-alike : (a b : ToldValue) (set : List Bool) (most : ℕ) (report : Report) → TellAlike a b → IsReport a set most report → IsReport b set most report
+pub report-alike : (a b : SourceValue) (set : List Bool) (most : ℕ) (report : Report) → SameSource a b → IsReport a set most report → IsReport b set most report
 report-alike a b set most report alike is =
     let h = days-moved a.rows b.rows alike.rows (λ row. row.sums.hits) in
     let v = days-moved a.rows b.rows alike.rows (λ row. row.visitors) in

@@ -19,7 +19,7 @@ use Rattle.std.specs.Prelude.{not}
 use Rattle.std.specs.Str.{bytes_eq}
 use Rattle.ga_base.specs.Layers.{has_groups, is_empty}
 use Rattle.ga_base.specs.Panels.{is_same_panel}
-use Rattle.ga_report.specs.Told.{ToldRow}
+use Rattle.ga_report.specs.Source.{SourceRow}
 use Rattle.ga_report.specs.Items.{undated, is_child, is_row, is_of, has_item, item_of, item_order, last_first, by_hits, order, AreItems}
 use Rattle.ga_report.specs.Steps.Summed.{undate, panel_rows, AreSummed}
 use Rattle.ga_report.proofs.InPanel.{has-in-panel, item-in-panel, own-panel}
@@ -27,10 +27,10 @@ use Rattle.ga_report.proofs.ItemSums.{same-item, item_order_total}
 use Rattle.ga_report.proofs.Lists.{all-filter, all-map}
 
 pub last_first_total : IsTotalOrder last_first
-last_first_total = then_total (on_total (λ (x : ToldRow). x.key.label) (back_total nat_list_cmp_total)) item_order_total
+last_first_total = then_total (on_total (λ (x : SourceRow). x.key.label) (back_total nat_list_cmp_total)) item_order_total
 
 pub by_hits_total : IsTotalOrder by_hits
-by_hits_total = then_total (on_total (λ (x : ToldRow). x.sums.hits) (back_total nat_cmp_total)) item_order_total
+by_hits_total = then_total (on_total (λ (x : SourceRow). x.sums.hits) (back_total nat_cmp_total)) item_order_total
 
 pub order_total : (panel : Panel) → IsTotalOrder (order panel)
 order_total Visitors = last_first_total
@@ -43,34 +43,34 @@ second-equal Equal p e = e
 second-equal Greater p e = cc
 
 -- items that tie are one
-pub order-exact : (panel : Panel) (x y : ToldRow) → order panel x y ≡ Equal → item_order x y ≡ Equal
+pub order-exact : (panel : Panel) (x y : SourceRow) → order panel x y ≡ Equal → item_order x y ≡ Equal
 order-exact Visitors x y e = second-equal _ _ e
 order-exact VisitTimes x y e = e
 order-exact _ x y e = second-equal _ _ e
 
 -- the day is nothing to the order
-order-undate : (panel : Panel) (x y : ToldRow) → order panel (undate x) (undate y) ≡ order panel x y
+order-undate : (panel : Panel) (x y : SourceRow) → order panel (undate x) (undate y) ≡ order panel x y
 order-undate Visitors x y = refl
 order-undate VisitTimes x y = refl
 order-undate _ x y = refl
 
-sorted-undate : (panel : Panel) (xs : List ToldRow) → IsSorted (order panel) xs → IsSorted (order panel) (map undate xs)
+sorted-undate : (panel : Panel) (xs : List SourceRow) → IsSorted (order panel) xs → IsSorted (order panel) (map undate xs)
 sorted-undate panel xs sorted = λ k d low high.
     let n : k + 1 < length xs = omega (arith, high, length-map xs undate) in
     let a = get_or-map undate xs (k + 1) d d n in
     let b = get_or-map undate xs k d d (omega (arith, n)) in
     rw (a, b) (ap is_lt (order-undate panel (get_or xs (k + 1) d) (get_or xs k d)) ∙ sorted k d low n)
 
-count-cons : (p : ToldRow → Bool) (x : ToldRow) (xs : List ToldRow) → count_by p (x ∷ xs) ≡ cond (p x) 1 0 + count_by p xs
-count-cons p x xs = sum_by-cons (λ (y : ToldRow). cond (p y) 1 0) x xs
+count-cons : (p : SourceRow → Bool) (x : SourceRow) (xs : List SourceRow) → count_by p (x ∷ xs) ≡ cond (p x) 1 0 + count_by p xs
+count-cons p x xs = sum_by-cons (λ (y : SourceRow). cond (p y) 1 0) x xs
 
-pub count-pass : (p : ToldRow → Bool) (x : ToldRow) (xs : List ToldRow) → p x ≡ true → count_by p (x ∷ xs) ≡ 1 + count_by p xs
+pub count-pass : (p : SourceRow → Bool) (x : SourceRow) (xs : List SourceRow) → p x ≡ true → count_by p (x ∷ xs) ≡ 1 + count_by p xs
 count-pass p x xs e = count-cons p x xs ∙ ap (λ (b : Bool). cond b 1 0 + count_by p xs) e
 
-pub count-fail : (p : ToldRow → Bool) (x : ToldRow) (xs : List ToldRow) → p x ≡ false → count_by p (x ∷ xs) ≡ count_by p xs
+pub count-fail : (p : SourceRow → Bool) (x : SourceRow) (xs : List SourceRow) → p x ≡ false → count_by p (x ∷ xs) ≡ count_by p xs
 count-fail p x xs e = count-cons p x xs ∙ ap (λ (b : Bool). cond b 1 0 + count_by p xs) e ∙ zero-add _
 
-count-undate : (key : Key) (xs : List ToldRow) → count_by (is_of key) (map undate xs) ≡ count_by (is_of key) xs
+count-undate : (key : Key) (xs : List SourceRow) → count_by (is_of key) (map undate xs) ≡ count_by (is_of key) xs
 count-undate key [] = refl
 count-undate key (x ∷ xs) =
     count-cons (is_of key) (undate x) (map undate xs) ∙ ap (λ (n : ℕ). cond (is_of key x) 1 0 + n) (count-undate key xs) ∙ sym (count-cons (is_of key) x xs)
@@ -79,7 +79,7 @@ count-undate key (x ∷ xs) =
 abbrev pub ForItems : (Key → Bool) → Type 0
 ForItems shown = (key : Key) → shown (undated key) ≡ shown key
 
-count-shown : (shown : Key → Bool) → ForItems shown → (key : Key) (xs : List ToldRow) → count_by (is_of key) (filter (λ x. shown x.key) xs) ≡ cond (shown key) (count_by (is_of key) xs) 0
+count-shown : (shown : Key → Bool) → ForItems shown → (key : Key) (xs : List SourceRow) → count_by (is_of key) (filter (λ x. shown x.key) xs) ≡ cond (shown key) (count_by (is_of key) xs) 0
 count-shown shown of key [] = same (shown key)
   where
     same : (b : Bool) → ◌≡◌ {A = ℕ} 0 (cond b 0 0)
@@ -90,7 +90,7 @@ count-shown shown of key (x ∷ xs) = go (filter (λ y. shown y.key) xs) (is_of 
     alike : is_of key x ≡ true → shown x.key ≡ shown key
     alike e = sym (of x.key) ∙ ap shown (same-item key x e) ∙ of key
 
-    go : (kept : List ToldRow) (b s : Bool) → is_of key x ≡ b → shown x.key ≡ s → count_by (is_of key) kept ≡ cond (shown key) (count_by (is_of key) xs) 0
+    go : (kept : List SourceRow) (b s : Bool) → is_of key x ≡ b → shown x.key ≡ s → count_by (is_of key) kept ≡ cond (shown key) (count_by (is_of key) xs) 0
         → count_by (is_of key) (cond s (x ∷ kept) kept) ≡ cond (shown key) (count_by (is_of key) (x ∷ xs)) 0
     go kept true true e f rest =
         let k : shown key ≡ true = sym (alike e) ∙ f in
@@ -107,7 +107,7 @@ abbrev pub InPanel : Panel → (Key → Bool) → Type 0
 InPanel panel shown = (key : Key) → shown key ≡ true → is_same_panel key.panel panel ≡ true
 
 -- the items of a panel's rows that are to be shown, sorted
-pub are-items : (panel : Panel) (shown : Key → Bool) → ForItems shown → InPanel panel shown → (rows items sorted : List ToldRow) → AreSummed (panel_rows panel rows) items
+pub are-items : (panel : Panel) (shown : Key → Bool) → ForItems shown → InPanel panel shown → (rows items sorted : List SourceRow) → AreSummed (panel_rows panel rows) items
     → IsPermutation (filter (λ item. shown item.key) items) sorted → IsSorted (order panel) sorted → AreItems panel shown rows (map undate sorted)
 are-items panel shown of inside rows items sorted are moved up = record {
   once = λ key.
@@ -142,9 +142,9 @@ no-entry group key none = neither (is_same_panel key.panel group.panel) (has_gro
     neither false b c e = refl
 
 -- so that each of its items is a row
-pub all-rows : (panel : Panel) → has_groups panel ≡ false → (items : List ToldRow) → AllByRecursion (λ item. item.key.panel ≡ panel) items → items ≡ filter (λ item. is_row panel item.key) items
+pub all-rows : (panel : Panel) → has_groups panel ≡ false → (items : List SourceRow) → AllByRecursion (λ item. item.key.panel ≡ panel) items → items ≡ filter (λ item. is_row panel item.key) items
 all-rows panel none [] all = refl
 all-rows panel none (x ∷ xs) all =
     let own : is_same_panel x.key.panel panel ≡ true = ap (λ (p : Panel). is_same_panel p panel) all.0 ∙ own-panel panel in
     let row : is_row panel x.key ≡ true = rw (own, none) refl in
-    rw row (ap (λ (r : List ToldRow). x ∷ r) (all-rows panel none xs all.1))
+    rw row (ap (λ (r : List SourceRow). x ∷ r) (all-rows panel none xs all.1))

@@ -7,7 +7,7 @@ use Rattle.ga_base.specs.declared.key.Key.{Key}
 use Rattle.ga_base.specs.declared.panel.Panel.{Panel}
 use Rattle.ga_base.specs.Panels.{is_same_panel, panel_number}
 use Rattle.ga_base.proofs.OrderLemmas.{panel_number_exact}
-use Rattle.ga_report.specs.Told.{ToldRow}
+use Rattle.ga_report.specs.Source.{SourceRow}
 use Rattle.ga_report.specs.Items.{has_item, is_of, item_of, together}
 use Rattle.ga_report.specs.Steps.Summed.{panel_rows}
 use Rattle.ga_report.proofs.ItemSums.{same-item}
@@ -44,11 +44,11 @@ module _ {X : Type 0} (p q : X → Bool) (weaker : (x : X) → q x ≡ true → 
   ] refl
 
 -- the rows of an item of a panel are the panel's
-of-panel : (panel : Panel) (key : Key) → is_same_panel key.panel panel ≡ true → (row : ToldRow) → is_of key row ≡ true → is_same_panel row.key.panel panel ≡ true
+of-panel : (panel : Panel) (key : Key) → is_same_panel key.panel panel ≡ true → (row : SourceRow) → is_of key row ≡ true → is_same_panel row.key.panel panel ≡ true
 of-panel panel key own row of = ap (λ (k : Key). is_same_panel k.panel panel) (same-item key row of) ∙ own
 
-pub has-in-panel : (panel : Panel) (key : Key) → is_same_panel key.panel panel ≡ true → (rows : List ToldRow) → has_item key (panel_rows panel rows) ≡ has_item key rows
-has-in-panel panel key own rows = any-weaker (λ (row : ToldRow). is_same_panel row.key.panel panel) (is_of key) (of-panel panel key own) rows
+pub has-in-panel : (panel : Panel) (key : Key) → is_same_panel key.panel panel ≡ true → (rows : List SourceRow) → has_item key (panel_rows panel rows) ≡ has_item key rows
+has-in-panel panel key own rows = any-weaker (λ (row : SourceRow). is_same_panel row.key.panel panel) (is_of key) (of-panel panel key own) rows
 
-pub item-in-panel : (panel : Panel) (key : Key) → is_same_panel key.panel panel ≡ true → (rows : List ToldRow) → item_of key (panel_rows panel rows) ≡ item_of key rows
-item-in-panel panel key own rows = ap (together key) (filter-weaker (λ (row : ToldRow). is_same_panel row.key.panel panel) (is_of key) (of-panel panel key own) rows)
+pub item-in-panel : (panel : Panel) (key : Key) → is_same_panel key.panel panel ≡ true → (rows : List SourceRow) → item_of key (panel_rows panel rows) ≡ item_of key rows
+item-in-panel panel key own rows = ap (together key) (filter-weaker (λ (row : SourceRow). is_same_panel row.key.panel panel) (is_of key) (of-panel panel key own) rows)

@@ -12,10 +12,10 @@ pub mod Generals
 pub mod Pairs
 pub mod OneArrangement
 pub mod Printables
-pub mod Stretches
+pub mod GroupSlices
 pub mod PanelItems
 pub mod Found
 pub mod PanelPlaces
-pub mod PanelSpots
-pub mod Marked
+pub mod PanelIndexes
+pub mod Bucketed
 pub mod Alone

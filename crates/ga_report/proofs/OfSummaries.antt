@@ -1,4 +1,4 @@
--- What a summary tells is sound.
+-- What a summary has is sound.
 use Rattle.std.proofs.Common.{◌≡◌, ℕ, suc, ◌+◌, ◌≤◌, ◌==◌, ◌&&◌, ◌||◌, Bool, true, false, cond, List, [], ◌∷◌, Option, Some, Less, Equal, Greater, length, filter, map, sum_by, refl, ap, sym, ◌∙◌, subst, arith, eq-eqb, All}
 use Rattle.std.specs.declared.cmp.Ordering.{Ordering}
 use Rattle.std.specs.Ordering.{is_eq, ordering_reverse}
@@ -21,42 +21,42 @@ use Rattle.ga_base.specs.Layers.{Layer, in_layer, day_key}
 use Rattle.ga_base.specs.Orders.{key_cmp, is_same_key, is_same_name, name_cmp}
 use Rattle.ga_base.specs.Panels.{is_same_panel, panel_number}
 use Rattle.ga_base.proofs.OrderLemmas.{key_cmp_total, key_cmp_exact, name_cmp_total, name_cmp_exact, panel_number_exact}
-use Rattle.ga_summary.specs.Rows.{Row, SummaryValue, row_at, sums_at, names_at, no_sums, has_name, has_pair}
+use Rattle.ga_summary.specs.SummaryRows.{SummaryRow, SummaryValue, row_at, sums_at, names_at, no_sums, has_name, has_pair}
 use Rattle.ga_summary.specs.Sound.{IsSummary}
-use Rattle.ga_report.specs.OfSummary.{told_of}
-use Rattle.ga_report.specs.Sound.{AreSound, HasDay, SumsFit, SumsWithin, day_rows, layer_rows}
-use Rattle.ga_report.specs.Told.{ToldRow}
+use Rattle.ga_report.specs.OfSummary.{source_row}
+use Rattle.ga_report.specs.SoundRows.{AreSound, HasDay, SumsFit, SumsWithin, day_rows, layer_rows}
+use Rattle.ga_report.specs.Source.{SourceRow}
 use Rattle.ga_report.proofs.Lists.{all-weaker, all-both, all-map, all-filter}
 
--- what is told of rows that pass a test
-filter-told : (p : ToldRow → Bool) (xs : List Row) → filter p (map told_of xs) ≡ map told_of (filter (λ x. p (told_of x)) xs)
-filter-told p [] = refl
-filter-told p (x ∷ xs) = elim (p (told_of x)) as (λ v. cond v (told_of x ∷ filter p (map told_of xs)) (filter p (map told_of xs)) ≡ map told_of (cond v (x ∷ filter (λ y. p (told_of y)) xs) (filter (λ y. p (told_of y)) xs))) [
-  | true ↦ ap (λ (r : List ToldRow). told_of x ∷ r) (filter-told p xs)
-  | false ↦ filter-told p xs
+-- what a source has of rows that pass a test
+filter-source : (p : SourceRow → Bool) (xs : List SummaryRow) → filter p (map source_row xs) ≡ map source_row (filter (λ x. p (source_row x)) xs)
+filter-source p [] = refl
+filter-source p (x ∷ xs) = elim (p (source_row x)) as (λ v. cond v (source_row x ∷ filter p (map source_row xs)) (filter p (map source_row xs)) ≡ map source_row (cond v (x ∷ filter (λ y. p (source_row y)) xs) (filter (λ y. p (source_row y)) xs))) [
+  | true ↦ ap (λ (r : List SourceRow). source_row x ∷ r) (filter-source p xs)
+  | false ↦ filter-source p xs
 ]
 
-sum-told : (f : ToldRow → ℕ) (xs : List Row) → sum_by f (map told_of xs) ≡ sum_by (λ x. f (told_of x)) xs
-sum-told f [] = refl
-sum-told f (x ∷ xs) = sum_by-cons f (told_of x) (map told_of xs) ∙ ap (λ (n : ℕ). f (told_of x) + n) (sum-told f xs) ∙ sym (sum_by-cons (λ y. f (told_of y)) x xs)
+sum-source : (f : SourceRow → ℕ) (xs : List SummaryRow) → sum_by f (map source_row xs) ≡ sum_by (λ x. f (source_row x)) xs
+sum-source f [] = refl
+sum-source f (x ∷ xs) = sum_by-cons f (source_row x) (map source_row xs) ∙ ap (λ (n : ℕ). f (source_row x) + n) (sum-source f xs) ∙ sym (sum_by-cons (λ y. f (source_row y)) x xs)
 
-sum-filter-told : (f : ToldRow → ℕ) (p : ToldRow → Bool) (xs : List Row) → sum_by f (filter p (map told_of xs)) ≡ sum_by (λ x. f (told_of x)) (filter (λ x. p (told_of x)) xs)
-sum-filter-told f p xs = ap (sum_by f) (filter-told p xs) ∙ sum-told f (filter (λ x. p (told_of x)) xs)
+sum-filter-source : (f : SourceRow → ℕ) (p : SourceRow → Bool) (xs : List SummaryRow) → sum_by f (filter p (map source_row xs)) ≡ sum_by (λ x. f (source_row x)) (filter (λ x. p (source_row x)) xs)
+sum-filter-source f p xs = ap (sum_by f) (filter-source p xs) ∙ sum-source f (filter (λ x. p (source_row x)) xs)
 
-keys-told : (xs : List Row) → map (λ row. row.key) (map told_of xs) ≡ map (λ row. row.key) xs
-keys-told [] = refl
-keys-told (x ∷ xs) = ap (λ (r : List Key). x.key ∷ r) (keys-told xs)
+keys-source : (xs : List SummaryRow) → map (λ row. row.key) (map source_row xs) ≡ map (λ row. row.key) xs
+keys-source [] = refl
+keys-source (x ∷ xs) = ap (λ (r : List Key). x.key ∷ r) (keys-source xs)
 
-any-told : (p : ToldRow → Bool) (xs : List Row) → list_any p (map told_of xs) ≡ list_any (λ x. p (told_of x)) xs
-any-told p [] = refl
-any-told p (x ∷ xs) = ap (λ (b : Bool). p (told_of x) || b) (any-told p xs)
+any-source : (p : SourceRow → Bool) (xs : List SummaryRow) → list_any p (map source_row xs) ≡ list_any (λ x. p (source_row x)) xs
+any-source p [] = refl
+any-source p (x ∷ xs) = ap (λ (b : Bool). p (source_row x) || b) (any-source p xs)
 
 equal-by : (v : Ordering) → is_eq v ≡ true → v ≡ Equal
 equal-by Less e = absurd (false≢true e)
 equal-by Equal e = refl
 equal-by Greater e = absurd (false≢true e)
 
-found-behind : (x : Row) (xs ys : List Row) → AllByRecursion (λ k. key_cmp x.key k ≡ Less) (map (λ row. row.key) ys) → AllByRecursion (λ y. row_at xs y.key ≡ Some y) ys
+found-behind : (x : SummaryRow) (xs ys : List SummaryRow) → AllByRecursion (λ k. key_cmp x.key k ≡ Less) (map (λ row. row.key) ys) → AllByRecursion (λ y. row_at xs y.key ≡ Some y) ys
     → AllByRecursion (λ y. row_at (x ∷ xs) y.key ≡ Some y) ys
 found-behind x xs [] above own = tt
 found-behind x xs (y ∷ ys) above own =
@@ -64,7 +64,7 @@ found-behind x xs (y ∷ ys) above own =
     (rw greater own.0, found-behind x xs ys above.1 own.1)
 
 -- each row of a list whose keys rise is the one found at its key
-each-found : (xs : List Row) → IsStrictlySortedBy key_cmp (map (λ row. row.key) xs) → AllByRecursion (λ x. row_at xs x.key ≡ Some x) xs
+each-found : (xs : List SummaryRow) → IsStrictlySortedBy key_cmp (map (λ row. row.key) xs) → AllByRecursion (λ x. row_at xs x.key ≡ Some x) xs
 unfolding IsStrictlySortedBy
 each-found [] rises = tt
 each-found (x ∷ xs) rises = (rw (tied_itself key_cmp_total x.key) refl, found-behind x xs xs rises.0 (each-found xs rises.1))
@@ -84,11 +84,11 @@ or-true : (b : Bool) {c : Bool} → c ≡ true → (b || c) ≡ true
 or-true true e = refl
 or-true false e = e
 
-abbrev is-day : Row → Bool
+abbrev is-day : SummaryRow → Bool
 is-day row = is_same_panel row.key.panel Visitors
 
 -- a day whose key is there is among the days' rows
-day-there : (date : ℕ) (rows : List Row) → is_some (row_at rows (day_key date)) ≡ true → list_any (λ day. date == day.key.date) (filter is-day rows) ≡ true
+day-there : (date : ℕ) (rows : List SummaryRow) → is_some (row_at rows (day_key date)) ≡ true → list_any (λ day. date == day.key.date) (filter is-day rows) ≡ true
 day-there date [] e = e
 day-there date (x ∷ xs) e = elim (is_same_key (day_key date) x.key) as (λ v. is_same_key (day_key date) x.key ≡ v → is_some (cond v (Some x) (row_at xs (day_key date))) ≡ true → list_any (λ day. date == day.key.date) (filter is-day (x ∷ xs)) ≡ true) [
   | true ↦ λ same here.
@@ -166,54 +166,54 @@ module _ (s : SummaryValue) (is : IsSummary s) where
   found : AllByRecursion (λ row. row_at s.rows row.key ≡ Some row) s.rows
   found = each-found s.rows is.ordered.keys
 
-  sums-found : (row : Row) → row_at s.rows row.key ≡ Some row → sums_at s.rows row.key ≡ row.sums
-  sums-found row at = ap (λ (o : Option Row). option_map_or (λ (r : Row). r.sums) o no_sums) at
+  sums-found : (row : SummaryRow) → row_at s.rows row.key ≡ Some row → sums_at s.rows row.key ≡ row.sums
+  sums-found row at = ap (λ (o : Option SummaryRow). option_map_or (λ (r : SummaryRow). r.sums) o no_sums) at
 
-  names-found : (row : Row) → row_at s.rows row.key ≡ Some row → names_at s.rows row.key ≡ row.names
-  names-found row at = ap (λ (o : Option Row). option_map_or (λ (r : Row). r.names) o []) at
+  names-found : (row : SummaryRow) → row_at s.rows row.key ≡ Some row → names_at s.rows row.key ≡ row.names
+  names-found row at = ap (λ (o : Option SummaryRow). option_map_or (λ (r : SummaryRow). r.names) o []) at
 
   -- a day's row has the day's key
-  day-is : (day : Row) → is-day day ≡ true → row_at s.rows day.key ≡ Some day → day.key ≡ day_key day.key.date
+  day-is : (day : SummaryRow) → is-day day ≡ true → row_at s.rows day.key ≡ Some day → day.key ≡ day_key day.key.date
   day-is day panel at =
       let visitors : day.key.panel ≡ Visitors = same_panel-exact day.key.panel Visitors panel in
       let form = is.sound.rows.form day.key (rw at refl) in
       let request = form.request (rw visitors refl) in
       same_key day.key (day_key day.key.date) visitors refl (form.parent.1 (rw visitors refl)) (form.label visitors) request.0 request.1
 
-  -- each day's row, and what holds of it as told
-  days-all : (Q : ToldRow → Type 0) → ((day : Row) → day.key ≡ day_key day.key.date → row_at s.rows day.key ≡ Some day → Q (told_of day)) → All Q (day_rows (map told_of s.rows))
+  -- each day's row, and what holds of it in the source
+  days-all : (Q : SourceRow → Type 0) → ((day : SummaryRow) → day.key ≡ day_key day.key.date → row_at s.rows day.key ≡ Some day → Q (source_row day)) → All Q (day_rows (map source_row s.rows))
   days-all Q h =
-      subst (λ (xs : List ToldRow). All Q xs) (sym (filter-told (λ row. is_same_panel row.key.panel Visitors) s.rows))
-      (All-from_recursion Q (map told_of (filter is-day s.rows)) (all-map told_of Q (filter is-day s.rows)
-      (all-filter (λ row. row_at s.rows row.key ≡ Some row) (λ row. Q (told_of row)) is-day (λ day panel at. h day (day-is day panel at) at) s.rows found)))
+      subst (λ (xs : List SourceRow). All Q xs) (sym (filter-source (λ row. is_same_panel row.key.panel Visitors) s.rows))
+      (All-from_recursion Q (map source_row (filter is-day s.rows)) (all-map source_row Q (filter is-day s.rows)
+      (all-filter (λ row. row_at s.rows row.key ≡ Some row) (λ row. Q (source_row row)) is-day (λ day panel at. h day (day-is day panel at) at) s.rows found)))
 
-  rows-all : (Q : ToldRow → Type 0) → ((row : Row) → row_at s.rows row.key ≡ Some row → Q (told_of row)) → All Q (map told_of s.rows)
-  rows-all Q h = All-from_recursion Q (map told_of s.rows) (all-map told_of Q s.rows (all-weaker (λ row. row_at s.rows row.key ≡ Some row) (λ row. Q (told_of row)) h s.rows found))
+  rows-all : (Q : SourceRow → Type 0) → ((row : SummaryRow) → row_at s.rows row.key ≡ Some row → Q (source_row row)) → All Q (map source_row s.rows)
+  rows-all Q h = All-from_recursion Q (map source_row s.rows) (all-map source_row Q s.rows (all-weaker (λ row. row_at s.rows row.key ≡ Some row) (λ row. Q (source_row row)) h s.rows found))
 
-  dated : (row : Row) → row_at s.rows row.key ≡ Some row → HasDay (day_rows (map told_of s.rows)) (told_of row)
+  dated : (row : SummaryRow) → row_at s.rows row.key ≡ Some row → HasDay (day_rows (map source_row s.rows)) (source_row row)
   dated row at =
-      ap (λ (xs : List ToldRow). list_any (λ day. row.key.date == day.key.date) xs) (filter-told (λ r. is_same_panel r.key.panel Visitors) s.rows)
-      ∙ any-told (λ day. row.key.date == day.key.date) (filter is-day s.rows) ∙ day-there row.key.date s.rows (is.sound.rows.day row.key (rw at refl))
+      ap (λ (xs : List SourceRow). list_any (λ day. row.key.date == day.key.date) xs) (filter-source (λ r. is_same_panel r.key.panel Visitors) s.rows)
+      ∙ any-source (λ day. row.key.date == day.key.date) (filter is-day s.rows) ∙ day-there row.key.date s.rows (is.sound.rows.day row.key (rw at refl))
 
-  day-sums : (day : Row) → day.key ≡ day_key day.key.date → row_at s.rows day.key ≡ Some day → sums_at s.rows (day_key day.key.date) ≡ day.sums
+  day-sums : (day : SummaryRow) → day.key ≡ day_key day.key.date → row_at s.rows day.key ≡ Some day → sums_at s.rows (day_key day.key.date) ≡ day.sums
   day-sums day key at = subst (λ (k : Key). sums_at s.rows k ≡ day.sums) key (sums-found day at)
 
-  layered : (day : Row) → day.key ≡ day_key day.key.date → row_at s.rows day.key ≡ Some day → (layer : Layer) → SumsWithin (layer_rows layer day.key.date (map told_of s.rows)) day.sums
+  layered : (day : SummaryRow) → day.key ≡ day_key day.key.date → row_at s.rows day.key ≡ Some day → (layer : Layer) → SumsWithin (layer_rows layer day.key.date (map source_row s.rows)) day.sums
   layered day key at layer =
       let within = is.sound.rows.layers layer day.key.date in
       let sums = day-sums day key at in
-      let test = λ (row : ToldRow). (row.key.date == day.key.date) && in_layer layer row.key in
+      let test = λ (row : SourceRow). (row.key.date == day.key.date) && in_layer layer row.key in
       record {
-        hits = omega (arith, within.hits, ap (λ (x : Sums). x.hits) sums, sum-filter-told (λ row. row.sums.hits) test s.rows);
-        bytes = omega (arith, within.bytes, ap (λ (x : Sums). x.bytes) sums, sum-filter-told (λ row. row.sums.bytes) test s.rows);
-        micros = omega (arith, within.micros, ap (λ (x : Sums). x.micros) sums, sum-filter-told (λ row. row.sums.micros) test s.rows);
+        hits = omega (arith, within.hits, ap (λ (x : Sums). x.hits) sums, sum-filter-source (λ row. row.sums.hits) test s.rows);
+        bytes = omega (arith, within.bytes, ap (λ (x : Sums). x.bytes) sums, sum-filter-source (λ row. row.sums.bytes) test s.rows);
+        micros = omega (arith, within.micros, ap (λ (x : Sums). x.micros) sums, sum-filter-source (λ row. row.sums.micros) test s.rows);
       }
 
   names-rise : AllByRecursion (λ row. IsStrictlySortedBy name_cmp row.names) s.rows
   names-rise = recursion_from_All _ s.rows is.ordered.names
 
   -- a key's names are among the day's
-  among : (day row : Row) → day.key ≡ day_key day.key.date → row_at s.rows day.key ≡ Some day → row_at s.rows row.key ≡ Some row → row.key.date ≡ day.key.date
+  among : (day row : SummaryRow) → day.key ≡ day_key day.key.date → row_at s.rows day.key ≡ Some day → row_at s.rows row.key ≡ Some row → row.key.date ≡ day.key.date
       → (n : Name) → has_name row.names n ≡ true → has_name day.names n ≡ true
   among day row key at at' date n has =
       let v : Visitor = record { host = n.host; date = row.key.date; agent = n.agent } in
@@ -225,11 +225,11 @@ module _ (s : SummaryValue) (is : IsSummary s) where
       ap (λ (d : ℕ). names_at s.rows (day_key d)) date ∙ subst (λ (k : Key). names_at s.rows k ≡ day.names) key (names-found day at) in
       ap (λ (ns : List Name). has_name ns n) (sym names) ∙ and-right (row.key.date == row.key.date) (has_name (names_at s.rows (day_key row.key.date)) n) there
 
-  visited : (day : Row) → day.key ≡ day_key day.key.date → row_at s.rows day.key ≡ Some day
-      → All (λ row. row.key.date ≡ day.key.date → row.visitors ≤ length day.names) (map told_of s.rows)
+  visited : (day : SummaryRow) → day.key ≡ day_key day.key.date → row_at s.rows day.key ≡ Some day
+      → All (λ row. row.key.date ≡ day.key.date → row.visitors ≤ length day.names) (map source_row s.rows)
   visited day key at =
-      All-from_recursion (λ row. row.key.date ≡ day.key.date → row.visitors ≤ length day.names) (map told_of s.rows)
-      (all-map told_of (λ row. row.key.date ≡ day.key.date → row.visitors ≤ length day.names) s.rows
+      All-from_recursion (λ row. row.key.date ≡ day.key.date → row.visitors ≤ length day.names) (map source_row s.rows)
+      (all-map source_row (λ row. row.key.date ≡ day.key.date → row.visitors ≤ length day.names) s.rows
       (all-both (λ row. row_at s.rows row.key ≡ Some row) (λ row. IsStrictlySortedBy name_cmp row.names) (λ row. row.key.date ≡ day.key.date → length row.names ≤ length day.names)
       (λ row at' up date. no-more row.names day.names up (among day row key at at' date)) s.rows found names-rise))
 
@@ -237,29 +237,29 @@ module _ (s : SummaryValue) (is : IsSummary s) where
   visits = all-weaker (λ row. row_at s.rows row.key ≡ Some row) (λ row. length row.names ≤ row.sums.hits)
       (λ row at. omega (arith, is.sound.rows.visits row.key, ap length (names-found row at), ap (λ (x : Sums). x.hits) (sums-found row at))) s.rows found
 
-  fewer : (rows : List Row) → AllByRecursion (λ row. length row.names ≤ row.sums.hits) rows → sum_by (λ row. length row.names) (filter is-day rows) ≤ sum_by (λ row. row.sums.hits) (filter is-day rows)
+  fewer : (rows : List SummaryRow) → AllByRecursion (λ row. length row.names ≤ row.sums.hits) rows → sum_by (λ row. length row.names) (filter is-day rows) ≤ sum_by (λ row. row.sums.hits) (filter is-day rows)
   fewer [] all = omega arith
-  fewer (x ∷ xs) all = elim (is-day x) as (λ v. sum_by (λ (row : Row). length row.names) (cond v (x ∷ filter is-day xs) (filter is-day xs)) ≤ sum_by (λ (row : Row). row.sums.hits) (cond v (x ∷ filter is-day xs) (filter is-day xs))) [
-    | true ↦ omega (arith, sum_by-cons (λ (row : Row). length row.names) x (filter is-day xs), sum_by-cons (λ (row : Row). row.sums.hits) x (filter is-day xs), all.0, fewer xs all.1)
+  fewer (x ∷ xs) all = elim (is-day x) as (λ v. sum_by (λ (row : SummaryRow). length row.names) (cond v (x ∷ filter is-day xs) (filter is-day xs)) ≤ sum_by (λ (row : SummaryRow). row.sums.hits) (cond v (x ∷ filter is-day xs) (filter is-day xs))) [
+    | true ↦ omega (arith, sum_by-cons (λ (row : SummaryRow). length row.names) x (filter is-day xs), sum_by-cons (λ (row : SummaryRow). row.sums.hits) x (filter is-day xs), all.0, fewer xs all.1)
     | false ↦ fewer xs all.1
   ]
 
-  fit : SumsFit (day_rows (map told_of s.rows))
+  fit : SumsFit (day_rows (map source_row s.rows))
   fit =
-      let test = λ (row : ToldRow). is_same_panel row.key.panel Visitors in
+      let test = λ (row : SourceRow). is_same_panel row.key.panel Visitors in
       record {
-        hits = omega (arith, sum-filter-told (λ row. row.sums.hits) test s.rows, is.sound.totals.days.hits, is.sound.totals.lines, is.sound.totals.fit.lines);
-        visitors = omega (arith, sum-filter-told (λ row. row.visitors) test s.rows, fewer s.rows visits, is.sound.totals.days.hits, is.sound.totals.lines, is.sound.totals.fit.lines);
-        bytes = omega (arith, sum-filter-told (λ row. row.sums.bytes) test s.rows, is.sound.totals.days.bytes, is.sound.totals.fit.bytes);
-        micros = omega (arith, sum-filter-told (λ row. row.sums.micros) test s.rows, is.sound.totals.days.micros, is.sound.totals.fit.micros);
+        hits = omega (arith, sum-filter-source (λ row. row.sums.hits) test s.rows, is.sound.totals.days.hits, is.sound.totals.lines, is.sound.totals.fit.lines);
+        visitors = omega (arith, sum-filter-source (λ row. row.visitors) test s.rows, fewer s.rows visits, is.sound.totals.days.hits, is.sound.totals.lines, is.sound.totals.fit.lines);
+        bytes = omega (arith, sum-filter-source (λ row. row.sums.bytes) test s.rows, is.sound.totals.days.bytes, is.sound.totals.fit.bytes);
+        micros = omega (arith, sum-filter-source (λ row. row.sums.micros) test s.rows, is.sound.totals.days.micros, is.sound.totals.fit.micros);
       }
 
-  pub told-sound : AreSound (map told_of s.rows)
-  told-sound = record {
-    different = subst (λ (ks : List Key). IsDistinct is_same_key ks) (sym (keys-told s.rows)) (IsDistinct-from_sorted key_cmp _ is.ordered.keys);
+  pub source-sound : AreSound (map source_row s.rows)
+  source-sound = record {
+    different = subst (λ (ks : List Key). IsDistinct is_same_key ks) (sym (keys-source s.rows)) (IsDistinct-from_sorted key_cmp _ is.ordered.keys);
     hit = rows-all (λ row. 1 ≤ row.sums.hits) (λ row at. omega (arith, is.sound.rows.hit row.key (rw at refl), ap (λ (x : Sums). x.hits) (sums-found row at)));
-    dated = rows-all (HasDay (day_rows (map told_of s.rows))) dated;
-    layers = days-all (λ day. (layer : Layer) → SumsWithin (layer_rows layer day.key.date (map told_of s.rows)) day.sums) layered;
-    visits = days-all (λ day. All (λ row. row.key.date ≡ day.key.date → row.visitors ≤ day.visitors) (map told_of s.rows)) visited;
+    dated = rows-all (HasDay (day_rows (map source_row s.rows))) dated;
+    layers = days-all (λ day. (layer : Layer) → SumsWithin (layer_rows layer day.key.date (map source_row s.rows)) day.sums) layered;
+    visits = days-all (λ day. All (λ row. row.key.date ≡ day.key.date → row.visitors ≤ day.visitors) (map source_row s.rows)) visited;
     fit = fit;
   }

@@ -7,10 +7,10 @@ use Rattle.std.proofs.lemmas.List.Elements.{All-from_recursion, recursion_from_A
 use Rattle.ga_base.specs.declared.key.Key.{Key}
 use Rattle.ga_base.specs.declared.panel.Panel.{Panel}
 use Rattle.ga_base.specs.Panels.{is_same_panel}
-use Rattle.ga_report.specs.Told.{ToldRow, ToldValue}
+use Rattle.ga_report.specs.Source.{SourceRow, SourceValue}
 use Rattle.ga_report.specs.Items.{has_item, is_of, item_of}
 use Rattle.ga_report.specs.Reports.{general_of}
-use Rattle.ga_report.specs.Sound.{AreSound}
+use Rattle.ga_report.specs.SoundRows.{AreSound}
 use Rattle.ga_report.specs.Steps.Summed.{AreSummed, IsPart, panel_rows, undate}
 use Rattle.ga_report.proofs.InPanel.{exact-panel, item-in-panel, own-panel}
 use Rattle.ga_report.proofs.ItemSums.{own-item, same-item}
@@ -29,19 +29,19 @@ counted : (b : Bool) (n : ℕ) → n ≡ cond b 1 0 → 1 ≤ n → b ≡ true
 counted true n e h = refl
 counted false n e h = absurd (omega (arith, e, h))
 
-pub are-of-panel : (panel : Panel) (rows items : List ToldRow) → AreSummed (panel_rows panel rows) items → All (λ item. item.key.panel ≡ panel) items
+pub are-of-panel : (panel : Panel) (rows items : List SourceRow) → AreSummed (panel_rows panel rows) items → All (λ item. item.key.panel ≡ panel) items
 are-of-panel panel rows items are = All-from_recursion (λ item. item.key.panel ≡ panel) items (all-in (λ item. item.key.panel ≡ panel) items own)
   where
-    own : (x : ToldRow) → In x items → x.key.panel ≡ panel
+    own : (x : SourceRow) → In x items → x.key.panel ≡ panel
     own x there =
         let has = counted (has_item x.key (panel_rows panel rows)) (count_by (is_of x.key) items) (are.once x.key) (in-count (is_of x.key) x items (own-item x) there) in
         let row = any-in (is_of x.key) (panel_rows panel rows) has in
-        let of = in-filter (λ (r : ToldRow). is_same_panel r.key.panel panel) row.0 rows row.1 in
+        let of = in-filter (λ (r : SourceRow). is_same_panel r.key.panel panel) row.0 rows row.1 in
         sym (ap (λ (k : Key). k.panel) (same-item x.key row.0 row.2)) ∙ exact-panel row.0.key.panel panel of.0
 
-pub are-parts : (told : ToldValue) (panel : Panel) (items : List ToldRow) → AreSound told.rows → AreSummed (panel_rows panel told.rows) items → All (IsPart (general_of told)) items
-are-parts told panel items sound are =
-    All-from_recursion (IsPart (general_of told)) items
-    (all-both (λ item. item.key.panel ≡ panel) (λ item. undate item ≡ item_of item.key (panel_rows panel told.rows)) (IsPart (general_of told))
-    (λ item of own. is-part told sound item (own ∙ item-in-panel panel item.key (ap (λ (p : Panel). is_same_panel p panel) of ∙ own-panel panel) told.rows)) items
-    (recursion_from_All _ items (are-of-panel panel told.rows items are)) (recursion_from_All _ items are.sums))
+pub are-parts : (source : SourceValue) (panel : Panel) (items : List SourceRow) → AreSound source.rows → AreSummed (panel_rows panel source.rows) items → All (IsPart (general_of source)) items
+are-parts source panel items sound are =
+    All-from_recursion (IsPart (general_of source)) items
+    (all-both (λ item. item.key.panel ≡ panel) (λ item. undate item ≡ item_of item.key (panel_rows panel source.rows)) (IsPart (general_of source))
+    (λ item of own. is-part source sound item (own ∙ item-in-panel panel item.key (ap (λ (p : Panel). is_same_panel p panel) of ∙ own-panel panel) source.rows)) items
+    (recursion_from_All _ items (are-of-panel panel source.rows items are)) (recursion_from_All _ items are.sums))

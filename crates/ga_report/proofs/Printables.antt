@@ -13,17 +13,18 @@ use Rattle.std.proofs.lemmas.Bool.Decides.{Decides-eqb}
 use Rattle.std.proofs.lemmas.Cmp.{nat_cmp_total}
 use Rattle.ga_base.specs.declared.key.Key.{Key}
 use Rattle.ga_base.specs.declared.panel.Panel.{Panel}
+use Rattle.ga_base.specs.declared.panel.TheConstants.Panel.{ALL}
 use Rattle.ga_base.specs.Panels.{is_same_panel, panel_number, has_panel}
 use Rattle.ga_report.specs.declared.report.General.{General}
 use Rattle.ga_report.specs.declared.report.Item.{Item}
 use Rattle.ga_report.specs.declared.report.PanelList.{PanelList}
 use Rattle.ga_report.specs.declared.report.Report.{Report}
 use Rattle.ga_report.specs.declared.report.Row.{Row}
-use Rattle.ga_report.specs.Told.{ToldRow, ToldValue}
+use Rattle.ga_report.specs.Source.{SourceRow, SourceValue}
 use Rattle.ga_report.specs.Items.{is_of, has_item, AreItems}
 use Rattle.ga_report.specs.Printable.{HasHits, IsPrintable}
-use Rattle.ga_report.specs.Reports.{IsRow, IsPanelList, IsReport, Pairwise, all_panels, general_of, panels_of, shown_as}
-use Rattle.ga_report.specs.Sound.{AreSound}
+use Rattle.ga_report.specs.Reports.{IsRow, IsPanelList, IsReport, Pairwise, general_of, panels_of, shown_as}
+use Rattle.ga_report.specs.SoundRows.{AreSound}
 use Rattle.ga_report.proofs.ItemSums.{own-item}
 use Rattle.ga_report.proofs.Lists.{In, all-in, all-map, all-weaker, not-itself}
 use Rattle.ga_report.proofs.OneArrangement.{in-count, is-its-item}
@@ -31,13 +32,13 @@ use Rattle.ga_report.proofs.OneArrangement.{in-count, is-its-item}
 abbrev by_number : Panel → Panel → Ordering
 by_number a b = nat_cmp (panel_number a) (panel_number b)
 
-all-rise : IsStrictlySortedBy by_number all_panels
+all-rise : IsStrictlySortedBy by_number ALL
 unfolding IsStrictlySortedBy
 all-rise = ((refl, (refl, (refl, (refl, (refl, (refl, (refl, (refl, (refl, (refl, (refl, (refl, (refl, (refl, (refl, (refl, tt)))))))))))))))), ((refl, (refl, (refl, (refl, (refl, (refl, (refl, (refl, (refl, (refl, (refl, (refl, (refl, (refl, (refl, tt))))))))))))))), ((refl, (refl, (refl, (refl, (refl, (refl, (refl, (refl, (refl, (refl, (refl, (refl, (refl, (refl, tt)))))))))))))), ((refl, (refl, (refl, (refl, (refl, (refl, (refl, (refl, (refl, (refl, (refl, (refl, (refl, tt))))))))))))), ((refl, (refl, (refl, (refl, (refl, (refl, (refl, (refl, (refl, (refl, (refl, (refl, tt)))))))))))), ((refl, (refl, (refl, (refl, (refl, (refl, (refl, (refl, (refl, (refl, (refl, tt))))))))))), ((refl, (refl, (refl, (refl, (refl, (refl, (refl, (refl, (refl, (refl, tt)))))))))), ((refl, (refl, (refl, (refl, (refl, (refl, (refl, (refl, (refl, tt))))))))), ((refl, (refl, (refl, (refl, (refl, (refl, (refl, (refl, tt)))))))), ((refl, (refl, (refl, (refl, (refl, (refl, (refl, tt))))))), ((refl, (refl, (refl, (refl, (refl, (refl, tt)))))), ((refl, (refl, (refl, (refl, (refl, tt))))), ((refl, (refl, (refl, (refl, tt)))), ((refl, (refl, (refl, tt))), ((refl, (refl, tt)), ((refl, tt), (tt, tt)))))))))))))))))
 
 shown-rise : (set : List Bool) → IsStrictlySortedBy by_number (panels_of set)
 unfolding panels_of
-shown-rise set = IsStrictlySortedBy-filter by_number (has_panel set) all_panels all-rise
+shown-rise set = IsStrictlySortedBy-filter by_number (has_panel set) ALL all-rise
 
 apart : (a b : Panel) → by_number a b ≡ Less → is_same_panel a b ≡ false
 unfolding is_same_panel
@@ -66,10 +67,10 @@ pairwise-all R Q P h (x ∷ xs) [] all p = absurd p
 pairwise-all R Q P h (x ∷ xs) (y ∷ ys) all p = (h x y all.0 p.0, pairwise-all R Q P h xs ys all.1 p.1)
 
 -- rows that have hits, and one of which is of the item, have a hit of it
-some-hit : (p : ToldRow → Bool) (rows : List ToldRow) → AllByRecursion (λ row. 1 ≤ row.sums.hits) rows → list_any p rows ≡ true → 1 ≤ sum_by (λ row. row.sums.hits) (filter p rows)
+some-hit : (p : SourceRow → Bool) (rows : List SourceRow) → AllByRecursion (λ row. 1 ≤ row.sums.hits) rows → list_any p rows ≡ true → 1 ≤ sum_by (λ row. row.sums.hits) (filter p rows)
 some-hit p [] all e = absurd (false≢true e)
-some-hit p (x ∷ xs) all e = elim (p x) as (λ v. (v || list_any p xs) ≡ true → 1 ≤ sum_by (λ (row : ToldRow). row.sums.hits) (cond v (x ∷ filter p xs) (filter p xs))) [
-  | true ↦ λ here. omega (arith, all.0, sum_by-cons (λ (row : ToldRow). row.sums.hits) x (filter p xs))
+some-hit p (x ∷ xs) all e = elim (p x) as (λ v. (v || list_any p xs) ≡ true → 1 ≤ sum_by (λ (row : SourceRow). row.sums.hits) (cond v (x ∷ filter p xs) (filter p xs))) [
+  | true ↦ λ here. omega (arith, all.0, sum_by-cons (λ (row : SourceRow). row.sums.hits) x (filter p xs))
   | false ↦ λ there. some-hit p xs all.1 there
 ] e
 
@@ -81,16 +82,16 @@ counted : (b : Bool) (n : ℕ) → n ≡ cond b 1 0 → 1 ≤ n → b ≡ true
 counted true n e h = refl
 counted false n e h = absurd (omega (arith, e, h))
 
-module _ (rows : List ToldRow) (sound : AreSound rows) where
-  items-hit : (panel : Panel) (shown : Key → Bool) (items : List ToldRow) → AreItems panel shown rows items → All (λ item. 1 ≤ item.sums.hits) items
+module _ (rows : List SourceRow) (sound : AreSound rows) where
+  items-hit : (panel : Panel) (shown : Key → Bool) (items : List SourceRow) → AreItems panel shown rows items → All (λ item. 1 ≤ item.sums.hits) items
   items-hit panel shown items are = All-from_recursion (λ item. 1 ≤ item.sums.hits) items (all-in (λ item. 1 ≤ item.sums.hits) items hit)
     where
-      hit : (x : ToldRow) → In x items → 1 ≤ x.sums.hits
+      hit : (x : SourceRow) → In x items → 1 ≤ x.sums.hits
       hit x there =
           let has = and-right (shown x.key) (has_item x.key rows) (counted (shown x.key && has_item x.key rows) (count_by (is_of x.key) items) (are.once x.key) (in-count (is_of x.key) x items (own-item x) there)) in
-          omega (arith, some-hit (is_of x.key) rows (recursion_from_All _ rows sound.hit) has, ap (λ (r : ToldRow). r.sums.hits) (is-its-item panel shown rows items are x there))
+          omega (arith, some-hit (is_of x.key) rows (recursion_from_All _ rows sound.hit) has, ap (λ (r : SourceRow). r.sums.hits) (is-its-item panel shown rows items are x there))
 
-  row-hits : (general : General) (most : ℕ) (item : ToldRow) (row : Row) → 1 ≤ item.sums.hits → IsRow general most rows item row → HasHits row
+  row-hits : (general : General) (most : ℕ) (item : SourceRow) (row : Row) → 1 ≤ item.sums.hits → IsRow general most rows item row → HasHits row
   row-hits general most item row own is = record {
     own = omega (arith, own, ap (λ (i : Item). i.hits) is.is_item);
     children =
@@ -109,12 +110,12 @@ anything : {X : Type 0} (xs : List X) → AllByRecursion (λ _. Unit {0}) xs
 anything [] = tt
 anything (x ∷ xs) = (tt, anything xs)
 
-pub printable : (told : ToldValue) (set : List Bool) (most : ℕ) (report : Report) → AreSound told.rows → IsReport told set most report → IsPrintable report
-printable told set most report sound is = record {
+pub printable : (source : SourceValue) (set : List Bool) (most : ℕ) (report : Report) → AreSound source.rows → IsReport source set most report → IsPrintable report
+printable source set most report sound is = record {
   different = subst (λ (panels : List Panel). IsDistinct is_same_panel panels)
-      (sym (pairwise-map (IsPanelList (general_of told) most told.rows) (λ list. list.panel) (λ panel list h. h.is_panel) (panels_of set) report.panels is.panels))
+      (sym (pairwise-map (IsPanelList (general_of source) most source.rows) (λ list. list.panel) (λ panel list h. h.is_panel) (panels_of set) report.panels is.panels))
       (rise-distinct (panels_of set) (shown-rise set));
   hits = All-from_recursion (λ list. All HasHits list.rows) report.panels
-      (pairwise-all (IsPanelList (general_of told) most told.rows) (λ _. Unit {0}) (λ list. All HasHits list.rows)
-      (λ panel list _ h. panel-hits told.rows sound (general_of told) most panel list h) (panels_of set) report.panels (anything (panels_of set)) is.panels);
+      (pairwise-all (IsPanelList (general_of source) most source.rows) (λ _. Unit {0}) (λ list. All HasHits list.rows)
+      (λ panel list _ h. panel-hits source.rows sound (general_of source) most panel list h) (panels_of set) report.panels (anything (panels_of set)) is.panels);
 }

@@ -14,27 +14,27 @@ use Rattle.ga_base.proofs.OrderLemmas.{key_cmp_total}
 use Rattle.ga_shards.specs.Numbers.{noted, place_of}
 use Rattle.ga_report.specs.Items.{has_item, is_of, item_of, together, undated}
 use Rattle.ga_report.specs.Steps.Summed.{AreSummed, panel_rows, plus, undate, with_row}
-use Rattle.ga_report.specs.Told.{ToldRow}
+use Rattle.ga_report.specs.Source.{SourceRow}
 use Rattle.ga_report.proofs.ItemSums.{count-cons, item-cons, item-moved, item-none, onto, onto-nothing, own-item, same-item}
 use Rattle.ga_report.proofs.Lists.{all-weaker}
 
 -- items in another order are the items
-pub summed-as : (rows items sorted : List ToldRow) → AreSummed rows items → IsPermutation items sorted → AreSummed rows sorted
+pub summed-as : (rows items sorted : List SourceRow) → AreSummed rows items → IsPermutation items sorted → AreSummed rows sorted
 summed-as rows items sorted are moved = record {
   once = λ key. sum_by-IsPermutation (λ x. cond (is_of key x) 1 0) items sorted moved ∙ are.once key;
   sums = All-permutation (λ item. undate item ≡ item_of item.key rows) items sorted moved are.sums;
 }
 
 -- they are those of each row's panel, where all are of one
-pub summed-each : (panel : Panel) (told items tops : List ToldRow) → All (λ top. top.key.panel ≡ panel) tops → AreSummed (panel_rows panel told) items
-    → All (λ top. AreSummed (panel_rows top.key.panel told) items) tops
-summed-each panel told items tops own are =
-    All-from_recursion (λ top. AreSummed (panel_rows top.key.panel told) items) tops
-    (all-weaker (λ top. top.key.panel ≡ panel) (λ top. AreSummed (panel_rows top.key.panel told) items)
-    (λ top e. subst (λ (p : Panel). AreSummed (panel_rows p told) items) (sym e) are) tops (recursion_from_All _ tops own))
+pub summed-each : (panel : Panel) (source items tops : List SourceRow) → All (λ top. top.key.panel ≡ panel) tops → AreSummed (panel_rows panel source) items
+    → All (λ top. AreSummed (panel_rows top.key.panel source) items) tops
+summed-each panel source items tops own are =
+    All-from_recursion (λ top. AreSummed (panel_rows top.key.panel source) items) tops
+    (all-weaker (λ top. top.key.panel ≡ panel) (λ top. AreSummed (panel_rows top.key.panel source) items)
+    (λ top e. subst (λ (p : Panel). AreSummed (panel_rows p source) items) (sym e) are) tops (recursion_from_All _ tops own))
 
 -- and so they are of the rows in another order
-summed-of : (rows moved items : List ToldRow) → IsPermutation rows moved → AreSummed rows items → AreSummed moved items
+summed-of : (rows moved items : List SourceRow) → IsPermutation rows moved → AreSummed rows items → AreSummed moved items
 summed-of rows moved items same are = record {
   once = λ key. are.once key ∙ ap {B = ℕ} (λ (b : Bool). cond b 1 0) (list_any-IsPermutation (is_of key) rows moved same);
   sums = All-from_recursion (λ item. undate item ≡ item_of item.key moved) items
@@ -43,17 +43,17 @@ summed-of rows moved items same are = record {
 }
 
 -- rows of one item are of an item both or not
-alike : (key : Key) (x y : ToldRow) → is_of x.key y ≡ true → is_of key y ≡ is_of key x
+alike : (key : Key) (x y : SourceRow) → is_of x.key y ≡ true → is_of key y ≡ is_of key x
 alike key x y e = ap (λ (k : Key). is_same_key k (undated key)) (same-item x.key y e)
 
-turned : (x y : ToldRow) → is_of x.key y ≡ is_of y.key x
+turned : (x y : SourceRow) → is_of x.key y ≡ is_of y.key x
 turned x y = (eq_by_cmp_equiv key_cmp_total).symm (undated y.key) (undated x.key)
 
 -- how often an item stands there with a row more
-abbrev more : Key → ToldRow → List ToldRow → ℕ
+abbrev more : Key → SourceRow → List SourceRow → ℕ
 more key row items = cond (is_of key row) (cond (list_any (λ item. is_of item.key row) items) 0 1) 0
 
-count-with : (key : Key) (row : ToldRow) (items : List ToldRow) → count_by (is_of key) (with_row row items) ≡ more key row items + count_by (is_of key) items
+count-with : (key : Key) (row : SourceRow) (items : List SourceRow) → count_by (is_of key) (with_row row items) ≡ more key row items + count_by (is_of key) items
 count-with key row [] = count-cons (is_of key) row []
 count-with key row (x ∷ xs) = elim (is_of x.key row) as (λ b. is_of x.key row ≡ b
     → count_by (is_of key) (cond b (plus x row ∷ xs) (x ∷ with_row row xs)) ≡ cond (is_of key row) (cond (b || list_any (λ item. is_of item.key row) xs) 0 1) 0 + count_by (is_of key) (x ∷ xs)) [
@@ -70,34 +70,34 @@ count-with key row (x ∷ xs) = elim (is_of x.key row) as (λ b. is_of x.key row
     behind e = omega (arith, e)
 
 -- an item of the row's stands there as often as one of its key's does
-any-turned : (row : ToldRow) (items : List ToldRow) → list_any (λ item. is_of item.key row) items ≡ has_item row.key items
+any-turned : (row : SourceRow) (items : List SourceRow) → list_any (λ item. is_of item.key row) items ≡ has_item row.key items
 any-turned row [] = refl
 any-turned row (x ∷ xs) = λ i. turned x row i || any-turned row xs i
 
-pub counted : (key : Key) (items : List ToldRow) → has_item key items ≡ true → 1 ≤ count_by (is_of key) items
+pub counted : (key : Key) (items : List SourceRow) → has_item key items ≡ true → 1 ≤ count_by (is_of key) items
 counted key [] e = absurd (false≢true e)
 counted key (x ∷ xs) e = elim (is_of key x) as (λ b. is_of key x ≡ b → (b || has_item key xs) ≡ true → 1 ≤ count_by (is_of key) (x ∷ xs)) [
   | true ↦ λ here _. omega (arith, count-cons (is_of key) x xs, ap {B = ℕ} (λ (b : Bool). cond b 1 0) here)
   | false ↦ λ other there. omega (arith, count-cons (is_of key) x xs, counted key xs there)
 ] refl e
 
-pub not-counted : (key : Key) (items : List ToldRow) → has_item key items ≡ false → count_by (is_of key) items ≡ 0
+pub not-counted : (key : Key) (items : List SourceRow) → has_item key items ≡ false → count_by (is_of key) items ≡ 0
 not-counted key [] e = refl
 not-counted key (x ∷ xs) e = elim (is_of key x) as (λ b. is_of key x ≡ b → (b || has_item key xs) ≡ false → count_by (is_of key) (x ∷ xs) ≡ 0) [
   | true ↦ λ here f. absurd (false≢true (sym f))
   | false ↦ λ other f. omega (arith, count-cons (is_of key) x xs, ap {B = ℕ} (λ (b : Bool). cond b 1 0) other, not-counted key xs f)
 ] refl e
 
-has-none : (key : Key) (rows : List ToldRow) → has_item key rows ≡ false → AllByRecursion (λ y. is_of key y ≡ false) rows
+has-none : (key : Key) (rows : List SourceRow) → has_item key rows ≡ false → AllByRecursion (λ y. is_of key y ≡ false) rows
 has-none key [] e = tt
 has-none key (x ∷ xs) e = elim (is_of key x) as (λ b. is_of key x ≡ b → (b || has_item key xs) ≡ false → AllByRecursion (λ y. is_of key y ≡ false) (x ∷ xs)) [
   | true ↦ λ here f. absurd (false≢true (sym f))
   | false ↦ λ other f. (other, has-none key xs f)
 ] refl e
 
-module _ (seen : List ToldRow) (row : ToldRow) where
+module _ (seen : List SourceRow) (row : SourceRow) where
   -- the same item of a row more
-  onto-item : (x : ToldRow) → is_of x.key row ≡ true → undate x ≡ item_of x.key seen → undate (plus x row) ≡ item_of x.key (row ∷ seen)
+  onto-item : (x : SourceRow) → is_of x.key row ≡ true → undate x ≡ item_of x.key seen → undate (plus x row) ≡ item_of x.key (row ∷ seen)
   onto-item x e own =
       let h : x.sums.hits + row.sums.hits ≡ row.sums.hits + x.sums.hits = omega arith in
       let b : x.sums.bytes + row.sums.bytes ≡ row.sums.bytes + x.sums.bytes = omega arith in
@@ -112,23 +112,23 @@ module _ (seen : List ToldRow) (row : ToldRow) where
       turn ∙ ap (onto x.key row) own ∙ sym (item-cons x.key row seen true e)
 
   -- other items have what they had
-  kept : (xs : List ToldRow) → AllByRecursion (λ x. is_of x.key row ≡ false) xs → AllByRecursion (λ x. undate x ≡ item_of x.key seen) xs
+  kept : (xs : List SourceRow) → AllByRecursion (λ x. is_of x.key row ≡ false) xs → AllByRecursion (λ x. undate x ≡ item_of x.key seen) xs
       → AllByRecursion (λ x. undate x ≡ item_of x.key (row ∷ seen)) xs
   kept [] others sums = tt
   kept (x ∷ xs) others sums = (sums.0 ∙ sym (item-cons x.key row seen false others.0), kept xs others.1 sums.1)
 
-  no-other : (xs : List ToldRow) → count_by (is_of row.key) xs ≤ 0 → AllByRecursion (λ x. is_of x.key row ≡ false) xs
+  no-other : (xs : List SourceRow) → count_by (is_of row.key) xs ≤ 0 → AllByRecursion (λ x. is_of x.key row ≡ false) xs
   no-other [] none = tt
   no-other (x ∷ xs) none = elim (is_of row.key x) as (λ b. is_of row.key x ≡ b → AllByRecursion (λ y. is_of y.key row ≡ false) (x ∷ xs)) [
     | true ↦ λ e. absurd (omega (arith, none, count-cons (is_of row.key) x xs, ap {B = ℕ} (λ (b : Bool). cond b 1 0) e))
     | false ↦ λ e. (turned x row ∙ e, no-other xs (omega (arith, none, count-cons (is_of row.key) x xs)))
   ] refl
 
-  sums-with : (xs : List ToldRow) → count_by (is_of row.key) xs ≤ 1 → (has_item row.key xs ≡ false → has_item row.key seen ≡ false) → AllByRecursion (λ x. undate x ≡ item_of x.key seen) xs
+  sums-with : (xs : List SourceRow) → count_by (is_of row.key) xs ≤ 1 → (has_item row.key xs ≡ false → has_item row.key seen ≡ false) → AllByRecursion (λ x. undate x ≡ item_of x.key seen) xs
       → AllByRecursion (λ x. undate x ≡ item_of x.key (row ∷ seen)) (with_row row xs)
   sums-with [] one new sums =
       let none = item-none row.key seen (has-none row.key seen (new refl)) in
-      (sym (item-cons row.key row seen true (own-item row) ∙ ap (λ (r : List ToldRow). onto row.key row (together row.key r)) none ∙ onto-nothing row), tt)
+      (sym (item-cons row.key row seen true (own-item row) ∙ ap (λ (r : List SourceRow). onto row.key row (together row.key r)) none ∙ onto-nothing row), tt)
   sums-with (x ∷ xs) one new sums = elim (is_of x.key row) as (λ b. is_of x.key row ≡ b → AllByRecursion (λ y. undate y ≡ item_of y.key (row ∷ seen)) (cond b (plus x row ∷ xs) (x ∷ with_row row xs))) [
     | true ↦ λ e.
         let here : cond (is_of row.key x) 1 0 ≡ 1 = ap {B = ℕ} (λ (b : Bool). cond b 1 0) (sym (turned x row) ∙ e) in
@@ -140,7 +140,7 @@ module _ (seen : List ToldRow) (row : ToldRow) where
         )
   ] refl
 
-  once-with : (key : Key) (items : List ToldRow) → ((k : Key) → count_by (is_of k) items ≡ cond (has_item k seen) 1 0) → count_by (is_of key) (with_row row items) ≡ cond (is_of key row || has_item key seen) 1 0
+  once-with : (key : Key) (items : List SourceRow) → ((k : Key) → count_by (is_of k) items ≡ cond (has_item k seen) 1 0) → count_by (is_of key) (with_row row items) ≡ cond (is_of key row || has_item key seen) 1 0
   once-with key items once = count-with key row items ∙ go (is_of key row) refl
     where
       one-if : (b : Bool) (n : ℕ) → n ≡ cond b 1 0 → 1 ≤ n → n ≡ 1
@@ -148,7 +148,7 @@ module _ (seen : List ToldRow) (row : ToldRow) where
       one-if false n e some = absurd (omega (arith, e, some))
 
       same-count : is_of key row ≡ true → count_by (is_of key) items ≡ count_by (is_of row.key) items
-      same-count e = ap (λ (k : Key). count_by (λ (x : ToldRow). is_same_key (undated x.key) k) items) (sym (same-item key row e))
+      same-count e = ap (λ (k : Key). count_by (λ (x : SourceRow). is_same_key (undated x.key) k) items) (sym (same-item key row e))
 
       have : is_of key row ≡ true → (b : Bool) → has_item row.key items ≡ b → cond b 0 1 + count_by (is_of key) items ≡ 1
       have e true f = zero-add _ ∙ one-if (has_item key seen) _ (once key) (omega (arith, same-count e, counted row.key items f))
@@ -163,14 +163,14 @@ module _ (seen : List ToldRow) (row : ToldRow) where
   at-most false n e = omega (arith, e)
 
   -- the row's item isn't among those that were seen where it isn't among the items
-  not-seen : (items : List ToldRow) → AreSummed seen items → has_item row.key items ≡ false → has_item row.key seen ≡ false
+  not-seen : (items : List SourceRow) → AreSummed seen items → has_item row.key items ≡ false → has_item row.key seen ≡ false
   not-seen items are e = go (has_item row.key seen) refl
     where
       go : (b : Bool) → has_item row.key seen ≡ b → b ≡ false
       go false f = refl
       go true f = absurd (omega (arith, not-counted row.key items e, are.once row.key ∙ ap {B = ℕ} (λ (b : Bool). cond b 1 0) f))
 
-  summed-with : (items : List ToldRow) → AreSummed seen items → AreSummed (row ∷ seen) (with_row row items)
+  summed-with : (items : List SourceRow) → AreSummed seen items → AreSummed (row ∷ seen) (with_row row items)
   summed-with items are = record {
     once = λ key. once-with key items are.once;
     sums = All-from_recursion (λ item. undate item ≡ item_of item.key (row ∷ seen)) (with_row row items)
@@ -178,18 +178,18 @@ module _ (seen : List ToldRow) (row : ToldRow) where
   }
 
 -- a row put behind those that were seen
-pub summed-behind : (seen : List ToldRow) (row : ToldRow) (items : List ToldRow) → AreSummed seen items → AreSummed (seen ++ row ∷ []) (with_row row items)
+pub summed-behind : (seen : List SourceRow) (row : SourceRow) (items : List SourceRow) → AreSummed seen items → AreSummed (seen ++ row ∷ []) (with_row row items)
 summed-behind seen row items are = summed-of (row ∷ seen) (seen ++ row ∷ []) (with_row row items) (IsPermutation-sym _ _ (IsPermutation-to_front seen row)) (summed-with seen row items are)
 
 -- ---- by the place that a dictionary of names gives
 
-abbrev pub name_of : ToldRow → Key
+abbrev pub name_of : SourceRow → Key
 name_of item = undated item.key
 
-abbrev place : ToldRow → List ToldRow → ℕ
+abbrev place : SourceRow → List SourceRow → ℕ
 place row items = position_or_len (is_same_key (undated row.key)) (map name_of items)
 
-names-with : (row : ToldRow) (items : List ToldRow) → map name_of (with_row row items) ≡ noted is_same_key (map name_of items) (undated row.key)
+names-with : (row : SourceRow) (items : List SourceRow) → map name_of (with_row row items) ≡ noted is_same_key (map name_of items) (undated row.key)
 names-with row [] = refl
 names-with row (x ∷ xs) = elim (is_of x.key row) as (λ b. map name_of (cond b (plus x row ∷ xs) (x ∷ with_row row xs))
     ≡ cond (b || list_any (is_same_key (undated row.key)) (map name_of xs)) (name_of x ∷ map name_of xs) (name_of x ∷ map name_of xs ++ undated row.key ∷ [])) [
@@ -201,13 +201,13 @@ names-with row (x ∷ xs) = elim (is_of x.key row) as (λ b. map name_of (cond b
     turn true = refl
     turn false = refl
 
-pub names-more : (row : ToldRow) (items items' : List ToldRow) (names names' : List Key) (name : Key) → names ≡ map name_of items → name ≡ undated row.key → items' ≡ with_row row items
+pub names-more : (row : SourceRow) (items items' : List SourceRow) (names names' : List Key) (name : Key) → names ≡ map name_of items → name ≡ undated row.key → items' ≡ with_row row items
     → names' ≡ noted is_same_key names name → names' ≡ map name_of items'
 names-more row items items' names names' name e n f g =
     g ∙ ap (λ (ks : List Key). noted is_same_key ks name) e ∙ ap (noted is_same_key (map name_of items)) n ∙ sym (names-with row items) ∙ ap (map name_of) (sym f)
 
 -- the place is an item's: the row is added to it
-with-place : (row : ToldRow) (items : List ToldRow) (d : ToldRow) → place row items < length items → set items (place row items) (plus (get_or items (place row items) d) row) ≡ with_row row items
+with-place : (row : SourceRow) (items : List SourceRow) (d : SourceRow) → place row items < length items → set items (place row items) (plus (get_or items (place row items) d) row) ≡ with_row row items
 with-place row [] d below = absurd (omega (arith, below))
 with-place row (x ∷ xs) d below = elim (is_of x.key row) as (λ b. (n : ℕ) → n ≡ cond (not b) (1 + place row xs) 0 → n < length (x ∷ xs)
     → set (x ∷ xs) n (plus (get_or (x ∷ xs) n d) row) ≡ cond b (plus x row ∷ xs) (x ∷ with_row row xs)) [
@@ -215,27 +215,27 @@ with-place row (x ∷ xs) d below = elim (is_of x.key row) as (λ b. (n : ℕ) �
       | false ↦ λ n e lt.
           let next : n ≡ suc (place row xs) = omega (arith, e) in
           let rest = with-place row xs d (omega (arith, e, lt)) in
-          rw next (ap (λ (r : List ToldRow). x ∷ r) rest)
+          rw next (ap (λ (r : List SourceRow). x ∷ r) rest)
     ] (place row (x ∷ xs)) refl below
 
 -- the place is behind the items: the row is put there
-with-end : (row : ToldRow) (items : List ToldRow) → length items ≤ place row items → items ++ row ∷ [] ≡ with_row row items
+with-end : (row : SourceRow) (items : List SourceRow) → length items ≤ place row items → items ++ row ∷ [] ≡ with_row row items
 with-end row [] at = refl
 with-end row (x ∷ xs) at = elim (is_of x.key row) as (λ b. (n : ℕ) → n ≡ cond (not b) (1 + place row xs) 0 → length (x ∷ xs) ≤ n → x ∷ xs ++ row ∷ [] ≡ cond b (plus x row ∷ xs) (x ∷ with_row row xs)) [
   | true ↦ λ n e le. absurd (omega (arith, e, le))
-  | false ↦ λ n e le. ap (λ (r : List ToldRow). x ∷ r) (with-end row xs (omega (arith, e, le)))
+  | false ↦ λ n e le. ap (λ (r : List SourceRow). x ∷ r) (with-end row xs (omega (arith, e, le)))
 ] (place row (x ∷ xs)) refl at
 
-pub added-at : (row : ToldRow) (items : List ToldRow) (names : List Key) (name : Key) (at : ℕ) (item sum : ToldRow) → names ≡ map name_of items → name ≡ undated row.key → at ≡ place_of is_same_key names name
+pub added-at : (row : SourceRow) (items : List SourceRow) (names : List Key) (name : Key) (at : ℕ) (item sum : SourceRow) → names ≡ map name_of items → name ≡ undated row.key → at ≡ place_of is_same_key names name
     → at < length items → item ≡ get_or items at item → sum ≡ plus item row → set items at sum ≡ with_row row items
 added-at row items names name at item sum e n f below own is =
     let here : at ≡ place row items = f ∙ ap (λ (ks : List Key). place_of is_same_key ks name) e ∙ ap (place_of is_same_key (map name_of items)) n in
-    let added : sum ≡ plus (get_or items (place row items) item) row = is ∙ ap (λ (x : ToldRow). plus x row) (own ∙ ap (λ (k : ℕ). get_or items k item) here) in
-    ap (λ (x : ToldRow). set items at x) added ∙ ap (λ (k : ℕ). set items k (plus (get_or items (place row items) item) row)) here
+    let added : sum ≡ plus (get_or items (place row items) item) row = is ∙ ap (λ (x : SourceRow). plus x row) (own ∙ ap (λ (k : ℕ). get_or items k item) here) in
+    ap (λ (x : SourceRow). set items at x) added ∙ ap (λ (k : ℕ). set items k (plus (get_or items (place row items) item) row)) here
     ∙ with-place row items item (subst (λ (k : ℕ). k < length items) here below)
 
-pub added-behind : (row copy : ToldRow) (items more : List ToldRow) (names : List Key) (name : Key) (at : ℕ) → names ≡ map name_of items → name ≡ undated row.key → at ≡ place_of is_same_key names name
+pub added-behind : (row copy : SourceRow) (items more : List SourceRow) (names : List Key) (name : Key) (at : ℕ) → names ≡ map name_of items → name ≡ undated row.key → at ≡ place_of is_same_key names name
     → length items ≤ at → copy ≡ row → more ≡ items ++ copy ∷ [] → more ≡ with_row row items
 added-behind row copy items more names name at e n f behind same is =
     let here : at ≡ place row items = f ∙ ap (λ (ks : List Key). place_of is_same_key ks name) e ∙ ap (place_of is_same_key (map name_of items)) n in
-    is ∙ ap (λ (x : ToldRow). items ++ x ∷ []) same ∙ with-end row items (subst (λ (k : ℕ). length items ≤ k) here behind)
+    is ∙ ap (λ (x : SourceRow). items ++ x ∷ []) same ∙ with-end row items (subst (λ (k : ℕ). length items ≤ k) here behind)

@@ -13,19 +13,19 @@ use Rattle.ga_base.specs.Layers.{Layer, in_layer, is_flag, is_empty}
 use Rattle.ga_base.specs.Orders.{is_same_key}
 use Rattle.ga_base.specs.Panels.{is_same_panel, panel_number}
 use Rattle.ga_base.proofs.OrderLemmas.{key_cmp_total}
-use Rattle.ga_report.specs.Told.{ToldRow, ToldValue}
+use Rattle.ga_report.specs.Source.{SourceRow, SourceValue}
 use Rattle.ga_report.specs.Items.{is_of, of_item, item_of}
 use Rattle.ga_report.specs.Reports.{general_of}
-use Rattle.ga_report.specs.Sound.{AreSound, SumsFit, SumsWithin, day_rows, layer_rows}
+use Rattle.ga_report.specs.SoundRows.{AreSound, SumsFit, SumsWithin, day_rows, layer_rows}
 use Rattle.ga_report.specs.Steps.Summed.{undate, IsPart}
 use Rattle.ga_report.proofs.ItemSums.{same-item}
 use Rattle.ga_report.proofs.Lists.{all-weaker, map-all, sum_by-filter}
 
-module _ (f : ToldRow → ℕ) where
-  abbrev weight : (ToldRow → Bool) → ToldRow → ℕ
+module _ (f : SourceRow → ℕ) where
+  abbrev weight : (SourceRow → Bool) → SourceRow → ℕ
   weight test row = cond (test row) (f row) 0
 
-  abbrev total : (ToldRow → Bool) → List ToldRow → ℕ
+  abbrev total : (SourceRow → Bool) → List SourceRow → ℕ
   total test rows = sum_by (weight test) rows
 
   weaker-one : (a b : Bool) (n : ℕ) → (a ≡ true → b ≡ true) → cond a n 0 ≤ cond b n 0
@@ -33,11 +33,11 @@ module _ (f : ToldRow → ℕ) where
   weaker-one false b n h = omega arith
 
   -- where more rows pass, they sum to more
-  weaker : (p q : ToldRow → Bool) → ((row : ToldRow) → p row ≡ true → q row ≡ true) → (rows : List ToldRow) → total p rows ≤ total q rows
+  weaker : (p q : SourceRow → Bool) → ((row : SourceRow) → p row ≡ true → q row ≡ true) → (rows : List SourceRow) → total p rows ≤ total q rows
   weaker p q h [] = omega arith
   weaker p q h (x ∷ xs) = omega (arith, sum_by-cons (weight p) x xs, sum_by-cons (weight q) x xs, weaker-one (p x) (q x) (f x) (h x), weaker p q h xs)
 
-  none-pass : (p : ToldRow → Bool) (rows : List ToldRow) → AllByRecursion (λ row. p row ≡ true → false ≡ true) rows → total p rows ≤ 0
+  none-pass : (p : SourceRow → Bool) (rows : List SourceRow) → AllByRecursion (λ row. p row ≡ true → false ≡ true) rows → total p rows ≤ 0
   none-pass p [] none = omega arith
   none-pass p (x ∷ xs) none = omega (arith, sum_by-cons (weight p) x xs, weaker-one (p x) false (f x) none.0, none-pass p xs none.1)
 
@@ -45,13 +45,13 @@ module _ (f : ToldRow → ℕ) where
   split-one true a n = omega arith
   split-one false a n = omega arith
 
-  split : (d p : ToldRow → Bool) (rows : List ToldRow) → total p rows ≤ total (λ row. d row && p row) rows + total (λ row. cond (d row) false (p row)) rows
+  split : (d p : SourceRow → Bool) (rows : List SourceRow) → total p rows ≤ total (λ row. d row && p row) rows + total (λ row. cond (d row) false (p row)) rows
   split d p [] = omega arith
   split d p (x ∷ xs) =
       omega (arith, sum_by-cons (weight p) x xs, sum_by-cons (weight (λ row. d row && p row)) x xs, sum_by-cons (weight (λ row. cond (d row) false (p row))) x xs, split-one (d x) (p x) (f x), split d p xs)
 
   -- whether a row is of the day of another
-  abbrev of-day : ToldRow → ToldRow → Bool
+  abbrev of-day : SourceRow → SourceRow → Bool
   of-day day row = row.key.date == day.key.date
 
   later : (d p any : Bool) → (p ≡ true → (d || any) ≡ true) → cond d false p ≡ true → any ≡ true
@@ -67,11 +67,11 @@ module _ (f : ToldRow → ℕ) where
   and-both false d p e = e
 
   -- rows whose days are all there sum to at most what the days sum to, where each day's do
-  cover : (p : ToldRow → Bool) (rows days : List ToldRow) → AllByRecursion (λ row. p row ≡ true → list_any (λ day. of-day day row) days ≡ true) rows
+  cover : (p : SourceRow → Bool) (rows days : List SourceRow) → AllByRecursion (λ row. p row ≡ true → list_any (λ day. of-day day row) days ≡ true) rows
       → AllByRecursion (λ day. total (λ row. of-day day row && p row) rows ≤ f day) days → total p rows ≤ sum_by f days
   cover p rows [] dated within = none-pass p rows dated
   cover p rows (day ∷ days) dated within =
-      let off = λ (row : ToldRow). cond (of-day day row) false (p row) in
+      let off = λ (row : SourceRow). cond (of-day day row) false (p row) in
       let rest = cover off rows days
       (all-weaker (λ row. p row ≡ true → list_any (λ d. of-day d row) (day ∷ days) ≡ true) (λ row. off row ≡ true → list_any (λ d. of-day d row) days ≡ true)
       (λ row h. later (of-day day row) (p row) (list_any (λ d. of-day d row) days) h) rows dated)
@@ -80,20 +80,20 @@ module _ (f : ToldRow → ℕ) where
       omega (arith, sum_by-cons f day days, split (of-day day) p rows, within.0, rest)
 
   -- of rows whose keys are different, one at the most has a key
-  one-row : (k : Key) (n : ℕ) (q : ToldRow → Bool) (rows : List ToldRow) → IsDistinct is_same_key (map (λ row. row.key) rows) → ((row : ToldRow) → q row ≡ true → row.key ≡ k)
+  one-row : (k : Key) (n : ℕ) (q : SourceRow → Bool) (rows : List SourceRow) → IsDistinct is_same_key (map (λ row. row.key) rows) → ((row : SourceRow) → q row ≡ true → row.key ≡ k)
       → AllByRecursion (λ row. q row ≡ true → f row ≤ n) rows → total q rows ≤ n
   unfolding IsDistinct
   one-row k n q [] apart is within = omega arith
   one-row k n q (x ∷ xs) apart is within = go (q x) refl (one-row k n q xs apart.1 is within.1)
     where
-      not-again : q x ≡ true → (y : ToldRow) → is_same_key x.key y.key ≡ false → q y ≡ true → false ≡ true
+      not-again : q x ≡ true → (y : SourceRow) → is_same_key x.key y.key ≡ false → q y ≡ true → false ≡ true
       not-again here y other e =
           let same : is_same_key x.key y.key ≡ true = rw (is x here, is y e) (ap is_eq (tied_itself key_cmp_total k)) in
           absurd (false≢true (sym other ∙ same))
 
       go : (b : Bool) → q x ≡ b → total q xs ≤ n → total q (x ∷ xs) ≤ n
       go true here rest =
-          let others = map-all (λ (row : ToldRow). row.key) (λ b. is_same_key x.key b ≡ false) xs apart.0 in
+          let others = map-all (λ (row : SourceRow). row.key) (λ b. is_same_key x.key b ≡ false) xs apart.0 in
           let none = none-pass q xs (all-weaker (λ y. is_same_key x.key y.key ≡ false) (λ y. q y ≡ true → false ≡ true) (not-again here) xs others) in
           omega (arith, sum_by-cons (weight q) x xs, weaker-one (q x) true (f x) (λ e. refl), none, within.0 here)
       go false other rest =
@@ -125,7 +125,7 @@ and-true a b e h = rw (e, h) refl
 abbrev layer_of : Key → Layer
 layer_of key = record { panel = key.panel; groups = is_empty key.label }
 
-in-own-layer : (key : Key) (row : ToldRow) → is_of key row ≡ true → in_layer (layer_of key) row.key ≡ true
+in-own-layer : (key : Key) (row : SourceRow) → is_of key row ≡ true → in_layer (layer_of key) row.key ≡ true
 in-own-layer key row e =
     ap (λ (k : Key). in_layer (layer_of key) k) (same-item key row e)
     ∙ and-true (is_same_panel key.panel key.panel) (is_flag (is_empty key.label) (is_empty key.label)) (same_panel-itself key.panel) (is_flag-itself (is_empty key.label))
@@ -134,22 +134,22 @@ in-own-layer key row e =
 abbrev on-day : Key → ℕ → Key
 on-day key date = record { panel = key.panel; date = date; parent = key.parent; label = key.label; method = key.method; protocol = key.protocol }
 
-is-on-day : (key : Key) (date : ℕ) (row : ToldRow) → ((row.key.date == date) && is_of key row) ≡ true → row.key ≡ on-day key date
+is-on-day : (key : Key) (date : ℕ) (row : SourceRow) → ((row.key.date == date) && is_of key row) ≡ true → row.key ≡ on-day key date
 is-on-day key date row e =
     let same = same-item key row (and-right (row.key.date == date) (is_of key row) e) in
     let day : row.key.date ≡ date = (Decides-eqb row.key.date date).0 (and-left (row.key.date == date) (is_of key row) e) in
     λ i. record { panel = (same i).panel; date = day i; parent = (same i).parent; label = (same i).label; method = (same i).method; protocol = (same i).protocol }
 
-module _ (rows : List ToldRow) (sound : AreSound rows) (key : Key) where
-  covered : (f : ToldRow → ℕ) → AllByRecursion (λ day. total f (λ row. of-day f day row && is_of key row) rows ≤ f day) (day_rows rows) → sum_by f (of_item key rows) ≤ sum_by f (day_rows rows)
+module _ (rows : List SourceRow) (sound : AreSound rows) (key : Key) where
+  covered : (f : SourceRow → ℕ) → AllByRecursion (λ day. total f (λ row. of-day f day row && is_of key row) rows ≤ f day) (day_rows rows) → sum_by f (of_item key rows) ≤ sum_by f (day_rows rows)
   covered f within =
       let dated = all-weaker (λ row. list_any (λ day. row.key.date == day.key.date) (day_rows rows) ≡ true) (λ row. is_of key row ≡ true → list_any (λ day. of-day f day row) (day_rows rows) ≡ true)
       (λ row h of. h) rows (recursion_from_All _ rows sound.dated) in
       omega (arith, sum_by-filter f (is_of key) rows, cover f (is_of key) rows (day_rows rows) dated within)
 
-  in-layers : (f : ToldRow → ℕ) → ((day : ToldRow) → ((layer : Layer) → sum_by f (layer_rows layer day.key.date rows) ≤ f day) → total f (λ row. of-day f day row && is_of key row) rows ≤ f day)
+  in-layers : (f : SourceRow → ℕ) → ((day : SourceRow) → ((layer : Layer) → sum_by f (layer_rows layer day.key.date rows) ≤ f day) → total f (λ row. of-day f day row && is_of key row) rows ≤ f day)
   in-layers f day within =
-      let of = λ (row : ToldRow). (row.key.date == day.key.date) && in_layer (layer_of key) row.key in
+      let of = λ (row : SourceRow). (row.key.date == day.key.date) && in_layer (layer_of key) row.key in
       omega (
         arith,
         weaker f (λ row. of-day f day row && is_of key row) of (λ row. and-more (of-day f day row) (is_of key row) (in_layer (layer_of key) row.key) (in-own-layer key row)) rows,
@@ -169,7 +169,7 @@ module _ (rows : List ToldRow) (sound : AreSound rows) (key : Key) where
   micros-within = covered (λ row. row.sums.micros) (all-weaker (λ day. (layer : Layer) → SumsWithin (layer_rows layer day.key.date rows) day.sums) (λ day. total (λ row. row.sums.micros) (λ row. (row.key.date == day.key.date) && is_of key row) rows ≤ day.sums.micros)
       (λ day w. in-layers (λ row. row.sums.micros) day (λ layer. (w layer).micros)) (day_rows rows) (recursion_from_All _ (day_rows rows) sound.layers))
 
-  visitors-on : (day : ToldRow) → All (λ row. row.key.date ≡ day.key.date → row.visitors ≤ day.visitors) rows → total (λ row. row.visitors) (λ row. (row.key.date == day.key.date) && is_of key row) rows ≤ day.visitors
+  visitors-on : (day : SourceRow) → All (λ row. row.key.date ≡ day.key.date → row.visitors ≤ day.visitors) rows → total (λ row. row.visitors) (λ row. (row.key.date == day.key.date) && is_of key row) rows ≤ day.visitors
   visitors-on day within =
       one-row (λ row. row.visitors) (on-day key day.key.date) day.visitors (λ row. (row.key.date == day.key.date) && is_of key row) rows sound.different (is-on-day key day.key.date)
       (all-weaker (λ row. row.key.date ≡ day.key.date → row.visitors ≤ day.visitors) (λ row. ((row.key.date == day.key.date) && is_of key row) ≡ true → row.visitors ≤ day.visitors)
@@ -188,9 +188,9 @@ module _ (rows : List ToldRow) (sound : AreSound rows) (key : Key) where
   }
 
 -- an item is a part of the whole
-pub is-part : (told : ToldValue) → AreSound told.rows → (item : ToldRow) → undate item ≡ item_of item.key told.rows → IsPart (general_of told) item
-is-part told sound item e = record {
-  hits = omega (arith, ap (λ (r : ToldRow). r.sums.hits) e, hits-within told.rows sound item.key);
-  visitors = omega (arith, ap (λ (r : ToldRow). r.visitors) e, visitors-within told.rows sound item.key);
-  bytes = omega (arith, ap (λ (r : ToldRow). r.sums.bytes) e, bytes-within told.rows sound item.key);
+pub is-part : (source : SourceValue) → AreSound source.rows → (item : SourceRow) → undate item ≡ item_of item.key source.rows → IsPart (general_of source) item
+is-part source sound item e = record {
+  hits = omega (arith, ap (λ (r : SourceRow). r.sums.hits) e, hits-within source.rows sound item.key);
+  visitors = omega (arith, ap (λ (r : SourceRow). r.visitors) e, visitors-within source.rows sound item.key);
+  bytes = omega (arith, ap (λ (r : SourceRow). r.sums.bytes) e, bytes-within source.rows sound item.key);
 }

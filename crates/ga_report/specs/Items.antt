@@ -11,30 +11,30 @@ use Rattle.ga_base.specs.declared.panel.Panel.TheVariants.{Visitors, VisitTimes}
 use Rattle.ga_base.specs.Layers.{has_groups, is_empty}
 use Rattle.ga_base.specs.Orders.{key_cmp, text_cmp, is_same_key}
 use Rattle.ga_base.specs.Panels.{is_same_panel}
-use Rattle.ga_report.specs.Told.{ToldRow}
+use Rattle.ga_report.specs.Source.{SourceRow}
 
 -- a key without its day
 abbrev pub undated : Key → Key
 undated key = record { panel = key.panel; date = 0; parent = key.parent; label = key.label; method = key.method; protocol = key.protocol }
 
 -- whether a row is of the item that a key is of
-abbrev pub is_of : Key → ToldRow → Bool
+abbrev pub is_of : Key → SourceRow → Bool
 is_of key row = is_same_key (undated row.key) (undated key)
 
 -- the rows of an item, one for each day
-abbrev pub of_item : Key → List ToldRow → List ToldRow
+abbrev pub of_item : Key → List SourceRow → List SourceRow
 of_item key rows = filter (is_of key) rows
 
-abbrev pub has_item : Key → List ToldRow → Bool
+abbrev pub has_item : Key → List SourceRow → Bool
 has_item key rows = list_any (is_of key) rows
 
 -- the greatest of the rows' times
-abbrev pub greatest_time : List ToldRow → ℕ
+abbrev pub greatest_time : List SourceRow → ℕ
 greatest_time [] = 0
 greatest_time (row ∷ rows) = max row.sums.max_micros (greatest_time rows)
 
 -- what rows have together. A visitor is one of a day, so that those of several days are different
-abbrev pub together : Key → List ToldRow → ToldRow
+abbrev pub together : Key → List SourceRow → SourceRow
 together key rows = record {
   key = undated key;
   sums = record {
@@ -47,21 +47,21 @@ together key rows = record {
 }
 
 -- the item of a key
-abbrev pub item_of : Key → List ToldRow → ToldRow
+abbrev pub item_of : Key → List SourceRow → SourceRow
 item_of key rows = together key (of_item key rows)
 
 -- items by their data, method and protocol
-abbrev pub item_order : ToldRow → ToldRow → Ordering
+abbrev pub item_order : SourceRow → SourceRow → Ordering
 item_order a b = key_cmp (undated a.key) (undated b.key)
 
-abbrev pub last_first : ToldRow → ToldRow → Ordering
+abbrev pub last_first : SourceRow → SourceRow → Ordering
 last_first a b = ordering_then (text_cmp b.key.label a.key.label) (item_order a b)
 
-abbrev pub by_hits : ToldRow → ToldRow → Ordering
+abbrev pub by_hits : SourceRow → SourceRow → Ordering
 by_hits a b = ordering_then (nat_cmp b.sums.hits a.sums.hits) (item_order a b)
 
 -- the last day stands first, hours rise, and elsewhere hits fall; what ties so stands by its data, method and protocol
-abbrev pub order : Panel → ToldRow → ToldRow → Ordering
+abbrev pub order : Panel → SourceRow → SourceRow → Ordering
 order Visitors a b = last_first a b
 order VisitTimes a b = item_order a b
 order _ a b = by_hits a b
@@ -75,7 +75,7 @@ abbrev pub is_child : Key → Key → Bool
 is_child group key = (is_same_panel key.panel group.panel && has_groups group.panel) && (bytes_eq key.parent group.parent && not (is_empty key.label))
 
 -- the items of the rows that are to be shown, each once, in their order
-pub record AreItems (panel : Panel) (is_shown : Key → Bool) (rows items : List ToldRow) : Type 0 where
+pub record AreItems (panel : Panel) (is_shown : Key → Bool) (rows items : List SourceRow) : Type 0 where
   pub once : (key : Key) → count_by (is_of key) items ≡ (if is_shown key && has_item key rows then 1 else 0)
   pub sums : All (λ item. item ≡ item_of item.key rows) items
   pub ordered : IsSorted (order panel) items

@@ -1,5 +1,5 @@
-pub mod Told
-pub mod Sound
+pub mod Source
+pub mod SoundRows
 pub mod Items
 pub mod Percents
 pub mod Reports

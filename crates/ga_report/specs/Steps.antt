@@ -1,4 +1,4 @@
 -- What only inner contracts and proofs say.
 pub mod Summed
-pub mod Places
+pub mod RowPlaces
 pub mod Alone

@@ -5,14 +5,15 @@ use Rattle.std.specs.List.{before_first, after_first}
 use Rattle.std.specs.Str.Lossy.{utf8_lossy}
 use Rattle.std.specs.Str.Iter.{HasSubslice}
 use Rattle.form_urlencoded.specs.Form.{parse}
+use Rattle.ga_base.specs.Bytes.{byte_of}
 use Rattle.ga_requests.specs.Urls.{question_mark}
 
 abbrev pub slash : ℕ
-slash = 47
+slash = byte_of (codes "/")
 
 -- the byte that begins a fragment
 abbrev pub number_sign : ℕ
-number_sign = 35
+number_sign = byte_of (codes "#")
 
 -- `rest` is what stands behind the first place of `mark` in the text: it stands behind one, and nothing longer
 -- stands behind any

@@ -1,11 +1,12 @@
 -- A request in its three parts. The form is that of HTTP's request line (RFC 9112, section 3), but for the target,
 -- which may hold spaces, as servers log what clients send; what isn't of that form is a target whole.
-use Rattle.std.specs.Prelude.{◌≡◌, ◌≢◌, ℕ, ◌⊎◌, List, [], ◌∷◌, ◌++◌}
+use Rattle.std.specs.Prelude.{◌≡◌, ◌≢◌, ℕ, ◌⊎◌, List, [], ◌∷◌, ◌++◌, codes}
+use Rattle.ga_base.specs.Bytes.{byte_of}
 use Rattle.ga_requests.specs.Tables.{IsMethod, IsProtocol}
 
 -- the byte between the parts
 abbrev pub space : ℕ
-space = 32
+space = byte_of (codes " ")
 
 -- the text is a known method, a space, a target of at least one byte, a space and a known protocol
 pub record IsRequestLine (text method target protocol : List ℕ) : Type 0 where

@@ -1,14 +1,15 @@
 -- From the target of a request to its URL, and which URLs are of static files. Percent-decoding is that of the
 -- URL Standard; what static files are is this program's own rule, after GoAccess's options for them.
-use Rattle.std.specs.Prelude.{◌≡◌, ℕ, zero, suc, ◌⊎◌, ◌==◌, Bool, IsTrue, List, ◌++◌}
+use Rattle.std.specs.Prelude.{◌≡◌, ℕ, zero, suc, ◌⊎◌, ◌==◌, Bool, IsTrue, List, ◌++◌, codes}
 use Rattle.std.specs.List.{Contains, before_first}
 use Rattle.std.specs.Str.Lossy.{utf8_lossy}
 use Rattle.percent_encoding.specs.Percent.{percent_decode}
+use Rattle.ga_base.specs.Bytes.{byte_of}
 use Rattle.ga_requests.specs.Tables.{extensions}
 
 -- the byte that begins a query
 abbrev pub question_mark : ℕ
-question_mark = 63
+question_mark = byte_of (codes "?")
 
 -- what stands before the first `?`, or all where there is none
 abbrev pub without_query : List ℕ → List ℕ

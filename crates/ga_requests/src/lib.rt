@@ -7,13 +7,11 @@
 //! `specs/Steps.antt` has the words of inner steps alone.
 #![tactic(auto)]
 
-mod cutting;
+mod before_byte;
 pub mod laws;
 mod referrers;
 mod splitting;
 mod tables;
-#[cfg(test)]
-mod tests;
 mod urls;
 
 pub use referrers::{Referral, keyphrase, referral_of, referring_site, site_of};

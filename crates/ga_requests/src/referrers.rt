@@ -4,7 +4,7 @@ ghost use Rattle.ga_requests.specs.Referrers.{SiteIs, ends_site, IsGoogle, Keyph
 ghost use Rattle.ga_requests.specs.Referrers.{query_of, pairs_of, PhraseIs};
 ghost use Rattle.ga_requests.specs.Steps.{text_of};
 
-use crate::cutting::{NUMBER_SIGN, QUESTION_MARK, before_byte};
+use crate::before_byte::{NUMBER_SIGN, QUESTION_MARK, before_byte};
 use form_urlencoded::{decode, raw_pairs};
 use ga_base::{NoMemory, Text};
 use memchr::{memchr, memchr3};

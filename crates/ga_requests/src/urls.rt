@@ -4,7 +4,7 @@ ghost use Rattle.std.specs.List.{list_any, ends_with};
 ghost use Rattle.ga_requests.specs.Tables.{extensions};
 ghost use Rattle.ga_requests.specs.Urls as spec;
 
-use crate::cutting::{QUESTION_MARK, before_byte};
+use crate::before_byte::{QUESTION_MARK, before_byte};
 use crate::tables::is_extension;
 use ga_base::{NoMemory, Text, Texts};
 use memchr::memrchr;

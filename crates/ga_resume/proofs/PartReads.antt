@@ -1,9 +1,9 @@
 -- What one more read does to the view of files that gave bytes already.
 use Rattle.std.proofs.Common.{◌≡◌, ℕ, ◌+◌, ◌-◌, [], ◌≤◌, true, false, List, ◌++◌, ap, sym, ◌∙◌, Option, Some, None, IfSome, arith, take, drop}
 use Rattle.std.proofs.Math.Seq.{take-add, drop-drop}
-use Rattle.ga_ports.specs.Counts.{raised, NoneDue}
+use Rattle.ga_counters.specs.Counts.{raised, NoneDue}
 use Rattle.ga_ports.specs.Files.{FilesView, gives, calls_once, fails_once, is_short, Fails}
-use Rattle.ga_resume.specs.Reading.{after_reads, StopsAfter, StopsWithin}
+use Rattle.ga_resume.specs.ReadPart.{after_reads, StopsAfter, StopsWithin}
 use Rattle.ga_resume.specs.declared.fault.PlaceFault.{PlaceFault}
 use Rattle.ga_resume.specs.declared.fault.PlaceFault.TheVariants.{FileFault, FileShort, NoMemory}
 

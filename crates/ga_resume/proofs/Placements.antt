@@ -2,7 +2,7 @@
 use Rattle.std.proofs.Common.{◌≡◌, ◌⊎◌, ◌<◌, ◌≤◌, ◌-◌, ◌∙◌, ℕ, List, length, take, drop, min, ap, sym, arith, take_all, inl, inr, Some}
 use Rattle.std.proofs.lemmas.Bool.{cases_lt}
 use Rattle.ga_ports.specs.Files.{FilesView, calls_once, measures}
-use Rattle.ga_resume.specs.Reading.{after_reads}
+use Rattle.ga_resume.specs.ReadPart.{after_reads}
 use Rattle.ga_resume.specs.Segment.{measured_as}
 
 pub sized-and-read : (end n : ℕ) (v w u : FilesView) → w ≡ record v { measured = Some end; counts = measures end (calls_once v.counts) }

@@ -3,9 +3,10 @@ use Rattle.std.specs.Prelude.{◌≡◌, ℕ, ◌<◌, ◌≤◌, ◌≢◌, Lis
 use Rattle.std.specs.List.{Contains}
 use Rattle.sha2.specs.Sha256.{sha256}
 use Rattle.ga_base.specs.declared.entry.Entry.{Entry}
+use Rattle.ga_base.specs.declared.limits.TheConstants.{FRONT}
 
 -- a log of this front and size begins with what was counted under the entry: it is no shorter, and its first bytes have the
--- digest. The front is the log's first 4096 bytes, or all of a shorter one
+-- digest. The front is the log's first FRONT bytes, or all of a shorter one
 pub record Fits (front : List ℕ) (end : ℕ) (entry : Entry) : Type 0 where
   pub within : entry.offset ≤ end
   pub same : entry.digest ≡ sha256 (take entry.lead front)
@@ -29,7 +30,7 @@ IsChoice entries front end (Some place) from = (entry : Entry) × IsChosen entri
 -- the entry of a log of this front that was counted up to the offset
 pub record IsEntryOf (front : List ℕ) (counted : ℕ) (entry : Entry) : Type 0 where
   pub offset : entry.offset ≡ counted
-  pub digest : entry.digest ≡ sha256 (take (min counted 4096) front)
+  pub digest : entry.digest ≡ sha256 (take (min counted FRONT) front)
 
 -- the list with the entry in the place of the one that the log continued, or else at the end
 abbrev pub with_entry : Option ℕ → Entry → List Entry → List Entry

@@ -1,4 +1,4 @@
 pub mod Entries
-pub mod Reading
+pub mod ReadPart
 pub mod Segment
 pub mod Steps

@@ -1,5 +1,6 @@
 ghost use Rattle.std.specs.Prelude.{◌≡◌, ◌≤◌, ◌⊎◌, ◌↔◌, true, ℕ, List, All, IfOk, IfSome, Some, None, length, min};
 ghost use Rattle.std.specs.List.Sorted.{IsPermutation};
+ghost use Rattle.ga_base.specs.declared.limits.TheConstants.{FRONT};
 ghost use Rattle.sha2.specs.Hashers.{Holds256};
 ghost use Rattle.sha2.specs.Sha256.{sha256};
 ghost use Rattle.ga_resume.specs.Entries.{IsChoice, IsChosen};
@@ -17,19 +18,19 @@ pub(crate) struct Candidate {
 }
 
 /// The entry that a log of this front and size continues.
-pub(crate) fn chosen(
+pub(crate) fn choose_entry(
     alloc: Global,
     entries: &[Entry],
     front: &[u8],
     end: u64,
 ) -> Result<Option<Candidate>, NoMemory>
-    requires { length front.now ≡ min end 4096 }
+    requires { length front.now ≡ min end FRONT }
     ensures none { IfOk result (λ chosen. chosen ≡ None → IsChoice entries.now front.now end None 0) }
     ensures some { IfOk result (λ chosen. IfSome chosen (λ c. IsChosen entries.now front.now end c.place c.entry)) }
 {
     let candidates = by_offset(candidates(alloc, entries, end)?);
-    let fitting = fitting(alloc, &candidates, front)?;
-    Ok(best(&fitting))
+    let fitting = fitting_candidates(alloc, &candidates, front)?;
+    Ok(best_candidate(&fitting))
 }
 
 /// The entries whose offset lies within the log.
@@ -58,7 +59,7 @@ fn by_offset(candidates: Vec<Candidate>) -> Vec<Candidate>
 }
 
 /// The candidates whose digest is that of the front's first bytes. The front is hashed once, as far as each needs it.
-fn fitting(
+fn fitting_candidates(
     alloc: Global,
     candidates: &[Candidate],
     front: &[u8],
@@ -90,17 +91,17 @@ fn has_digest(hasher: &Sha256, digest: &[u8; 32]) -> Result<bool, NoMemory>
 }
 
 /// The one with the greatest offset, and among these the one that comes first in the list of entries.
-fn best(candidates: &[Candidate]) -> Option<Candidate>
+fn best_candidate(candidates: &[Candidate]) -> Option<Candidate>
     ensures { IsBest candidates.now (length candidates.now) result }
 {
     let mut best = None;
     for candidate in candidates {
-        best = Some(better(best, *candidate));
+        best = Some(better_of(best, *candidate));
     }
     best
 }
 
-fn better(best: Option<Candidate>, other: Candidate) -> Candidate
+fn better_of(best: Option<Candidate>, other: Candidate) -> Candidate
     ensures chosen { (result ≡ other) ⊎ (best ≡ Some result) }
     ensures leads { Leads result other }
     ensures best { IfSome best (λ best. Leads result best) }

@@ -1,9 +1,10 @@
 ghost use Rattle.std.specs.Prelude.{◌≡◌, ◌≤◌, ◌<◌, OnErr, OnOk, length, min, set};
+ghost use Rattle.ga_base.specs.declared.limits.TheConstants.{FRONT};
 ghost use Rattle.ga_resume.specs.Entries.{IsAdvanced, IsEntryOf};
 ghost use Rattle.ga_resume.specs.Segment.{IsSegment};
 
-use crate::{FRONT, Segment};
-use ga_base::{Entries, Entry, NoMemory};
+use crate::Segment;
+use ga_base::{Entries, Entry, FRONT, NoMemory};
 use sha2::{Digest, Sha256};
 use std::alloc::Global;
 use std::mem;
@@ -41,7 +42,7 @@ pub fn advance(
 /// The entry of a log of this front that was counted up to the offset.
 fn entry_of(front: &[u8], offset: u64) -> Entry
     requires some { 1 ≤ offset }
-    requires within { min offset 4096 ≤ length front.now }
+    requires within { min offset FRONT ≤ length front.now }
     ensures { IsEntryOf front.now offset result }
 {
     let lead = offset.min(FRONT);

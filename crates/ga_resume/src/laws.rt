@@ -2,11 +2,12 @@
 
 ghost use Rattle.std.specs.Prelude.{◌≡◌, ◌↔◌, ℕ, List, Option, take};
 ghost use Rattle.ga_base.specs.declared.entry.Entry.{Entry};
+ghost use Rattle.ga_base.specs.declared.limits.TheConstants.{FRONT};
 ghost use Rattle.ga_resume.specs.Entries.{Fits, IsChoice};
 
-/// Whether an entry fits a log shows on the log's first 4096 bytes.
+/// Whether an entry fits a log shows on the log's first `FRONT` bytes.
 pub fn fits_by_front()
-    ensures { (log : List ℕ) (end : ℕ) (entry : Entry) → Fits (take 4096 log) end entry ↔ Fits log end entry }
+    ensures { (log : List ℕ) (end : ℕ) (entry : Entry) → Fits (take FRONT log) end entry ↔ Fits log end entry }
 {}
 
 /// A log continues one entry of a list, or none.

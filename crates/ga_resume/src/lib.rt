@@ -8,15 +8,12 @@ mod choosing;
 mod fault;
 mod following;
 pub mod laws;
+mod part_reading;
 mod placing;
-mod reading;
 mod segment;
 
 pub use fault::PlaceFault;
 pub use following::advance;
+pub use part_reading::{read_part, read_slice, slice_buffer};
 pub use placing::place;
-pub use reading::{read_part, read_slice, slice_buffer};
-pub use segment::{FRONT, Segment};
-
-#[cfg(test)]
-mod tests;
+pub use segment::Segment;

@@ -1,12 +1,13 @@
 ghost use Rattle.std.specs.Prelude.{◌≡◌, ◌≢◌, IfErr, IfOk, IsTrue, length, min};
-ghost use Rattle.ga_ports.specs.Counts.{NoneDue};
-ghost use Rattle.ga_ports.specs.Stretch.{FilesWent};
+ghost use Rattle.ga_base.specs.declared.limits.TheConstants.{FRONT};
+ghost use Rattle.ga_counters.specs.Counts.{NoneDue};
+ghost use Rattle.ga_ports.specs.Trace.{FilesTrace};
 ghost use Rattle.ga_resume.specs.Segment.{IsSegment, MissesPlace, PlacesLog};
 ghost use Rattle.ga_resume.specs.declared.fault.PlaceFault.TheVariants.{FileFault};
 
-use crate::choosing::chosen;
-use crate::{FRONT, PlaceFault, Segment, read_part};
-use ga_base::{Bytes, Entry, NoMemory};
+use crate::choosing::choose_entry;
+use crate::{PlaceFault, Segment, read_part};
+use ga_base::{Bytes, Entries, Entry, FRONT, NoMemory};
 use ga_ports::Files;
 use std::alloc::Global;
 
@@ -17,27 +18,27 @@ use std::alloc::Global;
 pub fn place<F: Files>(
     alloc: Global,
     files: &mut F,
-    entries: &[Entry],
+    entries: &Entries,
 ) -> Result<Segment, PlaceFault>
     requires { IsTrue (F.view files.old).is_open }
     ensures ok { IfOk result (PlacesLog entries.now (F.view files.old) (F.view files.new)) }
     ensures failed { IfErr result (MissesPlace (F.view files.old) (F.view files.new)) }
-    ensures calls { FilesWent (F.view files.old) (F.view files.new) }
+    ensures calls { FilesTrace (F.view files.old) (F.view files.new) }
     ensures sure { NoneDue (F.view files.old).listed (F.view files.old).counts.calls → IfErr result (λ fault. fault ≢ FileFault) }
 {
     let end = files.size()?;
     let front = read_part(alloc, files, 0, end.min(FRONT))?;
-    Ok(segment(alloc, entries, front, end)?)
+    Ok(segment(alloc, entries.items(), front, end)?)
 }
 
 /// The segment of a log of this front and size.
 fn segment(alloc: Global, entries: &[Entry], front: Vec<u8>, end: u64) -> Result<Segment, NoMemory>
-    requires { length front.items ≡ min end 4096 }
+    requires { length front.items ≡ min end FRONT }
     ensures is { IfOk result (IsSegment entries.now) }
     ensures front { IfOk result (λ segment. segment.front ≡ front.items) }
     ensures end { IfOk result (λ segment. segment.end ≡ end) }
 {
-    match chosen(alloc, entries, &front, end)? {
+    match choose_entry(alloc, entries, &front, end)? {
         Some(candidate) => Ok(Segment {
             from: candidate.entry.offset,
             end,

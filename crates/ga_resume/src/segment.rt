@@ -1,8 +1,5 @@
 use ga_base::Bytes;
 
-/// How many of a log's first bytes know it again, at most.
-pub const FRONT: u64 = 4096;
-
 /// The part of a log that wasn't counted yet.
 #[derive(Debug, Drop)]
 pub struct Segment {
@@ -12,6 +9,6 @@ pub struct Segment {
     pub end: u64,
     /// The place of that entry in the list.
     pub entry: Option<u64>,
-    /// The log's first 4096 bytes, or all of a shorter one.
+    /// The log's first `FRONT` bytes, or all of a shorter one.
     pub front: Bytes,
 }

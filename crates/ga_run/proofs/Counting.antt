@@ -6,8 +6,8 @@ use Rattle.ga_base.specs.declared.counts.Totals.{Totals}
 use Rattle.ga_base.specs.declared.entry.Entry.{Entry}
 use Rattle.ga_disk.specs.Disk.{DiskView}
 use Rattle.ga_disk.specs.Images.{Images}
-use Rattle.ga_keep.specs.Database.{AreBase, Finds, base_of, start_of}
-use Rattle.ga_outcomes.specs.Counting.{CountsLines}
+use Rattle.ga_keep.specs.RunDatabase.{AreBase, Finds, base_of, start_of}
+use Rattle.ga_outcomes.specs.LineOutcomes.{CountsLines}
 use Rattle.ga_logs.specs.Logs.{CountsLogs, StopsLogs}
 use Rattle.ga_logs.specs.declared.fault.CountFault.{CountFault}
 use Rattle.ga_logs.specs.declared.fault.CountFault.TheVariants.{Failed as LogFailed, Short as LogShort, Full, NoMemory as CountNoMemory}
@@ -16,24 +16,25 @@ use Rattle.ga_outcomes.proofs.Limits.{all-within, no-counter}
 use Rattle.ga_ports.specs.Files.{FilesView}
 use Rattle.ga_resume.specs.declared.fault.PlaceFault.TheVariants.{NoMemory as PlaceNoMemory}
 use Rattle.ga_store.specs.Database.{DbValue, empty_db}
-use Rattle.ga_summary.specs.Limits.{LinesAdd, or_else, over, passes}
+use Rattle.ga_summary.specs.Limits.{or_else, over, passes}
+use Rattle.ga_base.specs.Totals.{LinesAdd, totals_plus, TotalsFit}
 use Rattle.ga_summary.specs.Outcomes.{Hit, Outcome, Counted, hits_of, totals_of}
 use Rattle.ga_summary.specs.Outcomes as outcomes
-use Rattle.ga_summary.specs.Rows.{SummaryValue, totals_plus}
-use Rattle.ga_summary.specs.Sound.{AllCountable, IsSummary, TotalsFit}
+use Rattle.ga_summary.specs.SummaryRows.{SummaryValue}
+use Rattle.ga_summary.specs.Sound.{AllCountable, IsSummary}
 use Rattle.ga_summary.specs.Sums.{IsSumOf}
-use Rattle.ga_streams.specs.Counting.{AreInTotal}
+use Rattle.ga_logs.specs.Counting.{AreInTotal}
 use Rattle.ga_tallies.specs.Tallies.{IsTallyOf, TallySeen}
 use Rattle.ga_totals.specs.Totals.{IsOfCountable}
 use Rattle.ga_words.specs.declared.settings.Settings.{Settings}
 use Rattle.ga_run.specs.Inputs.{Walks}
-use Rattle.ga_keep.specs.Database.{IsWhole, uses_database}
+use Rattle.ga_keep.specs.RunDatabase.{IsWhole, uses_database}
 use Rattle.ga_store.specs.Commit.{MergesBy}
 use Rattle.ga_store.specs.declared.mode.Mode.TheVariants.{Append, Overwrite}
 use Rattle.std.proofs.lemmas.Bool.{true≢false}
 use Rattle.ga_run.specs.Run.{SameFaults}
 use Rattle.ga_run.specs.declared.status.Status.{Status}
-use Rattle.ga_run.specs.Steps.Run.{CountedValue, EndsAlone, EndsInputs, EndsLast, EndsReport, EndsTold, EndsUntold, StopsAlone, StopsCounting, StopsHungry, WalksLogs, status_of_count}
+use Rattle.ga_run.specs.Steps.Run.{CountsRun, EndsAlone, EndsInputs, EndsLast, EndsReport, EndsTold, EndsUntold, StopsAlone, StopsCounting, StopsHungry, WalksLogs, status_of_count}
 use Rattle.ga_run.proofs.Asking.{miss-counts, same-all, same-none, same-some, walks-all, walks-miss, walks-some}
 use Rattle.ga_run.proofs.InputsEnds.{ends-count, ends-last, looked-at, untouched}
 use Rattle.ga_run.proofs.Moments.{OnlyNow}
@@ -42,15 +43,15 @@ use Rattle.ga_line.specs.declared.setup.LineSetup.{LineSetup}
 use Rattle.ga_run.specs.Course.{HasRules}
 use Rattle.ga_run.specs.Setups.{setup_of}
 use Rattle.ga_run.specs.World.{world_of as world}
-use Rattle.ga_store.specs.Reading.{db_value}
+use Rattle.ga_store.specs.Store.{db_value}
 use Rattle.std.specs.Prelude.{◌⊎◌}
 use Rattle.ga_run.proofs.Finishing.{reports-last}
 use Rattle.ga_run.proofs.Telling.{found-there, there-in}
-use Rattle.ga_disk.specs.Stretch.DiskWent.{no_disk_call}
+use Rattle.ga_disk.specs.Trace.DiskTrace.{no_disk_call}
 use Rattle.ga_ports.specs.Outs.{OutsView}
-use Rattle.ga_ports.specs.Stretch.{FilesStay, FilesWent, OutsWent, files_then}
+use Rattle.ga_ports.specs.Trace.{FilesStay, FilesTrace, OutsTrace, files_then}
 use Rattle.ga_run.specs.Reports.{IsTextOf}
-use Rattle.ga_run.specs.declared.run.Counted.{Counted as TheCounted}
+use Rattle.ga_run.specs.declared.run.RunCounts.{RunCounts as TheCounted}
 
 -- ---- the limits
 
@@ -108,7 +109,7 @@ whole-fits setup s stored all sum sound h =
 -- a summary of it is their sum
 pub sum-lines : (setup : Setup) (start : Totals) (all : List (List ℕ)) (total : TallySeen) (sum : SummaryValue) → AreInTotal setup start all total
     → ((xs : List Outcome) → IsTallyOf xs total → AllCountable xs → IsSumOf xs sum) → CountsLines setup start all sum
-sum-lines setup start all total sum h is = record { outcomes = h.outcomes; come = h.come; is_sum = is h.outcomes h.tally h.countable; fits = h.fits }
+sum-lines setup start all total sum h is = record { outcomes = h.outcomes; have_outcomes = h.have_outcomes; is_sum = is h.outcomes h.tally h.countable; fits = h.fits }
 
 pub countable-total : (setup : Setup) (start : Totals) (all : List (List ℕ)) (total : TallySeen) → AreInTotal setup start all total → IsOfCountable total
 countable-total setup start all total h = record { outcomes = h.outcomes; tally = h.tally; countable = h.countable }
@@ -160,7 +161,7 @@ persists-not s alone = by s.persist s.restore alone
     by false restore h = refl
 
 pub alone-last : (s : Settings) (counted : TheCounted) (d : DiskView) (i : Images) (o o' : OutsView) → uses_database s ≡ false → (text : List ℕ) → IsTextOf s counted.whole text → (status : Status)
-    → EndsReport s text o o' status → o'.stderr ≡ o.stderr → OutsWent o o' → EndsLast s counted d d i i o o' status
+    → EndsReport s text o o' status → o'.stderr ≡ o.stderr → OutsTrace o o' → EndsLast s counted d d i i o o' status
 alone-last s counted d i o o' alone text is status ends errors wrote =
     reports-last s counted d d i i o o' text is (inr (persists-not s alone, untouched)) status ends errors no_disk_call wrote
 
@@ -181,23 +182,23 @@ module _ (setup : Setup) (s : Settings) (files files' : FilesView) (d : DiskView
 
 -- how it ended behind its setup says how it ended
 pub ends-alone : (line : LineSetup) (s : Settings) (files : FilesView) (d : DiskView) (i : Images) (o o' : OutsView) (mid files' : FilesView) (rules : List Rule) → HasRules s.browsers_file files mid rules → OnlyNow i
-    → FilesWent files mid → FilesStay files mid → uses_database s ≡ false → (status : Status) → EndsAlone (setup_of line s rules) s mid files' o o' status
+    → FilesTrace files mid → FilesStay files mid → uses_database s ≡ false → (status : Status) → EndsAlone (setup_of line s rules) s mid files' o o' status
     → EndsInputs line s (world files d i o) (world files' d i o') status
 ends-alone line s files d i o o' mid files' rules has only went stay alone status h = by h.ends
   where
     setup : Setup
     setup = setup_of line s rules
 
-    went' : FilesWent files files'
-    went' = files_then went h.files_went
+    went' : FilesTrace files files'
+    went' = files_then went h.files_trace
 
     by : EndsTold setup s (db_value h.stored) mid files' o o' status ⊎ EndsUntold setup s (db_value h.stored) mid files' o o' status → EndsInputs line s (world files d i o) (world files' d i o') status
     by (inl t) =
         let counted : TheCounted = record { stored = h.stored; run = t.is_text.has.run; whole = t.is_text.has.whole; entries = t.is_text.has.entries' } in
-        let value : CountedValue setup s counted mid files' d d i i =
+        let value : CountsRun setup s counted mid files' d d i i =
         record { finds = finds-none s d i (db_value h.stored) alone h.empty; has = t.is_text.has; run = refl; whole = refl; entries = refl } in
         ends-last line s files d i o mid files' rules has counted d i value only d i o' went' no_disk_call status
-        (alone-last s counted d i o o' alone t.text t.is_text.is_text status t.ends t.errors t.outs_went)
+        (alone-last s counted d i o o' alone t.text t.is_text.is_text status t.ends t.errors t.outs_trace)
     by (inr u) =
         subst (λ (outs : OutsView). EndsInputs line s (world files d i o) (world files' d i outs) status) (sym u.quiet)
         (ends-count line s files d i o mid files' rules has d i went' no_disk_call stay status (stops-alone setup s mid files' d i (db_value h.stored) alone h.empty status u.stops) u.sure)

@@ -10,14 +10,14 @@ use Rattle.ga_base.specs.declared.entry.Entry.{Entry}
 use Rattle.ga_disk.specs.Disk.{DiskView}
 use Rattle.ga_disk.specs.Images.{Images}
 use Rattle.ga_disk.specs.Sides.{Sides}
-use Rattle.ga_keep.specs.Database.{Finds, IsUntouched, LooksAtMost, OnlyLooks, SidesHave, mode_of, uses_database}
+use Rattle.ga_keep.specs.RunDatabase.{Finds, IsUntouched, LooksAtMost, OnlyLooks, SidesHave, mode_of, uses_database}
 use Rattle.ga_line.specs.declared.setup.LineSetup.{LineSetup}
 use Rattle.ga_logs.specs.Following.{CanServe, MissesAt, ReadsAll, ReadsPortion}
 use Rattle.ga_logs.specs.Following.MissesAt.{misses_first, misses_later}
 use Rattle.ga_logs.specs.Following.ReadsAll.{read_all, read_then}
 use Rattle.ga_logs.specs.declared.follow.Follow.{Follow}
 use Rattle.ga_logs.specs.declared.portion.Portion.{Portion}
-use Rattle.ga_ports.specs.Counts.{Rose, raised}
+use Rattle.ga_counters.specs.Counts.{Rose, raised}
 use Rattle.ga_ports.specs.Files.{FilesView, told, is_absent}
 use Rattle.ga_ports.specs.Outs.{OutsView, TargetView, target}
 use Rattle.ga_ports.specs.declared.file_counts.FileCounts.{FileCounts}
@@ -29,7 +29,7 @@ use Rattle.ga_store.specs.Database.{DbOf, DbValue}
 use Rattle.ga_store.specs.Database.Reading.{stored as reads_as}
 use Rattle.ga_words.specs.WordsOf.{WordsOf}
 use Rattle.ga_words.specs.declared.settings.Settings.{Settings}
-use Rattle.ga_run.specs.Course.{HasCome, HasRules}
+use Rattle.ga_run.specs.Course.{ReachesReport, HasRules}
 use Rattle.ga_run.specs.Ends.{Ends, FailsAtLast, FillsGenerations, HasReport, MissesInput, SaysOnly, StopsPrinting}
 use Rattle.ga_run.specs.Inputs.{inputs_of, place_of, rules_file}
 use Rattle.ga_run.specs.Keeping.{FindsThere, KeepsSince, KeptSince, MayKeepSince}
@@ -212,7 +212,7 @@ module _ (line : LineSetup) (s : Settings) (old new : World) where
   past-rules (Some own) mid rules (text, reads, gives) (suc place) name stands gone = (place, omega arith, stands, ap (is_absent name) (kept-one reads) ∙ gone)
 
   module _ (place : ℕ) (name : List ℕ) (stands : slice_get (inputs_of s) place ≡ Some name) (gone : is_absent name old.files.contents ≡ true) where
-    passed-not : (files' : FilesView) (d d' : DiskView) → HasCome line s old.files files' d d' → ⊥
+    passed-not : (files' : FilesView) (d d' : DiskView) → ReachesReport line s old.files files' d d' → ⊥
     passed-not files' d d' come =
         let found = past-rules s.browsers_file come.mid come.rules come.has_rules place name stands gone in
         present-all come.counted.read found.0 name found.2 found.3

@@ -1,4 +1,4 @@
--- The formats of settings come to one thing: a setup, or one refusal.
+-- The formats of settings mean one thing: a setup, or one refusal.
 use Rattle.std.proofs.Common.{◌≡◌, ◌≢◌, ◌⊎◌, ℕ, Bool, List, refl, ap, sym, ◌∙◌, subst, inl, inr, ⊎_elim, Result, Ok, Err, codes}
 use Rattle.std.proofs.lemmas.Bool.{cases_Bool, true≢false}
 use Rattle.std.proofs.lemmas.Slice.Eq.{bytes_eq-Decides}
@@ -15,7 +15,7 @@ use Rattle.ga_format.specs.Named.{StandsFor}
 use Rattle.ga_line.specs.declared.setup.LineSetup.{LineSetup}
 use Rattle.ga_words.specs.declared.settings.Settings.{Settings}
 use Rattle.ga_run.specs.Setups.{IsLineSetup, LogMeans, format_word}
-use Rattle.ga_run.specs.Steps.Setups.{ComeTo, IsRefusal}
+use Rattle.ga_run.specs.Steps.Setups.{GivesLineSetup, IsRefusal}
 use Rattle.ga_run.specs.declared.setups.SetupFault.{SetupFault}
 use Rattle.ga_run.specs.declared.setups.SetupFault.TheVariants.{Refused, NoMemory}
 use Rattle.ga_run.specs.declared.status.Which.{Which}
@@ -121,7 +121,7 @@ setup-is s line h =
     ap Ok (flags-same line line.no_ip_validation s.no_ip_validation line.strict_status s.strict_status line.double_decode s.double_decode line.no_query s.no_query h.no_ip_validation h.strict_status
     h.double_decode h.no_query)
 
-steps-of : (s : Settings) (answer : Result LineSetup SetupFault) → ComeTo s answer → LogStep s answer
+steps-of : (s : Settings) (answer : Result LineSetup SetupFault) → GivesLineSetup s answer → LogStep s answer
 steps-of s (Ok line) h = record {
   log = Ok line.format;
   means = h.format;
@@ -136,8 +136,8 @@ steps-of s (Err (Refused Time fault)) h = record {
 }
 steps-of s (Err NoMemory) h = absurd (h.1 refl)
 
--- the formats of settings come to one thing
-pub one-outcome : OneAnswer → OneFormat → (s : Settings) (a b : Result LineSetup SetupFault) → ComeTo s a → ComeTo s b → a ≡ b
+-- the formats of settings mean one thing
+pub one-outcome : OneAnswer → OneFormat → (s : Settings) (a b : Result LineSetup SetupFault) → GivesLineSetup s a → GivesLineSetup s b → a ≡ b
 one-outcome answer format s a b h k = one-step answer format s a b (steps-of s a h) (steps-of s b k)
 
 answer-of : (kind : Kind) (text : List ℕ) (fault : FormatFault) → IsFormatFault kind text fault → fault ≢ FormatNoMemory → IsAnswer kind text (Err fault)

@@ -7,16 +7,16 @@ use Rattle.ga_base.specs.declared.entry.Entry.{Entry}
 use Rattle.ga_disk.specs.Disk.{DiskView}
 use Rattle.ga_disk.specs.Images.{Images, LeavesOnly, OnlyImage}
 use Rattle.ga_disk.specs.Sides.{Sides}
-use Rattle.ga_disk.specs.Stretch.{DiskWent}
-use Rattle.ga_disk.specs.Stretch.DiskWent.{no_disk_call, disk_then}
-use Rattle.ga_keep.specs.Database.{FailsKeeping, Finds, IsUntouched, Keeps, KeptIf, LooksAtMost, MayKeep, OnlyLooks, Recovered, lacks_generation, mode_of, uses_database}
+use Rattle.ga_disk.specs.Trace.{DiskTrace}
+use Rattle.ga_disk.specs.Trace.DiskTrace.{no_disk_call, disk_then}
+use Rattle.ga_keep.specs.RunDatabase.{FailsKeeping, Finds, IsUntouched, Keeps, KeptIf, LooksAtMost, MayKeep, OnlyLooks, Recovered, lacks_generation, mode_of, uses_database}
 use Rattle.ga_line.specs.declared.setup.LineSetup.{LineSetup}
 use Rattle.ga_logs.specs.Following.{CanServe, MissesLog}
 use Rattle.ga_logs.specs.declared.follow.Follow.TheVariants.{Whole}
-use Rattle.ga_ports.specs.Counts.{NoneDue}
+use Rattle.ga_counters.specs.Counts.{NoneDue}
 use Rattle.ga_ports.specs.Files.{Contents, FilesView, told}
 use Rattle.ga_ports.specs.Outs.{OutsView}
-use Rattle.ga_ports.specs.Stretch.{FilesStay, FilesWent, no_outs_call}
+use Rattle.ga_ports.specs.Trace.{FilesStay, FilesTrace, no_outs_call}
 use Rattle.ga_resume.specs.declared.fault.PlaceFault.{PlaceFault}
 use Rattle.ga_resume.specs.declared.fault.PlaceFault.TheVariants.{FileFault as PlaceFailed, FileShort as PlaceShort, NoMemory as PlaceNoMemory}
 use Rattle.ga_store.specs.Commit.{passes_generations}
@@ -24,10 +24,10 @@ use Rattle.ga_store.specs.Commits.{AllHave, HasEither}
 use Rattle.ga_store.specs.Database.{DbOf, DbValue}
 use Rattle.ga_store.specs.Database.Reading.{stored as reads_as}
 use Rattle.ga_store.specs.Holding.{Holds}
-use Rattle.ga_store.specs.Reading.{db_value}
-use Rattle.ga_summary.specs.Rows.{SummaryValue}
+use Rattle.ga_store.specs.Store.{db_value}
+use Rattle.ga_summary.specs.SummaryRows.{SummaryValue}
 use Rattle.ga_words.specs.declared.settings.Settings.{Settings}
-use Rattle.ga_run.specs.Course.{HasCome, HasRules}
+use Rattle.ga_run.specs.Course.{ReachesReport, HasRules}
 use Rattle.ga_run.specs.Ends.{Ends, HasBegun, HasReport}
 use Rattle.ga_run.specs.Inputs.{WalksInputs, rules_file}
 use Rattle.ga_run.specs.Inputs.WalksInputs.{asks_rules}
@@ -37,11 +37,11 @@ use Rattle.ga_run.specs.Reports.{IsTextOf}
 use Rattle.ga_run.specs.Run.{SameFaults, faults_after}
 use Rattle.ga_run.specs.Setups.{setup_of}
 use Rattle.ga_run.specs.Steps.Rules.{StopsNamed}
-use Rattle.ga_run.specs.Steps.Run.{CountedValue, Delivers, EndsInputs, EndsKeeping, EndsLast, HasFound, NoFileFailed, StopsAtLog, StopsCounting, WalksLogs, status_of_rules}
+use Rattle.ga_run.specs.Steps.Run.{CountsRun, Delivers, EndsInputs, EndsKeeping, EndsLast, HasFound, NoFileFailed, StopsAtLog, StopsCounting, WalksLogs, status_of_rules}
 use Rattle.ga_run.specs.World.{world_of as world}
 use Rattle.ga_run.specs.declared.rules.RulesFault.{RulesFault}
 use Rattle.ga_run.specs.declared.rules.RulesFault.TheVariants.{Unread, Bad}
-use Rattle.ga_run.specs.declared.run.Counted.{Counted}
+use Rattle.ga_run.specs.declared.run.RunCounts.{RunCounts}
 use Rattle.ga_run.specs.declared.status.Input.TheVariants.{Rules, Log}
 use Rattle.ga_run.specs.declared.status.Status.{Status}
 use Rattle.ga_run.specs.declared.status.Status.TheVariants.{Done, BadWords, BadFormat, BadRules, FileFault, FileShort, DiskFault, DbDamaged, OutFault, CounterFull, NoMemory}
@@ -179,14 +179,14 @@ served-later names a b stay h = record {
 
 module _ (line : LineSetup) (s : Settings) (files : FilesView) (d : DiskView) (i : Images) (o : OutsView) where
   -- the run ended before its report
-  module _ (files' : FilesView) (d' : DiskView) (i' : Images) (went : FilesWent files files') (dwent : DiskWent d d') where
+  module _ (files' : FilesView) (d' : DiskView) (i' : Images) (went : FilesTrace files files') (dwent : DiskTrace d d') where
     pub stopped : (status : Status) → ((count : ℕ) × WalksInputs s d files files' count) → Ends line s (world files d i o) (world files' d' i' o) status
         → SameFaults (faults_after status files.counts) files'.counts → EndsInputs line s (world files d i o) (world files' d' i' o) status
-    stopped status asks ends faults = record { asks = asks; ends = ends; faults = faults; errors = refl; files_went = went; disk_went = dwent; outs_went = no_outs_call }
+    stopped status asks ends faults = record { asks = asks; ends = ends; faults = faults; errors = refl; files_trace = went; disk_trace = dwent; outs_trace = no_outs_call }
 
   -- ---- the browsers file
 
-  module _ (files' : FilesView) (went : FilesWent files files') where
+  module _ (files' : FilesView) (went : FilesTrace files files') where
     rules-stop : (status : Status) → ((count : ℕ) × WalksInputs s d files files' count) → Ends line s (world files d i o) (world files' d i o) status
         → SameFaults (faults_after status files.counts) files'.counts → EndsInputs line s (world files d i o) (world files' d i o) status
     rules-stop = stopped files' d i went no_disk_call
@@ -230,7 +230,7 @@ module _ (line : LineSetup) (s : Settings) (files : FilesView) (d : DiskView) (i
     asks-logs : WalksLogs s d mid files' → (count : ℕ) × WalksInputs s d files files' count
     asks-logs h = walks-behind s d s.browsers_file refl files mid files' rules has h
 
-    module _ (d' : DiskView) (i' : Images) (went : FilesWent files files') (dwent : DiskWent d d') where
+    module _ (d' : DiskView) (i' : Images) (went : FilesTrace files files') (dwent : DiskTrace d d') where
       abbrev begun : HasFound s d d' i i' → HasBegun s (world files d i o) mid d' i'
       begun found = record { rules = rules; has_rules = has; stored = found.stored; finds = found.finds; entries = found.entries; begin = found.begin }
 
@@ -295,7 +295,7 @@ module _ (line : LineSetup) (s : Settings) (files : FilesView) (d : DiskView) (i
 
     -- ---- behind the counting
 
-    module _ (counted : Counted) (d' : DiskView) (i' : Images) (value : CountedValue (setup_of line s rules) s counted mid files' d d' i i') where
+    module _ (counted : RunCounts) (d' : DiskView) (i' : Images) (value : CountsRun (setup_of line s rules) s counted mid files' d d' i i') where
       abbrev stored : DbValue
       stored = db_value counted.stored
 
@@ -307,7 +307,7 @@ module _ (line : LineSetup) (s : Settings) (files : FilesView) (d : DiskView) (i
       all-same : SameFaults files.counts files'.counts
       all-same = same-then same-before (same-all value.has.read)
 
-      abbrev come : (d'' : DiskView) → FindsThere s d d'' stored → HasCome line s files files' d d''
+      abbrev come : (d'' : DiskView) → FindsThere s d d'' stored → ReachesReport line s files files' d d''
       come d'' finds = record { rules = rules; mid = mid; has_rules = has; stored = stored; finds = finds; counted = value.has }
 
       there : FindsThere s d d' stored
@@ -371,7 +371,7 @@ module _ (line : LineSetup) (s : Settings) (files : FilesView) (d : DiskView) (i
             )
         ends-as NoMemory (left, quiet) = ((looked-at s d d'' i i'' stored (finds-still s d i stored d' d'' i' i'' left value.finds), quiet-as o o' quiet), all-same)
 
-        pub ends-last : FilesWent files files' → DiskWent d d' → (status : Status) → EndsLast s counted d' d'' i' i'' o o' status
+        pub ends-last : FilesTrace files files' → DiskTrace d d' → (status : Status) → EndsLast s counted d' d'' i' i'' o o' status
             → EndsInputs line s (world files d i o) (world files' d'' i'' o') status
         ends-last went dwent status h =
             let both = ends-as status h.ends in
@@ -380,7 +380,7 @@ module _ (line : LineSetup) (s : Settings) (files : FilesView) (d : DiskView) (i
               ends = both.0;
               faults = both.1;
               errors = h.errors;
-              files_went = went;
-              disk_went = disk_then dwent h.disk_went;
-              outs_went = h.outs_went;
+              files_trace = went;
+              disk_trace = disk_then dwent h.disk_trace;
+              outs_trace = h.outs_trace;
             }

@@ -3,7 +3,7 @@ use Rattle.std.proofs.Common.{◌⊎◌, ℕ, ◌≤◌, inl, inr, arith}
 use Rattle.ga_disk.specs.Disk.{DiskView}
 use Rattle.ga_disk.specs.Images.{Images, LeavesOnly}
 use Rattle.ga_disk.specs.Sides.{Sides}
-use Rattle.ga_keep.specs.Database.{IsUntouched, OnlyLooks}
+use Rattle.ga_keep.specs.RunDatabase.{IsUntouched, OnlyLooks}
 
 -- what a crash may leave now is all that the present moment has
 abbrev pub OnlyNow : Images → Type 0
@@ -19,7 +19,7 @@ untouched-leaves d d' i i' only h = record {
 pub looked-leaves : (d d' : DiskView) (i i' : Images) → OnlyLooks d d' i i' → LeavesOnly i i' i.now
 looked-leaves d d' i i' h = h.moments
 
--- nothing is left besides after another stretch that leaves nothing but what has P
+-- nothing is left besides after another trace that leaves nothing but what has P
 pub leaves-then : (P : Sides → Type 0) (i j k : Images) → LeavesOnly i j i.now → LeavesOnly j k P → LeavesOnly i k (λ image. i.now image ⊎ P image)
 leaves-then P i j k h g = record {
   later = omega (arith, h.later, g.later);

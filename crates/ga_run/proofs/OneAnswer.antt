@@ -11,10 +11,10 @@ use Rattle.ga_base.specs.declared.counts.Totals.{Totals}
 use Rattle.ga_base.specs.declared.entry.Entry.{Entry}
 use Rattle.ga_codec.specs.Values.{EntryValue, entry_value}
 use Rattle.ga_disk.specs.Sides.{Sides}
-use Rattle.ga_keep.specs.Database.{AreBase, SidesHave, follow_of, lacks_generation, mode_of, start_of, uses_database}
+use Rattle.ga_keep.specs.RunDatabase.{AreBase, SidesHave, follow_of, lacks_generation, mode_of, start_of, uses_database}
 use Rattle.ga_line.specs.Lines.{lines}
 use Rattle.ga_line.specs.declared.setup.LineSetup.{LineSetup}
-use Rattle.ga_outcomes.specs.Counting.{CountsLines, FillsAmong}
+use Rattle.ga_outcomes.specs.LineOutcomes.{CountsLines, FillsAmong}
 use Rattle.ga_logs.specs.Following.{AreSomeTold, AreTold}
 use Rattle.ga_logs.specs.Following.AreSomeTold.{told_last, told_none, told_on}
 use Rattle.ga_logs.specs.Following.AreTold.{told_then}
@@ -27,7 +27,7 @@ use Rattle.ga_store.specs.Database.{DbOf, DbValue, Reading}
 use Rattle.ga_store.specs.Database.Reading.{damaged, stored as reads_as}
 use Rattle.ga_store.specs.declared.mode.Mode.{Mode}
 use Rattle.ga_store.specs.declared.mode.Mode.TheVariants.{Append, Overwrite}
-use Rattle.ga_summary.specs.Rows.{SummaryValue}
+use Rattle.ga_summary.specs.SummaryRows.{SummaryValue}
 use Rattle.ga_summary.proofs.Unique.{one_merged}
 use Rattle.ga_words.specs.declared.settings.Settings.{Settings}
 use Rattle.ga_run.specs.Reports.{IsTextOf}
@@ -207,7 +207,7 @@ yield-same a b text whole entries = λ i. record { text = text i; whole = whole 
 
 module _ (reading : OneReading) (course : OneCourse) (database : OneDatabase) (s : Settings) (line : LineSetup) (count : OneCount s line) (one-text : OneText s) (files : FilesView) (sides : Sides) where
   module _ (rules : List Rule) (stored : DbValue) where
-    -- the same logs come to one whole and leave one list of entries
+    -- the same logs have one whole and leave one list of entries
     one-counted : (whole other : SummaryValue) (entries entries' : List Entry) → CountsTold line s rules stored files whole entries → CountsTold line s rules stored files other entries'
         → (whole ≡ other) × (entries ≡ entries')
     one-counted whole other entries entries' h k =

@@ -6,14 +6,14 @@ use Rattle.ga_base.specs.declared.entry.Entry.{Entry}
 use Rattle.ga_codec.specs.Values.{entry_value}
 use Rattle.ga_disk.specs.Disk.{DiskView}
 use Rattle.ga_disk.specs.Sides.{Sides}
-use Rattle.ga_keep.specs.Database.{IsNext, mode_of}
+use Rattle.ga_keep.specs.RunDatabase.{IsNext, mode_of}
 use Rattle.ga_line.specs.declared.setup.LineSetup.{LineSetup}
 use Rattle.ga_logs.specs.Following.{AreSomeTold, AreTold}
 use Rattle.ga_logs.specs.Following.AreSomeTold.{told_last, told_none, told_on}
 use Rattle.ga_logs.specs.Following.AreTold.{told_all, told_then}
 use Rattle.ga_logs.specs.declared.follow.Follow.{Follow}
 use Rattle.ga_logs.specs.declared.portion.Portion.{Portion}
-use Rattle.ga_ports.specs.Counts.{Rose}
+use Rattle.ga_counters.specs.Counts.{Rose}
 use Rattle.ga_ports.specs.Files.{FilesView, told}
 use Rattle.ga_ports.specs.Outs.{TargetView, takes, target}
 use Rattle.ga_store.specs.Database.{DbOf, DbValue}
@@ -33,7 +33,7 @@ use Rattle.ga_run.specs.Told.{Answers, CountsTold, HasBadLine, RulesAreTold, Yie
 use Rattle.ga_run.specs.Told.Answers.{answers_rules, answers_damage, answers_full, answers_generation, answers_done}
 use Rattle.ga_base.specs.declared.formats.FormatFault.{FormatFault}
 use Rattle.ga_store.specs.declared.mode.Mode.{Mode}
-use Rattle.ga_summary.specs.Rows.{SummaryValue}
+use Rattle.ga_summary.specs.SummaryRows.{SummaryValue}
 use Rattle.ga_run.specs.declared.status.Which.{Which}
 use Rattle.ga_run.specs.declared.status.Which.TheVariants.{Log, Date, Time}
 use Rattle.ga_run.specs.declared.status.Status.{Status}

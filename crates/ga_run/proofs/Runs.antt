@@ -3,12 +3,12 @@ use Rattle.std.proofs.Common.{◌≡◌, ◌≢◌, ◌⊎◌, ℕ, ◌≤◌, L
 use Rattle.ga_base.specs.declared.formats.FormatFault.{FormatFault}
 use Rattle.ga_disk.specs.Disk.{DiskView}
 use Rattle.ga_disk.specs.Images.{Images}
-use Rattle.ga_disk.specs.Stretch.{DiskWent}
-use Rattle.ga_disk.specs.Stretch.DiskWent.{no_disk_call}
+use Rattle.ga_disk.specs.Trace.{DiskTrace}
+use Rattle.ga_disk.specs.Trace.DiskTrace.{no_disk_call}
 use Rattle.ga_line.specs.declared.setup.LineSetup.{LineSetup}
 use Rattle.ga_ports.specs.Files.{FilesView}
 use Rattle.ga_ports.specs.Outs.{OutsView, TargetView}
-use Rattle.ga_ports.specs.Stretch.{FilesWent, no_files_call, OutsWent, outs_then}
+use Rattle.ga_ports.specs.Trace.{FilesTrace, no_files_call, OutsTrace, outs_then}
 use Rattle.ga_ports.specs.declared.outs.To.{To}
 use Rattle.ga_ports.specs.declared.outs.To.TheVariants.{Stderr}
 use Rattle.ga_words.specs.WordsOf.{WordsOf}
@@ -23,7 +23,7 @@ use Rattle.ga_run.specs.Run.{AreRefused, HaveRefused, IsRun, NothingWasRead, Rea
 use Rattle.ga_run.specs.Setups.{IsLineSetup, IsRefused}
 use Rattle.ga_run.specs.Statuses.{fault_line, NamesFailed}
 use Rattle.ga_run.specs.Steps.Run.{EndsEarly, EndsInputs, EndsRun, failed_name, status_of_words}
-use Rattle.ga_run.specs.Steps.Setups.{ComeTo}
+use Rattle.ga_run.specs.Steps.Setups.{GivesLineSetup}
 use Rattle.ga_run.specs.World.{World, world_of as world}
 use Rattle.ga_run.specs.declared.setups.SetupFault.{SetupFault}
 use Rattle.ga_run.specs.declared.setups.SetupFault.TheVariants.{Refused}
@@ -40,7 +40,7 @@ abbrev pub OneWords : Type 0
 OneWords = (words : List (List ℕ)) (a b : Result Settings WordFault) → WordsOf words a → WordsOf words b → a ≡ b
 
 abbrev pub OneOutcome : Type 0
-OneOutcome = (s : Settings) (a b : Result LineSetup SetupFault) → ComeTo s a → ComeTo s b → a ≡ b
+OneOutcome = (s : Settings) (a b : Result LineSetup SetupFault) → GivesLineSetup s a → GivesLineSetup s b → a ≡ b
 
 -- what a status says of the words, and the run over the inputs
 record Decides (words : List (List ℕ)) (old new : World) (status : Status) : Type 0 where
@@ -51,8 +51,8 @@ record Decides (words : List (List ℕ)) (old new : World) (status : Status) : T
 assembled : (words : List (List ℕ)) (name : List ℕ) (old : World) (f : FilesView) (d : DiskView) (i : Images) (mid outs : OutsView) (status : Status) → Decides words old (world f d i outs) status
     → SameFaults (faults_after status old.files.counts) f.counts → mid.stderr ≡ old.outs.stderr
     → (status ≢ Done → ((to : To) (at : ℕ) → status ≢ OutFault to at) → mid ≡ but_errors mid old.outs)
-    → NamesFailed words status name → TakesOrStops (fault_line name status) mid.stderr outs.stderr → ChangesOnly Stderr mid outs → FilesWent old.files f → DiskWent old.disk d
-    → OutsWent old.outs outs → IsRun words old (world f d i outs) status
+    → NamesFailed words status name → TakesOrStops (fault_line name status) mid.stderr outs.stderr → ChangesOnly Stderr mid outs → FilesTrace old.files f → DiskTrace old.disk d
+    → OutsTrace old.outs outs → IsRun words old (world f d i outs) status
 assembled words name old f d i mid outs status decides counted errors kept names line changed asked touched wrote =
     let told_line : TakesOrStops (fault_line name status) old.outs.stderr outs.stderr =
     subst (λ (t : TargetView). TakesOrStops (fault_line name status) t outs.stderr) errors line in
@@ -65,9 +65,9 @@ assembled words name old f d i mid outs status decides counted errors kept names
         quiet = λ e. nothing-taken old.outs.stderr outs.stderr (subst (λ (s : Status). TakesOrStops (fault_line name s) old.outs.stderr outs.stderr) e told_line);
       };
       faults = counted;
-      files_went = asked;
-      disk_went = touched;
-      outs_went = wrote;
+      files_trace = asked;
+      disk_trace = touched;
+      outs_trace = wrote;
     }
 
 abbrev WordsAnswer : Type 0
@@ -107,7 +107,7 @@ refused-along s which other fault found e h =
     let b : fault ≡ found = cc in
     subst (λ f. IsRefused s other f) b (subst (λ w. IsRefused s w fault) a h)
 
--- words say one list of settings, and their formats come to one thing
+-- words say one list of settings, and their formats mean one thing
 pub one-settings : OneWords → (words : List (List ℕ)) (s other : Settings) → WordsOf words (Ok s) → WordsOf words (Ok other) → s ≡ other
 one-settings one words s other h k = ok-same (one words (Ok s) (Ok other) h k)
 
@@ -152,7 +152,7 @@ module _ (one : OneWords) (outcome : OneOutcome) (words : List (List ℕ)) where
     -- a format of them is refused
     decides-refused : (which : Which) (fault : FormatFault) → IsRefused s which fault → (old new : World) → NothingWasRead old new → Decides words old new (BadFormat which fault)
     decides-refused which fault h old new still =
-        let come : ComeTo s (Err (Refused which fault)) = (h, λ e. cc) in
+        let come : GivesLineSetup s (Err (Refused which fault)) = (h, λ e. cc) in
         record {
           reads = record {
             bad_words = λ other. (λ e. absurd (cc e), λ p. absurd (not-bad other p.0));
@@ -189,7 +189,7 @@ module _ (one : OneWords) (outcome : OneOutcome) (words : List (List ℕ)) where
         disk_faults = disk-faults-by line s old (world f d i outs) status ends-now;
       }
 
-      come : ComeTo s (Ok line)
+      come : GivesLineSetup s (Ok line)
       come = is
 
       decides-inputs : Decides words old (world f d i outs) status
@@ -253,20 +253,20 @@ module _ (one : OneWords) (outcome : OneOutcome) (law : ReadAsTold) (words : Lis
     -- a run that the words say
     pub run-of : (s : Settings) (f : FilesView) (d : DiskView) (i : Images) (mid outs : OutsView) (status : Status) → WordsOf words (Ok s)
         → EndsRun s old (world f d i mid) status → TakesOrStops (fault_line (failed_name s status) status) mid.stderr outs.stderr → ChangesOnly Stderr mid outs
-        → OutsWent mid outs → mid.starved ≤ outs.starved → IsRun words old (world f d i outs) status
+        → OutsTrace mid outs → mid.starved ≤ outs.starved → IsRun words old (world f d i outs) status
     run-of s f d i mid outs status says (inl (early, still, quiet)) line changed wrote more =
         let unsaid : mid ≡ but_errors mid old.outs = same-but old.outs mid quiet in
         assembled words (failed_name s status) old f d i mid outs status
         (decides-early s says old (world f d i outs) only (along old.outs mid outs changed unsaid) (record { files = still.files; disk = still.disk }) status early)
         (subst (λ (v : FilesView). SameFaults (faults_after status old.files.counts) v.counts) (sym still.files) (early-faults s old.files.counts status early))
         (ap (λ (v : OutsView). v.stderr) quiet) (λ undone none. unsaid) (named words s says old (world f d i mid) status (inl (early, still, quiet))) line changed
-        (subst (λ (v : FilesView). FilesWent old.files v) (sym still.files) no_files_call) (subst (λ (v : DiskView). DiskWent old.disk v) (sym still.disk.view) no_disk_call)
-        (subst (λ (v : OutsView). OutsWent v outs) quiet wrote)
+        (subst (λ (v : FilesView). FilesTrace old.files v) (sym still.files) no_files_call) (subst (λ (v : DiskView). DiskTrace old.disk v) (sym still.disk.view) no_disk_call)
+        (subst (λ (v : OutsView). OutsTrace v outs) quiet wrote)
     run-of s f d i mid outs status says (inr (reads, is, ended)) line changed wrote more =
         assembled words (failed_name s status) old f d i mid outs status
         (decides-inputs one outcome words s says reads is law old only f d i mid outs status ended changed more) ended.faults ended.errors
         (λ undone none. refused-by reads s old (world f d i mid) status ended.ends undone none) (named words s says old (world f d i mid) status (inr (reads, is, ended))) line changed
-        ended.files_went ended.disk_went (outs_then ended.outs_went wrote)
+        ended.files_trace ended.disk_trace (outs_then ended.outs_trace wrote)
 
     abbrev after : OutsView → World
     after outs = world old.files old.disk old.images outs
@@ -275,14 +275,14 @@ module _ (one : OneWords) (outcome : OneOutcome) (law : ReadAsTold) (words : Lis
     nothing-read outs = record { files = refl; disk = record { view = refl; moment = refl; now = λ image h. h; since = λ t image h. h } }
 
     refused-words : (fault : WordFault) (outs : OutsView) → WordsOf words (Err fault) → TakesOrStops (fault_line [] (BadWords fault)) old.outs.stderr outs.stderr
-        → ChangesOnly Stderr old.outs outs → OutsWent old.outs outs → IsRun words old (after outs) (BadWords fault)
+        → ChangesOnly Stderr old.outs outs → OutsTrace old.outs outs → IsRun words old (after outs) (BadWords fault)
     refused-words fault outs bad line changed wrote =
         assembled words [] old old.files old.disk old.images old.outs outs (BadWords fault) (decides-words one outcome words fault bad old (after outs) (nothing-read outs))
         (record { faults = refl; shorts = refl; short_at = refl }) refl (λ undone unfailed. same-but old.outs old.outs refl) refl line changed no_files_call no_disk_call wrote
 
     -- words that say no settings
     pub run-none : (fault : WordFault) (outs : OutsView) → ((fault ≡ WordNoMemory) ⊎ WordsOf words (Err fault))
-        → TakesOrStops (fault_line [] (status_of_words fault)) old.outs.stderr outs.stderr → ChangesOnly Stderr old.outs outs → OutsWent old.outs outs
+        → TakesOrStops (fault_line [] (status_of_words fault)) old.outs.stderr outs.stderr → ChangesOnly Stderr old.outs outs → OutsTrace old.outs outs
         → IsRun words old (after outs) (status_of_words fault)
     run-none (UnknownOption at) outs (inl starved) line changed wrote = absurd (cc starved)
     run-none (UnknownOption at) outs (inr bad) line changed wrote = refused-words (UnknownOption at) outs bad line changed wrote

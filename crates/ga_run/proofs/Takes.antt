@@ -4,7 +4,7 @@ use Rattle.std.proofs.Math.Seq.{take-add, drop-cons, take-append-add}
 use Rattle.std.proofs.lemmas.List.{take-append-drop, take-append-le, map-append}
 use Rattle.std.proofs.lemmas.List.Concat.{flat_map-append}
 use Rattle.ga_run.specs.Statuses.{joined}
-use Rattle.ga_ports.specs.Counts.{raised, Rose, is_due, NoneDue}
+use Rattle.ga_counters.specs.Counts.{raised, Rose, is_due, NoneDue}
 use Rattle.ga_ports.specs.Outs.{TargetView, OutsView, target, with_target, takes, fails_once, after, after_failure, is_full, fitting, WritesExactly, WritesIfListed}
 use Rattle.ga_ports.specs.declared.outs.To.{To}
 use Rattle.ga_ports.specs.declared.outs.To.TheVariants.{Stdout, Stderr, File}

@@ -10,8 +10,8 @@ use Rattle.ga_base.specs.declared.entry.Entry.{Entry}
 use Rattle.ga_disk.specs.Disk.{DiskView}
 use Rattle.ga_disk.specs.Images.{Images}
 use Rattle.ga_disk.specs.Sides.{Sides}
-use Rattle.ga_keep.specs.Database.{Finds, SidesHave, lacks_generation, mode_of, start_of}
-use Rattle.ga_keep.specs.Steps.{HasDamage, Misses}
+use Rattle.ga_keep.specs.RunDatabase.{Finds, SidesHave, lacks_generation, mode_of, start_of}
+use Rattle.ga_keep.specs.Faults.{HasDamage, Misses}
 use Rattle.ga_line.specs.declared.setup.LineSetup.{LineSetup}
 use Rattle.ga_logs.specs.Following.{AreSomeTold, AreTold, ReadsAll, ReadsPortion, ReadsSome}
 use Rattle.ga_logs.specs.Portions.{IsPortionOf}
@@ -23,7 +23,7 @@ use Rattle.ga_store.specs.Commit.{passes_generations}
 use Rattle.ga_store.specs.Database.{DbOf, DbValue}
 use Rattle.ga_store.specs.Database.Reading.{damaged, stored as reads_as}
 use Rattle.ga_store.specs.declared.fault.StoreFault.TheVariants.{Damaged}
-use Rattle.ga_summary.specs.Rows.{SummaryValue}
+use Rattle.ga_summary.specs.SummaryRows.{SummaryValue}
 use Rattle.ga_words.specs.declared.settings.Settings.{Settings}
 use Rattle.ga_run.specs.Course.{HasCounted, HasRules}
 use Rattle.ga_run.specs.Ends.{Ends, FillsCounter, FillsGenerations, Finishes, HasBadRule}

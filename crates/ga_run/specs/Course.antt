@@ -5,7 +5,7 @@ use Rattle.ga_agents.specs.declared.row.Rule.{Rule}
 use Rattle.ga_base.specs.declared.entry.Entry.{Entry}
 use Rattle.ga_disk.specs.Disk.{DiskView}
 use Rattle.ga_line.specs.declared.setup.LineSetup.{LineSetup}
-use Rattle.ga_outcomes.specs.Counting.{CountsLines}
+use Rattle.ga_outcomes.specs.LineOutcomes.{CountsLines}
 use Rattle.ga_logs.specs.Following.{ReadsAll, ReadsPortion}
 use Rattle.ga_logs.specs.Portions.{counted_lines}
 use Rattle.ga_logs.specs.declared.follow.Follow.TheVariants.{Whole}
@@ -13,9 +13,9 @@ use Rattle.ga_outcomes.specs.declared.setup.Setup.{Setup}
 use Rattle.ga_logs.specs.declared.portion.Portion.{Portion}
 use Rattle.ga_ports.specs.Files.{FilesView}
 use Rattle.ga_store.specs.Database.{DbValue}
-use Rattle.ga_summary.specs.Rows.{SummaryValue}
+use Rattle.ga_summary.specs.SummaryRows.{SummaryValue}
 use Rattle.ga_words.specs.declared.settings.Settings.{Settings}
-use Rattle.ga_keep.specs.Database.{AreBase, IsWhole, start_of}
+use Rattle.ga_keep.specs.RunDatabase.{AreBase, IsWhole, start_of}
 use Rattle.ga_run.specs.Keeping.{FindsThere}
 use Rattle.ga_run.specs.Setups.{setup_of}
 
@@ -38,7 +38,7 @@ pub record HasCounted (setup : Setup) (s : Settings) (stored : DbValue) (files f
   pub is_whole : IsWhole s stored run whole
 
 -- a run up to its report: the rules were read, the database was found and the logs were counted
-pub record HasCome (line : LineSetup) (s : Settings) (files files' : FilesView) (disk disk' : DiskView) : Type 0 where
+pub record ReachesReport (line : LineSetup) (s : Settings) (files files' : FilesView) (disk disk' : DiskView) : Type 0 where
   pub rules : List Rule
   pub mid : FilesView
   pub has_rules : HasRules s.browsers_file files mid rules

@@ -8,16 +8,16 @@ use Rattle.ga_base.specs.declared.counts.TheConstants.{LIMIT}
 use Rattle.ga_base.specs.declared.entry.Entry.{Entry}
 use Rattle.ga_disk.specs.Disk.{DiskView}
 use Rattle.ga_disk.specs.Images.{Images, LeavesOnly}
-use Rattle.ga_keep.specs.Database.{AreBase, Finds, IsUntouched, LooksAtMost, lacks_generation, start_of}
-use Rattle.ga_keep.specs.Steps.{Misses}
+use Rattle.ga_keep.specs.RunDatabase.{AreBase, Finds, IsUntouched, LooksAtMost, lacks_generation, start_of}
+use Rattle.ga_keep.specs.Faults.{Misses}
 use Rattle.ga_line.specs.declared.setup.LineSetup.{LineSetup}
-use Rattle.ga_outcomes.specs.Counting.{FillsAmong}
+use Rattle.ga_outcomes.specs.LineOutcomes.{FillsAmong}
 use Rattle.ga_logs.specs.Following.{CanServe, MissesLog, ReadsPortion, ReadsSome}
-use Rattle.ga_logs.specs.Logs.{MissesLogs}
+use Rattle.ga_logs.specs.Missing.{MissesLogs}
 use Rattle.ga_logs.specs.Portions.{counted_lines}
 use Rattle.ga_logs.specs.declared.follow.Follow.TheVariants.{Whole}
 use Rattle.ga_logs.specs.declared.portion.Portion.{Portion}
-use Rattle.ga_ports.specs.Counts.{Rose}
+use Rattle.ga_counters.specs.Counts.{Rose}
 use Rattle.ga_ports.specs.Files.{FilesView}
 use Rattle.ga_ports.specs.declared.outs.To.{To}
 use Rattle.ga_resume.specs.declared.fault.PlaceFault.{PlaceFault}
@@ -26,7 +26,7 @@ use Rattle.ga_store.specs.Database.{DbValue}
 use Rattle.ga_store.specs.declared.fault.StoreFault.{StoreFault}
 use Rattle.ga_store.specs.declared.fault.StoreFault.TheVariants.{Damaged, DiskFault as StoreFailed}
 use Rattle.ga_words.specs.declared.settings.Settings.{Settings}
-use Rattle.ga_run.specs.Course.{HasCome, HasRules}
+use Rattle.ga_run.specs.Course.{ReachesReport, HasRules}
 use Rattle.ga_run.specs.Inputs.{inputs_of}
 use Rattle.ga_run.specs.Keeping.{FailsSince, KeptSince}
 use Rattle.ga_run.specs.Printing.{FailsWriting, OutputCanTake, but_errors, delivered, report_file, target_of}
@@ -48,7 +48,7 @@ SaysOnly old new = new.outs ≡ but_errors new.outs old.outs
 pub record HasReport (line : LineSetup) (s : Settings) (old new : World) : Type 0 where
   -- the disk, once the database was found
   pub found : DiskView
-  pub come : HasCome line s old.files new.files old.disk found
+  pub come : ReachesReport line s old.files new.files old.disk found
   pub text : List ℕ
   pub report : IsTextOf s come.counted.whole text
   pub kept : KeptSince s come.stored come.counted.whole come.counted.entries' found new.disk old.images new.images
@@ -117,7 +117,7 @@ pub record FillsCounter (line : LineSetup) (s : Settings) (old new : World) (whi
 
 -- the run would need a generation above the limit
 pub record FillsGenerations (line : LineSetup) (s : Settings) (old new : World) (which : Counter) (total : ℕ) : Type 0 where
-  pub come : HasCome line s old.files new.files old.disk new.disk
+  pub come : ReachesReport line s old.files new.files old.disk new.disk
   pub moments : LeavesOnly old.images new.images old.images.now
   pub lacks : lacks_generation s come.stored ≡ true
   pub counter : which ≡ Generations
@@ -134,7 +134,7 @@ pub record MissesDatabase (s : Settings) (old new : World) (fault : StoreFault) 
 -- the disk failed while the run was kept
 pub record FailsAtLast (line : LineSetup) (s : Settings) (old new : World) : Type 0 where
   pub found : DiskView
-  pub come : HasCome line s old.files new.files old.disk found
+  pub come : ReachesReport line s old.files new.files old.disk found
   pub persists : s.persist ≡ true
   pub fails : FailsSince come.stored come.counted.whole come.counted.entries' found new.disk old.images new.images
 

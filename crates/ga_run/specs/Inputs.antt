@@ -2,7 +2,7 @@
 use Rattle.std.specs.Prelude.{◌≡◌, ℕ, ◌+◌, List, [], ◌∷◌, ◌++◌, length, Option, Some, None, IfSome}
 use Rattle.ga_base.specs.declared.entry.Entry.{Entry}
 use Rattle.ga_disk.specs.Disk.{DiskView}
-use Rattle.ga_keep.specs.Database.{AreBase, SidesHave, follow_of}
+use Rattle.ga_keep.specs.RunDatabase.{AreBase, SidesHave, follow_of}
 use Rattle.ga_logs.specs.Following.{AsksFor, ReadsPortion}
 use Rattle.ga_logs.specs.Portions.{Follows}
 use Rattle.ga_logs.specs.declared.follow.Follow.{Follow}

@@ -4,13 +4,13 @@ use Rattle.ga_base.specs.declared.entry.Entry.{Entry}
 use Rattle.ga_disk.specs.Disk.{DiskView}
 use Rattle.ga_disk.specs.Images.{Images, LeavesOnly}
 use Rattle.ga_disk.specs.Sides.{Sides}
-use Rattle.ga_keep.specs.Database.{IsAfter, IsNext, IsPathOf, mode_of, uses_database}
-use Rattle.ga_ports.specs.Counts.{raised}
+use Rattle.ga_keep.specs.RunDatabase.{IsAfter, IsNext, IsPathOf, mode_of, uses_database}
+use Rattle.ga_counters.specs.Counts.{raised}
 use Rattle.ga_store.specs.Commit.{IsLater, passes_generations}
 use Rattle.ga_store.specs.Commits.{AllHave, Frames, HasEither}
 use Rattle.ga_store.specs.Database.{DbOf, DbValue, empty_db}
 use Rattle.ga_store.specs.Database.Reading.{stored as reads_as}
-use Rattle.ga_summary.specs.Rows.{SummaryValue}
+use Rattle.ga_summary.specs.SummaryRows.{SummaryValue}
 use Rattle.ga_words.specs.declared.settings.Settings.{Settings}
 
 -- ---- what was found

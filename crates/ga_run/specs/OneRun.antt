@@ -2,7 +2,7 @@
 use Rattle.std.specs.Prelude.{◌≡◌, ◌≢◌, ℕ, List, Option, Some, None, Ok}
 use Rattle.std.specs.List.{AllByRecursion}
 use Rattle.ga_disk.specs.Sides.{Sides}
-use Rattle.ga_ports.specs.Counts.{Rose}
+use Rattle.ga_counters.specs.Counts.{Rose}
 use Rattle.ga_ports.specs.Files.{told}
 use Rattle.ga_ports.specs.Outs.{OutsView, takes}
 use Rattle.ga_store.specs.Database.{DbOf, DbValue}

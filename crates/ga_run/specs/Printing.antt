@@ -1,7 +1,7 @@
 -- What it is that a target took bytes, all or up to a place.
 use Rattle.std.specs.Prelude.{◌≡◌, ◌≢◌, ℕ, ◌<◌, ◌≤◌, ◌⊎◌, List, [], ◌∷◌, length, take, Option, Some, None, Result, OnOk, IfErr}
 use Rattle.std.specs.Result.{IsOk}
-use Rattle.ga_ports.specs.Counts.{raised, Rose, NoneDue}
+use Rattle.ga_counters.specs.Counts.{raised, Rose, NoneDue}
 use Rattle.ga_ports.specs.Outs.{TargetView, OutsView, target, with_target, takes, fails_once, fitting, after_making}
 use Rattle.ga_ports.specs.declared.outs.To.{To}
 use Rattle.ga_ports.specs.declared.outs.To.TheVariants.{Stdout, File}

@@ -3,11 +3,11 @@ use Rattle.std.specs.Prelude.{◌≡◌, ℕ, List, Option, Some, None}
 use Rattle.ga_generate.specs.Summary.{summary_text}
 use Rattle.ga_print.specs.Csv.{csv_text}
 use Rattle.ga_print.specs.Json.{json_text}
-use Rattle.ga_report.specs.OfSummary.{told_value}
-use Rattle.ga_report.specs.Told.{ToldValue}
+use Rattle.ga_report.specs.OfSummary.{source_value}
+use Rattle.ga_report.specs.Source.{SourceValue}
 use Rattle.ga_report.specs.Reports.{IsReport}
 use Rattle.ga_report.specs.declared.report.Report.{Report}
-use Rattle.ga_summary.specs.Rows.{SummaryValue}
+use Rattle.ga_summary.specs.SummaryRows.{SummaryValue}
 use Rattle.ga_words.specs.declared.settings.Kind.{Kind}
 use Rattle.ga_words.specs.declared.settings.Kind.TheVariants.{Json, Csv}
 use Rattle.ga_words.specs.declared.settings.Settings.{Settings}
@@ -23,11 +23,11 @@ shown None kind report = text_as kind report
 shown (Some lines) kind report = summary_text lines report.general (json_text report)
 
 -- the text is the report on what is told, as the settings say: its panels, the length of its lists and what is printed of it
-pub record IsTextTold (s : Settings) (told : ToldValue) (text : List ℕ) : Type 0 where
+pub record IsTextTold (s : Settings) (told : SourceValue) (text : List ℕ) : Type 0 where
   pub report : Report
   pub is_report : IsReport told s.panels s.max_items report
   pub written : text ≡ shown s.generate s.output.kind report
 
 -- the text is the report on a summary
 abbrev pub IsTextOf : Settings → SummaryValue → List ℕ → Type 0
-IsTextOf s sum text = IsTextTold s (told_value sum) text
+IsTextOf s sum text = IsTextTold s (source_value sum) text

@@ -6,14 +6,14 @@ use Rattle.ga_base.specs.declared.formats.FormatFault.{FormatFault}
 use Rattle.ga_disk.specs.Disk.{DiskView}
 use Rattle.ga_disk.specs.Images.{LeavesOnly}
 use Rattle.ga_disk.specs.Sides.{Sides}
-use Rattle.ga_disk.specs.Stretch.{DiskWent}
-use Rattle.ga_keep.specs.Database.{IsUntouched, uses_database}
+use Rattle.ga_disk.specs.Trace.{DiskTrace}
+use Rattle.ga_keep.specs.RunDatabase.{IsUntouched, uses_database}
 use Rattle.ga_line.specs.declared.setup.LineSetup.{LineSetup}
 use Rattle.ga_logs.specs.Following.{CanServe}
-use Rattle.ga_ports.specs.Counts.{raised, Rose}
+use Rattle.ga_counters.specs.Counts.{raised, Rose}
 use Rattle.ga_ports.specs.Files.{is_absent}
 use Rattle.ga_ports.specs.Outs.{OutsView, target}
-use Rattle.ga_ports.specs.Stretch.{FilesWent, OutsWent}
+use Rattle.ga_ports.specs.Trace.{FilesTrace, OutsTrace}
 use Rattle.ga_ports.specs.declared.file_counts.FileCounts.{FileCounts}
 use Rattle.ga_ports.specs.declared.outs.To.{To}
 use Rattle.ga_store.specs.Commit.{IsLater}
@@ -190,6 +190,6 @@ pub record IsRun (words : List (List ℕ)) (old new : World) (status : Status) :
   -- the files' faults are counted as the status says
   pub faults : SameFaults (faults_after status old.files.counts) new.files.counts
   -- calls led from the views before to those after, each by its own clauses
-  pub files_went : FilesWent old.files new.files
-  pub disk_went : DiskWent old.disk new.disk
-  pub outs_went : OutsWent old.outs new.outs
+  pub files_trace : FilesTrace old.files new.files
+  pub disk_trace : DiskTrace old.disk new.disk
+  pub outs_trace : OutsTrace old.outs new.outs

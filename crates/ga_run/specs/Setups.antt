@@ -1,4 +1,4 @@
--- What the settings of a run come to: the setup with which lines are read and counted, or the first format that is
+-- What the settings of a run mean: the setup with which lines are read and counted, or the first format that is
 -- refused.
 use Rattle.std.specs.Prelude.{◌≡◌, ℕ, List, unwrap_or, Result, Ok, Err, codes}
 use Rattle.ga_agents.specs.declared.row.Rule.{Rule}

@@ -9,16 +9,16 @@ use Rattle.ga_base.specs.declared.counts.TheConstants.{LIMIT}
 use Rattle.ga_base.specs.declared.entry.Entry.{Entry}
 use Rattle.ga_disk.specs.Sides.{Sides}
 use Rattle.ga_line.specs.declared.setup.LineSetup.{LineSetup}
-use Rattle.ga_outcomes.specs.Counting.{CountsLines, FillsAmong}
+use Rattle.ga_outcomes.specs.LineOutcomes.{CountsLines, FillsAmong}
 use Rattle.ga_logs.specs.Following.{AreTold, AreSomeTold}
 use Rattle.ga_logs.specs.Portions.{counted_lines}
 use Rattle.ga_logs.specs.declared.portion.Portion.{Portion}
 use Rattle.ga_ports.specs.Files.{FilesView, told}
 use Rattle.ga_store.specs.Database.{DbOf, DbValue}
 use Rattle.ga_store.specs.Database.Reading.{damaged}
-use Rattle.ga_summary.specs.Rows.{SummaryValue}
+use Rattle.ga_summary.specs.SummaryRows.{SummaryValue}
 use Rattle.ga_words.specs.declared.settings.Settings.{Settings}
-use Rattle.ga_keep.specs.Database.{AreBase, IsWhole, SidesHave, lacks_generation, start_of, uses_database}
+use Rattle.ga_keep.specs.RunDatabase.{AreBase, IsWhole, SidesHave, lacks_generation, start_of, uses_database}
 use Rattle.ga_run.specs.Reports.{IsTextOf}
 use Rattle.ga_run.specs.Setups.{setup_of}
 use Rattle.ga_run.specs.declared.status.Status.{Status}
@@ -37,7 +37,7 @@ pub record HasBadLine (s : Settings) (files : FilesView) (at : ℕ) : Type 0 whe
   pub told : told name files.contents ≡ Some text
   pub bad : IsBadLine text at
 
--- the logs come to this sum, with what was stored to that whole, and leave these entries
+-- the logs have this sum, with what was stored that whole, and leave these entries
 pub record CountsTold (line : LineSetup) (s : Settings) (rules : List Rule) (stored : DbValue) (files : FilesView)
     (whole : SummaryValue) (entries' : List Entry) : Type 0 where
   pub entries : List Entry

@@ -1,6 +1,6 @@
 ghost use Rattle.std.specs.Prelude.{◌≡◌, ◌≤◌, ◌∷◌, [], codes, decimal, map};
 ghost use Rattle.ga_ports.specs.declared.outs.To.TheVariants.{Stderr};
-ghost use Rattle.ga_ports.specs.Stretch.{OutsWent};
+ghost use Rattle.ga_ports.specs.Trace.{OutsTrace};
 ghost use Rattle.ga_run.specs.Printing.{ChangesOnly, TakesOrStops};
 ghost use Rattle.ga_run.specs.Statuses.{counter_name, fault_line, format_name, joined, word_pieces};
 
@@ -17,7 +17,7 @@ pub fn tell<O: Outs>(outs: &mut O, name: &[u8], status: &Status)
     ensures line { TakesOrStops (fault_line name.now status.now) (O.view outs.old).stderr (O.view outs.new).stderr }
     ensures others { ChangesOnly Stderr (O.view outs.old) (O.view outs.new) }
     ensures starved { (O.view outs.old).starved ≤ (O.view outs.new).starved }
-    ensures calls { OutsWent (O.view outs.old) (O.view outs.new) }
+    ensures calls { OutsTrace (O.view outs.old) (O.view outs.new) }
 {
     let mut digits = Buffer::new();
     match status {
@@ -68,7 +68,7 @@ fn tell_damage<O: Outs>(outs: &mut O, side: u32, at: u64)
     ensures line { TakesOrStops (joined (codes "goaccess: database: side " ∷ decimal side ∷ codes " damaged at " ∷ decimal at ∷ codes "\n" ∷ [])) (O.view outs.old).stderr (O.view outs.new).stderr }
     ensures others { ChangesOnly Stderr (O.view outs.old) (O.view outs.new) }
     ensures starved { (O.view outs.old).starved ≤ (O.view outs.new).starved }
-    ensures calls { OutsWent (O.view outs.old) (O.view outs.new) }
+    ensures calls { OutsTrace (O.view outs.old) (O.view outs.new) }
 {
     let mut places = Buffer::new();
     let mut sides = Buffer::new();
@@ -83,7 +83,7 @@ fn tell_words<O: Outs>(outs: &mut O, fault: &WordFault)
     ensures line { TakesOrStops (joined (word_pieces fault.now)) (O.view outs.old).stderr (O.view outs.new).stderr }
     ensures others { ChangesOnly Stderr (O.view outs.old) (O.view outs.new) }
     ensures starved { (O.view outs.old).starved ≤ (O.view outs.new).starved }
-    ensures calls { OutsWent (O.view outs.old) (O.view outs.new) }
+    ensures calls { OutsTrace (O.view outs.old) (O.view outs.new) }
 {
     match fault {
         WordFault::UnknownOption { at } => tell_word(outs, *at, b": unknown option\n"),
@@ -101,7 +101,7 @@ fn tell_word<O: Outs>(outs: &mut O, at: u64, text: &[u8])
     ensures line { TakesOrStops (joined (codes "goaccess: word " ∷ decimal at ∷ text.now ∷ [])) (O.view outs.old).stderr (O.view outs.new).stderr }
     ensures others { ChangesOnly Stderr (O.view outs.old) (O.view outs.new) }
     ensures starved { (O.view outs.old).starved ≤ (O.view outs.new).starved }
-    ensures calls { OutsWent (O.view outs.old) (O.view outs.new) }
+    ensures calls { OutsTrace (O.view outs.old) (O.view outs.new) }
 {
     let mut digits = Buffer::new();
     let at = digits.format(at).as_bytes();
@@ -134,7 +134,7 @@ fn say<O: Outs>(outs: &mut O, pieces: &[&[u8]])
     ensures line { TakesOrStops (joined (map (λ piece. piece.now) pieces.now)) (O.view outs.old).stderr (O.view outs.new).stderr }
     ensures others { ChangesOnly Stderr (O.view outs.old) (O.view outs.new) }
     ensures starved { (O.view outs.old).starved ≤ (O.view outs.new).starved }
-    ensures calls { OutsWent (O.view outs.old) (O.view outs.new) }
+    ensures calls { OutsTrace (O.view outs.old) (O.view outs.new) }
 {
     for piece in pieces {
         match print(outs, To::Stderr, piece) {

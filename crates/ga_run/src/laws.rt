@@ -7,16 +7,16 @@ ghost use Rattle.ga_base.specs.declared.counts.Counter.{Counter};
 ghost use Rattle.ga_base.specs.declared.counts.Totals.{Totals};
 ghost use Rattle.ga_disk.specs.Sides.{Sides};
 ghost use Rattle.ga_line.specs.declared.setup.LineSetup.{LineSetup as TheSetup};
-ghost use Rattle.ga_outcomes.specs.Counting.{CountsLines, FillsAmong};
+ghost use Rattle.ga_outcomes.specs.LineOutcomes.{CountsLines, FillsAmong};
 ghost use Rattle.ga_ports.specs.Files.{FilesView};
 ghost use Rattle.ga_ports.specs.Outs.{OutsView};
-ghost use Rattle.ga_summary.specs.Rows.{SummaryValue};
+ghost use Rattle.ga_summary.specs.SummaryRows.{SummaryValue};
 ghost use Rattle.ga_words.specs.WordsOf.{WordsOf};
 ghost use Rattle.ga_words.specs.declared.settings.Settings.{Settings as TheSettings};
 ghost use Rattle.ga_run.specs.OneRun.{Alike, DifferInWorkers, HaveSameInputs, IsUntroubled, RunView, run_of};
 ghost use Rattle.ga_run.specs.Reports.{IsTextOf};
 ghost use Rattle.ga_run.specs.Setups.{IsLineSetup, setup_of};
-ghost use Rattle.ga_run.specs.Steps.Setups.{ComeTo};
+ghost use Rattle.ga_run.specs.Steps.Setups.{GivesLineSetup};
 ghost use Rattle.ga_run.specs.Told.{Answers, Yield};
 ghost use Rattle.ga_run.specs.World.{world_of};
 ghost use Rattle.ga_run.specs.declared.setups.SetupFault.{SetupFault as TheFault};
@@ -34,9 +34,9 @@ use ga_store::laws::one_database;
 use ga_summary::laws::one_sum;
 use ga_words::laws::one_reading as one_reading_of_words;
 
-/// The formats of settings come to one thing: a way to read lines, or one refusal.
+/// The formats of settings mean one thing: a way to read lines, or one refusal.
 pub(crate) fn one_outcome()
-    ensures { (s : TheSettings) (a b : Result TheSetup TheFault) → ComeTo s a → ComeTo s b → a ≡ b }
+    ensures { (s : TheSettings) (a b : Result TheSetup TheFault) → GivesLineSetup s a → GivesLineSetup s b → a ≡ b }
 {
     one_format();
     one_answer_of_formats();
@@ -51,7 +51,7 @@ pub fn one_setup()
     one_reading_of_words();
 }
 
-/// Lines that are read as settings say come to one sum, or fill one counter with one value, and not both.
+/// Lines that are read as settings say have one sum, or fill one counter with one value, and not both.
 pub fn one_count()
     ensures sum { (s : TheSettings) (line : TheSetup) (rules : List Rule) → IsLineSetup s line
         → (start : Totals) (all : List (List ℕ)) (a b : SummaryValue)

@@ -13,8 +13,6 @@ mod rules;
 mod run;
 mod setups;
 mod status;
-#[cfg(test)]
-mod tests;
 
 pub use printing::{deliver, print};
 pub use run::goaccess_run;

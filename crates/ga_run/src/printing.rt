@@ -1,5 +1,5 @@
 ghost use Rattle.ga_ports.specs.Outs.{CanTake};
-ghost use Rattle.ga_ports.specs.Stretch.{OutsWent};
+ghost use Rattle.ga_ports.specs.Trace.{OutsTrace};
 ghost use Rattle.std.specs.Prelude.{option_map};
 ghost use Rattle.std.specs.Option.{option_copied};
 ghost use Rattle.ga_run.specs.Printing.{Delivers, Prints};
@@ -11,7 +11,7 @@ use ga_ports::{Outs, To};
 pub fn print<O: Outs>(outs: &mut O, to: To, bytes: &[u8]) -> Result<(), u64>
     requires { CanTake to (O.view outs.old) }
     ensures prints { Prints to bytes.now (O.view outs.old) (O.view outs.new) result }
-    ensures calls { OutsWent (O.view outs.old) (O.view outs.new) }
+    ensures calls { OutsTrace (O.view outs.old) (O.view outs.new) }
 {
     let mut at = 0;
     while at < bytes.len() {
@@ -27,7 +27,7 @@ pub fn print<O: Outs>(outs: &mut O, to: To, bytes: &[u8]) -> Result<(), u64>
 /// the number of bytes that were taken before its target failed, 0 where the file couldn't be made.
 pub fn deliver<O: Outs>(outs: &mut O, file: Option<&Text>, text: &[u8]) -> Result<(), u64>
     ensures delivers { Delivers (option_copied file.entry) text.now (O.view outs.old) (O.view outs.new) result }
-    ensures calls { OutsWent (O.view outs.old) (O.view outs.new) }
+    ensures calls { OutsTrace (O.view outs.old) (O.view outs.new) }
 {
     let Some(name) = file else {
         return print(outs, To::Stdout, text);

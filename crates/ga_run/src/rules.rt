@@ -1,5 +1,5 @@
 ghost use Rattle.std.specs.Prelude.{◌≢◌, Some, IfOk, IfErr};
-ghost use Rattle.ga_ports.specs.Stretch.{FilesWent};
+ghost use Rattle.ga_ports.specs.Trace.{FilesTrace};
 ghost use Rattle.std.specs.Option.{option_copied};
 ghost use Rattle.ga_logs.specs.Following.{CanServe, CanServeOne};
 ghost use Rattle.ga_run.specs.Course.{HasRules};
@@ -9,7 +9,7 @@ ghost use Rattle.ga_resume.specs.declared.fault.PlaceFault.TheVariants.{FileFaul
 ghost use Rattle.ga_run.specs.declared.rules.RulesFault.TheVariants.{Unread};
 
 use ga_agents::{RuleFault, Rules};
-use ga_base::Text;
+use ga_base::{Entries, Text};
 use ga_logs::{Follow, read_portion};
 use ga_ports::Files;
 use ga_resume::PlaceFault;
@@ -32,7 +32,7 @@ pub fn rules_of<F: Files>(
 ) -> Result<Rules, RulesFault>
     ensures ok { IfOk result (HasRules (option_copied name.entry) (F.view files.old) (F.view files.new)) }
     ensures stops { IfErr result (StopsNamed (option_copied name.entry) (F.view files.old) (F.view files.new)) }
-    ensures calls { FilesWent (F.view files.old) (F.view files.new) }
+    ensures calls { FilesTrace (F.view files.old) (F.view files.new) }
     ensures sure { CanServe (rules_file (option_copied name.entry)) (F.view files.old) → IfErr result (λ fault. fault ≢ Unread FileFault) }
 {
     match name {
@@ -45,10 +45,11 @@ pub fn rules_of<F: Files>(
 fn read_rules<F: Files>(alloc: Global, name: &Text, files: &mut F) -> Result<Rules, RulesFault>
     ensures ok { IfOk result (λ rules. HasRules (Some name.now) (F.view files.old) (F.view files.new) rules) }
     ensures stops { IfErr result (StopsRules name.now (F.view files.old) (F.view files.new)) }
-    ensures calls { FilesWent (F.view files.old) (F.view files.new) }
+    ensures calls { FilesTrace (F.view files.old) (F.view files.new) }
     ensures sure { CanServeOne name.now (F.view files.old) → IfErr result (λ fault. fault ≢ Unread FileFault) }
 {
-    let text = match read_portion(alloc, Follow::Whole, &[], name, files) {
+    let none = Entries::new(alloc);
+    let text = match read_portion(alloc, Follow::Whole, &none, name, files) {
         Ok(text) => text,
         Err(fault) => return Err(RulesFault::Unread(fault)),
     };

@@ -1,22 +1,22 @@
 ghost use Rattle.std.specs.Prelude.{◌≡◌, false, IfOk, IfErr, IsTrue, option_map};
 ghost use Rattle.std.specs.Option.{option_copied};
-ghost use Rattle.ga_disk.specs.Stretch.{DiskWent};
-ghost use Rattle.ga_ports.specs.Stretch.{FilesWent, OutsWent};
+ghost use Rattle.ga_disk.specs.Trace.{DiskTrace};
+ghost use Rattle.ga_ports.specs.Trace.{FilesTrace, OutsTrace};
 ghost use Rattle.ga_generate.specs.Summary.{summary_text};
-ghost use Rattle.ga_keep.specs.Database as database;
-ghost use Rattle.ga_keep.specs.Database.{IsWhole};
+ghost use Rattle.ga_keep.specs.RunDatabase as database;
+ghost use Rattle.ga_keep.specs.RunDatabase.{IsWhole};
 ghost use Rattle.ga_logs.specs.Following.{CanServe};
 ghost use Rattle.ga_print.specs.Json.{json_text};
 ghost use Rattle.ga_report.specs.Printable.{IsPrintable};
-ghost use Rattle.ga_store.specs.Reading.{db_value};
-ghost use Rattle.ga_streams.specs.Counting.{AreWorkers};
+ghost use Rattle.ga_store.specs.Store.{db_value};
+ghost use Rattle.ga_workers.specs.Workers.{AreWorkers};
 ghost use Rattle.ga_summary.specs.Sound.{IsSummary};
 ghost use Rattle.ga_run.specs.Printing.{report_file, target_of};
 ghost use Rattle.ga_run.specs.Reports.{IsTextTold, text_as};
 ghost use Rattle.ga_run.specs.Run.{IsRun};
 ghost use Rattle.ga_run.specs.Statuses.{target_name};
 ghost use Rattle.ga_run.specs.World.{world_of};
-ghost use Rattle.ga_run.specs.Steps.Run.{CountedValue, EndsAlone, EndsInputs, EndsLast, EndsReport, EndsRun, IsReady, IsTextAlone, NoFileFailed, StopsAlone, StopsCounting, failed_name, input_name, workers_said};
+ghost use Rattle.ga_run.specs.Steps.Run.{CountsRun, EndsAlone, EndsInputs, EndsLast, EndsReport, EndsRun, IsReady, IsTextAlone, NoFileFailed, StopsAlone, StopsCounting, failed_name, input_name, workers_said};
 
 use crate::faults::tell;
 use crate::printing::deliver;
@@ -26,27 +26,27 @@ use crate::{Input, Status, laws};
 use ga_base::{Bytes, Entries, NoMemory, Text};
 use ga_disk::Disk;
 use ga_generate::summary;
-use ga_keep::{base_entries, find, keep, start, uses_database, whole};
+use ga_keep::{base_entries, find, keep, start, uses_database, whole_summary};
 use ga_line::LineSetup;
 use ga_logs::count_logs;
 use ga_logs::laws::read_as_told;
 use ga_outcomes::Setup;
 use ga_ports::laws::files_stay;
 use ga_ports::{Files, Gate, Outs, To};
-use ga_print::{csv, json};
-use ga_report::{Report, Tells, rows};
+use ga_print::{csv, json_with};
+use ga_report::{Report, RowSource, rows_from};
 use ga_store::Db;
-use ga_streams::Workers;
 use ga_summary::Summary;
 use ga_words::laws::one_reading;
 use ga_words::{Kind, Settings, read_words};
+use ga_workers::{Crew, Workers};
 use std::alloc::Global;
 use std::mem;
 use std::thread::Threads;
 
 /// What a run counted, and what it began with.
 #[derive(Debug, Drop)]
-struct Counted {
+struct RunCounts {
     /// The database that was found.
     stored: Db,
     /// The sum of the run's own lines.
@@ -230,25 +230,21 @@ fn text_alone<R: Threads + Sync, G: Gate, F: Files>(
     ensures ok { IfOk result (IsTextAlone setup.now settings.now (db_value stored.now) (F.view files.old) (F.view files.new)) }
     ensures stops { IfErr result (StopsAlone setup.now settings.now (db_value stored.now) (F.view files.old) (F.view files.new)) }
     ensures sure { CanServe settings.now.logs (F.view files.old) → IfErr result NoFileFailed }
-    ensures files_went { FilesWent (F.view files.old) (F.view files.new) }
+    ensures files_trace { FilesTrace (F.view files.old) (F.view files.new) }
 {
     let mut entries = base_entries(alloc, settings, stored)?;
     let start = start(alloc, settings, stored);
-    sound(&stored.summary);
+    summary_is_sound(&stored.summary);
     let names = settings.logs.items();
-    let total = count_logs(
+    let crew = Crew {
         rt,
         gate,
         alloc,
         setup,
-        workers_of(settings),
-        start,
-        settings.generate,
-        names,
-        &mut entries,
-        files,
-    )?;
-    let told = total.told(rt, alloc, workers_of(settings).jobs)?;
+        workers: workers_of(settings),
+    };
+    let total = count_logs(&crew, start, settings.generate, names, &mut entries, files)?;
+    let told = total.source(rt, alloc, crew.workers.jobs)?;
     let text = text_of(rt, alloc, settings, &told)?;
     drop(told);
     // Behind the report the program ends, and the system takes the total's memory back at once: piece by piece it takes long.
@@ -265,33 +261,29 @@ fn count<R: Threads + Sync, G: Gate, F: Files, D: Disk>(
     settings: &Settings,
     files: &mut F,
     disk: &mut D,
-) -> Result<Counted, Status>
-    ensures ok { IfOk result (λ counted. CountedValue setup.now settings.now counted (F.view files.old) (F.view files.new) (D.view disk.old) (D.view disk.new) (D.images disk.old) (D.images disk.new)) }
+) -> Result<RunCounts, Status>
+    ensures ok { IfOk result (λ counted. CountsRun setup.now settings.now counted (F.view files.old) (F.view files.new) (D.view disk.old) (D.view disk.new) (D.images disk.old) (D.images disk.new)) }
     ensures stops { IfErr result (StopsCounting setup.now settings.now (F.view files.old) (F.view files.new) (D.view disk.old) (D.view disk.new) (D.images disk.old) (D.images disk.new)) }
     ensures sure { CanServe settings.now.logs (F.view files.old) → IfErr result NoFileFailed }
-    ensures files_went { FilesWent (F.view files.old) (F.view files.new) }
-    ensures disk_went { DiskWent (D.view disk.old) (D.view disk.new) }
+    ensures files_trace { FilesTrace (F.view files.old) (F.view files.new) }
+    ensures disk_trace { DiskTrace (D.view disk.old) (D.view disk.new) }
 {
     let stored = find(alloc, settings, disk)?;
     let mut entries = base_entries(alloc, settings, &stored)?;
     let start = start(alloc, settings, &stored);
-    sound(&stored.summary);
+    summary_is_sound(&stored.summary);
     let names = settings.logs.items();
-    let total = count_logs(
+    let crew = Crew {
         rt,
         gate,
         alloc,
         setup,
-        workers_of(settings),
-        start,
-        settings.generate,
-        names,
-        &mut entries,
-        files,
-    )?;
+        workers: workers_of(settings),
+    };
+    let total = count_logs(&crew, start, settings.generate, names, &mut entries, files)?;
     let run = total.summary(alloc)?;
-    let whole = whole(settings, &stored, &run)?;
-    Ok(Counted {
+    let whole = whole_summary(settings, &stored, &run)?;
+    Ok(RunCounts {
         stored,
         run,
         whole,
@@ -311,7 +303,7 @@ fn workers_of(settings: &Settings) -> Workers
 }
 
 /// Each summary is sound.
-fn sound(summary: &Summary)
+fn summary_is_sound(summary: &Summary)
     ensures { IsSummary summary.now }
 {
     summary.totals();
@@ -322,7 +314,7 @@ fn finish<R: Threads + Sync, D: Disk, O: Outs>(
     rt: &R,
     alloc: Global,
     settings: &Settings,
-    counted: &Counted,
+    counted: &RunCounts,
     disk: &mut D,
     outs: &mut O,
 ) -> Status
@@ -334,7 +326,7 @@ fn finish<R: Threads + Sync, D: Disk, O: Outs>(
         return Status::NoMemory;
     };
     if settings.persist {
-        let Counted {
+        let RunCounts {
             stored,
             run,
             whole,
@@ -351,7 +343,7 @@ fn finish<R: Threads + Sync, D: Disk, O: Outs>(
 fn report<O: Outs>(settings: &Settings, text: &[u8], outs: &mut O) -> Status
     ensures ends { EndsReport settings.now text.now (O.view outs.old) (O.view outs.new) result }
     ensures errors { (O.view outs.new).stderr ≡ (O.view outs.old).stderr }
-    ensures calls { OutsWent (O.view outs.old) (O.view outs.new) }
+    ensures calls { OutsTrace (O.view outs.old) (O.view outs.new) }
 {
     let file = report_file(settings);
     let to = target_of(file);
@@ -372,7 +364,7 @@ fn target_of(file: Option<&Text>) -> To
 }
 
 /// What is printed of the report on what is told.
-fn text_of<R: Threads + Sync, T: Tells + Sync>(
+fn text_of<R: Threads + Sync, T: RowSource + Sync>(
     rt: &R,
     alloc: Global,
     settings: &Settings,
@@ -381,7 +373,7 @@ fn text_of<R: Threads + Sync, T: Tells + Sync>(
     ensures { IfOk result (λ text. IsTextTold settings.now (T.view told.now) text) }
 {
     let jobs = workers_of(settings).jobs;
-    let report = rows(rt, alloc, told, &settings.panels, settings.max_items, jobs)?;
+    let report = rows_from(rt, alloc, told, &settings.panels, settings.max_items, jobs)?;
     match settings.generate {
         None => report_text(rt, alloc, settings.output.kind, &report, jobs),
         Some(lines) => generated_text(rt, alloc, lines, &report, jobs),
@@ -400,7 +392,7 @@ fn report_text<R: Threads + Sync>(
     ensures { IfOk result (λ text. text ≡ text_as kind report.now) }
 {
     match kind {
-        Kind::Json => json(rt, alloc, report, jobs),
+        Kind::Json => json_with(rt, alloc, report, jobs),
         Kind::Csv => csv(alloc, report),
     }
 }
@@ -416,6 +408,6 @@ fn generated_text<R: Threads + Sync>(
     requires { IsPrintable report.now }
     ensures { IfOk result (λ text. text ≡ summary_text lines report.now.general (json_text report.now)) }
 {
-    let json = json(rt, alloc, report, jobs)?;
+    let json = json_with(rt, alloc, report, jobs)?;
     summary(alloc, lines, &report.general, json.bytes())
 }

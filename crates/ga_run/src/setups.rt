@@ -115,7 +115,7 @@ fn time_format(alloc: Global, text: &Text) -> Result<TimeFormat, SetupFault>
     }
 }
 
-/// What a fault of a format comes to.
+/// The refusal for a fault of a format.
 fn refusal(which: Which, fault: FormatFault) -> SetupFault
     ensures refusal { IsRefusal which (λ other. (other ≡ fault) × (other ≢ FormatNoMemory)) result }
     ensures want { result ≡ SetupNoMemory → fault ≡ FormatNoMemory }

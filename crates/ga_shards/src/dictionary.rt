@@ -26,8 +26,16 @@ impl<T: Noted> Model for Dictionary<T> {
 }
 
 impl<T: Noted> Dictionary<T> {
+    /// A dictionary without items, which takes no memory. Its map hashes by fixed words, so it isn't for items that an attacker
+    /// may choose.
+    pub fn new(alloc: Global) -> Dictionary<T>
+        ensures { result ≡ [] }
+    {
+        Dictionary::keyed(alloc, Keyed::new(0, 0))
+    }
+
     /// A dictionary without items, which takes no memory. It hashes by `keyed`, on which nothing depends but the time it takes.
-    pub fn new(alloc: Global, keyed: Keyed) -> Dictionary<T>
+    pub fn keyed(alloc: Global, keyed: Keyed) -> Dictionary<T>
         ensures { result ≡ [] }
     {
         Dictionary {

@@ -15,7 +15,4 @@ pub use cheap::text_hash;
 pub use dictionary::Dictionary;
 pub use keyed::Keyed;
 pub use numbering::Numbering;
-pub use shards::number;
-
-#[cfg(test)]
-mod tests;
+pub use shards::{number, number_keyed};

@@ -9,9 +9,23 @@ use std::alloc::Global;
 use std::hash::{FoldHasher, Hash, Hasher};
 use std::thread::{self, Threads};
 
+/// Gives each different item of these dictionaries one number, as `number_keyed` does. Its maps hash by fixed words.
+pub fn number<R: Threads + Sync, T: Noted + Drop>(
+    rt: &R,
+    alloc: Global,
+    dictionaries: &[Dictionary<T>],
+    shards: u32,
+) -> Result<Numbering<T>, NoMemory>
+    requires some { 1 ≤ shards }
+    requires fits { sum_by (λ items. length items) dictionaries.now < 2 ^ 32 - 1 }
+    ensures { IfOk result (IsNumbering T.eq dictionaries.now) }
+{
+    number_keyed(rt, alloc, Keyed::new(0, 0), dictionaries, shards)
+}
+
 /// Gives each different item of these dictionaries one number. The items are parted into `shards` by a hash, and the shards are
 /// numbered side by side; which shard an item is in shows nowhere, nor does `keyed`.
-pub fn number<R: Threads + Sync, T: Noted + Drop>(
+pub fn number_keyed<R: Threads + Sync, T: Noted + Drop>(
     rt: &R,
     alloc: Global,
     keyed: Keyed,
@@ -27,7 +41,7 @@ pub fn number<R: Threads + Sync, T: Noted + Drop>(
     let parts = parts_of(rt, alloc, keyed, dictionaries, shards)?;
     let starts = starts_of(alloc, &parts)?;
     let numbers = all_numbers(rt, alloc, dictionaries, &parts, &starts)?;
-    Ok(Numbering::with(joined(alloc, parts)?, numbers))
+    Ok(Numbering::with(concat_items(alloc, parts)?, numbers))
 }
 
 /// Shards that have the different items of lists, one behind the other, are a numbering of these.
@@ -56,7 +70,7 @@ pub(crate) fn parts_of<R: Threads + Sync, T: Noted + Drop>(
         requires { (shard < shards) × (1 ≤ shards) × (sum_by (λ items. length items) dictionaries.now < 2 ^ 32 - 1) }
         ensures { IfOk result (λ known. known ≡ all_noted T.eq [] (those_of (shard_at T.hash_input shards) shard (all_of dictionaries.entry.now))) }
     { items_of_shard(alloc, keyed, dictionaries, shards, shard as u32) };
-    gathered(
+    collect_all(
         alloc,
         thread::map_indices(rt, alloc, shards as usize, &part)?,
     )
@@ -77,14 +91,17 @@ fn all_numbers<R: Threads + Sync, T: Noted>(
         requires { (at < length dictionaries.now) × AreNumbered T.eq (shard_at T.hash_input (length parts.now)) parts.now starts.now dictionaries.now }
         ensures { IfOk result (λ v. v.items ≡ map (number_of T.eq (shard_at T.hash_input (length parts.entry.now)) parts.entry.now) (slice_index_or dictionaries.entry.now at [])) }
     { numbers_of(alloc, parts, starts, dictionaries[at].items()) };
-    gathered(
+    collect_all(
         alloc,
         thread::map_indices(rt, alloc, dictionaries.len(), &row)?,
     )
 }
 
 /// The values, where none of the results is want of memory.
-fn gathered<X: Drop>(alloc: Global, results: Vec<Result<X, NoMemory>>) -> Result<Vec<X>, NoMemory>
+fn collect_all<X: Drop>(
+    alloc: Global,
+    results: Vec<Result<X, NoMemory>>,
+) -> Result<Vec<X>, NoMemory>
     ensures { IfOk result (λ v. results.items ≡ map Ok v.items) }
 {
     let mut all = Vec::with_capacity(alloc, results.len())?;
@@ -138,7 +155,7 @@ fn items_of_shard<T: Noted + Drop>(
     requires fits { sum_by (λ items. length items) dictionaries.now < 2 ^ 32 - 1 }
     ensures { IfOk result (λ known. known ≡ all_noted T.eq [] (those_of (shard_at T.hash_input shards) shard (all_of dictionaries.now))) }
 {
-    let mut known = Dictionary::new(alloc, keyed);
+    let mut known = Dictionary::keyed(alloc, keyed);
     for dictionary in dictionaries {
         note_those(&mut known, dictionary.items(), shards, shard)?;
     }
@@ -197,7 +214,10 @@ fn number_in<T: Noted>(parts: &[Dictionary<T>], starts: &[u32], item: &T) -> u32
 }
 
 /// The items of all shards, one behind the other.
-fn joined<T: Noted + Drop>(alloc: Global, parts: Vec<Dictionary<T>>) -> Result<Vec<T>, NoMemory>
+fn concat_items<T: Noted + Drop>(
+    alloc: Global,
+    parts: Vec<Dictionary<T>>,
+) -> Result<Vec<T>, NoMemory>
     ensures { IfOk result (λ v. v.items ≡ all_of parts.items) }
 {
     let mut all = Vec::new(alloc);

@@ -1,14 +1,14 @@
 -- What was said of a side, a gate and a tail holds of equal ones.
 use Rattle.std.proofs.Common.{◌≡◌, ℕ, Bool, List, length, map, Option, Result, subst, sym}
-use Rattle.ga_ports.specs.declared.files.Failed.{Failed}
+use Rattle.ga_counters.specs.declared.failed.Failed.{Failed}
 use Rattle.ga_base.specs.declared.entry.Entry.{Entry}
-use Rattle.ga_summary.specs.Rows.{SummaryValue}
+use Rattle.ga_summary.specs.SummaryRows.{SummaryValue}
 use Rattle.ga_codec.specs.Shapes.{SpellDelta, SpellSnapshot}
 use Rattle.ga_codec.specs.Values.{entry_value}
 use Rattle.ga_disk.specs.Disk.{DiskView, Reaches, TornAt, Writes}
 use Rattle.ga_disk.specs.Images.{Images, LeavesSteps, LeavesSynced}
 use Rattle.ga_disk.specs.Sides.{Sides}
-use Rattle.ga_store.specs.CommitSteps.{Closes, Ends, Sets}
+use Rattle.ga_store.specs.Steps.Committing.{Closes, Ends, Sets}
 use Rattle.ga_store.specs.declared.fault.StoreFault.{StoreFault}
 
 pub writes-as : {v0 v1 : DiskView} {n n' at at' : ℕ} {tail tail' : List ℕ} {r : Result (Unit {0}) Failed} → n ≡ n' → at ≡ at' → tail ≡ tail' → Writes n at tail v0 v1 r

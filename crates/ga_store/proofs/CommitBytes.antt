@@ -7,8 +7,8 @@ use Rattle.std.proofs.lemmas.List.{append_assoc, drop_at, get_or-take, get_or-dr
 use Rattle.ga_disk.specs.Disk.{TornAt, written}
 use Rattle.ga_disk.proofs.Written.{written-before, written-behind}
 use Rattle.ga_store.specs.Commit.{Work, committed, must_close}
-use Rattle.ga_store.specs.CommitSteps.{SameFront, with_tail}
-use Rattle.ga_store.specs.Parts.{StandsAt, closed_gate, is_open_at, open_gate}
+use Rattle.ga_store.specs.Steps.Committing.{SameFront, with_tail}
+use Rattle.ga_store.specs.SideParts.{StandsAt, closed_gate, is_open_at, open_gate}
 use Rattle.ga_store.proofs.Torn.{closed-by-byte, closed-by-end, torn-front}
 
 pub torn-self : (at n : ℕ) (bytes : List ℕ) → TornAt at n bytes bytes

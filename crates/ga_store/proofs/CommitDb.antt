@@ -6,10 +6,10 @@ use Rattle.ga_disk.specs.Sides.{Sides, of_side, with_side}
 use Rattle.ga_store.specs.Commit.{Makes, Work, must_close}
 use Rattle.ga_store.specs.Commit.Makes.{by_generation, by_record}
 use Rattle.ga_store.specs.Commits.{HasEither, after_work}
-use Rattle.ga_store.specs.CommitSteps.{IsClosing, SameFront, after_byte, after_closing, after_tail, with_tail}
+use Rattle.ga_store.specs.Steps.Committing.{IsClosing, SameFront, after_byte, after_closing, after_tail, with_tail}
 use Rattle.ga_store.specs.Database.{DbOf, DbValue}
 use Rattle.ga_store.specs.Database.Reading.{stored}
-use Rattle.ga_store.specs.Parts.{StandsAt, closed_gate, is_open_at, open_gate, part_bytes}
+use Rattle.ga_store.specs.SideParts.{StandsAt, closed_gate, is_open_at, open_gate, part_bytes}
 use Rattle.ga_store.proofs.CommitBytes.{ClosedOff, closed-front, closed-off, closing, less-front, open-or-not, opened-byte, stands-torn, tail-front, tail-stands, then-front, torn-closing, torn-written, whole-work}
 use Rattle.ga_store.proofs.CommitDisk.{of-with, steps-over, with-of, with-with}
 use Rattle.ga_store.proofs.CommitPlan.{IsPlanned}

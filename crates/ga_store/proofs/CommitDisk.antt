@@ -1,13 +1,13 @@
 -- What each call of a commit leaves of the disk, and what that means for the database.
 use Rattle.std.proofs.Common.{◌≡◌, ℕ, ◌+◌, zero, suc, List, Option, Some, IfSome, refl, sym, ◌∙◌, ap, subst, arith}
-use Rattle.ga_ports.specs.Counts.{raised}
+use Rattle.ga_counters.specs.Counts.{raised}
 use Rattle.ga_disk.specs.Disk.{DiskView, Steps, TornAt, calls_once}
 use Rattle.ga_disk.specs.Images.{AddsNone, Elapses, Follows, HasSide, Images, OnlyImage}
 use Rattle.ga_disk.specs.Sides.{Sides, of_side, with_side}
 use Rattle.ga_disk.proofs.Only.{only-further, only-now, only-then, only-wider}
 use Rattle.ga_disk.specs.declared.disk_counts.DiskCounts.{DiskCounts}
 use Rattle.ga_store.specs.Commits.{Frames, Takes}
-use Rattle.ga_store.specs.CommitSteps.{Keeps}
+use Rattle.ga_store.specs.Steps.Committing.{Keeps}
 use Rattle.ga_store.proofs.CommitBytes.{torn-self}
 
 -- ---- sides by number

@@ -1,26 +1,26 @@
 -- How a commit ends, from what its steps did.
 use Rattle.std.proofs.Common.{◌≡◌, ◌⊎◌, ℕ, ◌+◌, ◌<◌, true, List, length, Option, Some, IfSome, Result, Ok, Err, sym, ◌∙◌, ap, subst, inl, inr}
-use Rattle.ga_ports.specs.Counts.{raised}
+use Rattle.ga_counters.specs.Counts.{raised}
 use Rattle.ga_disk.specs.Disk.{DiskView, Steps, TornAt}
 use Rattle.ga_disk.specs.Images.{Images, OnlyImage}
 use Rattle.ga_disk.specs.Sides.{Sides, of_side, with_side}
-use Rattle.ga_disk.specs.Stretch.{DiskWent}
-use Rattle.ga_disk.specs.Stretch.DiskWent.{disk_then}
-use Rattle.ga_disk.proofs.Stretches.{disk-stays}
+use Rattle.ga_disk.specs.Trace.{DiskTrace}
+use Rattle.ga_disk.specs.Trace.DiskTrace.{disk_then}
+use Rattle.ga_disk.proofs.Traces.{disk-stays}
 use Rattle.ga_store.specs.Commit.{IsLater, Makes, Work, closing_calls, tail_calls}
 use Rattle.ga_store.specs.Commits.{AllHave, Commits, CommitsFrom, HasEither, IsReady, after_work}
-use Rattle.ga_store.specs.CommitSteps.{Closes, Fills, IsClosing, Keeps, Leads, SameFront, Sets, Settles, Works, after_byte, after_closing, after_tail, with_tail}
+use Rattle.ga_store.specs.Steps.Committing.{Closes, Fills, IsClosing, Keeps, Leads, SameFront, Sets, Settles, Works, after_byte, after_closing, after_tail, with_tail}
 use Rattle.ga_store.specs.Database.{DbOf, DbValue}
 use Rattle.ga_store.specs.Database.Reading.{stored}
-use Rattle.ga_store.specs.Parts.{open_gate}
+use Rattle.ga_store.specs.SideParts.{open_gate}
 use Rattle.ga_store.specs.declared.fault.StoreFault.{StoreFault}
 use Rattle.ga_store.proofs.CommitBytes.{closing}
 use Rattle.ga_store.proofs.CommitDb.{closing-sides, either-opening, filling-sides, new-opened, not-old, off, old-closing, old-filled, old-filling, opening-sides, some-tail}
 use Rattle.ga_store.proofs.CommitDisk.{Clean, at-seen, clean-then, frames-then, takes-then, keeps-then, keeps-wider, of-with}
 use Rattle.ga_store.proofs.CommitPlan.{IsPlanned, is-later, planned}
 
--- one stretch that went well and another that failed
-pub works-then : {A : Type 0} {v0 v1 v2 : DiskView} {e : StoreFault} → DiskWent v0 v1 → Clean v0 v1 → Works {A = A} v1 v2 (Err e) → Works {A = A} v0 v2 (Err e)
+-- one trace that went well and another that failed
+pub works-then : {A : Type 0} {v0 v1 v2 : DiskView} {e : StoreFault} → DiskTrace v0 v1 → Clean v0 v1 → Works {A = A} v1 v2 (Err e) → Works {A = A} v0 v2 (Err e)
 works-then {A} {v0} {v1} {v2} {e} first clean second = record {
   no_fault = tt;
   fault = second.fault ∙ ap (λ (n : ℕ). raised n 1) clean.faults;

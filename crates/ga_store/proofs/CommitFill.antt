@@ -2,16 +2,16 @@
 use Rattle.std.proofs.Common.{◌≡◌, ℕ, ◌+◌, ◌<◌, ◌≤◌, Bool, true, false, List, [], ◌++◌, length, take, drop, Option, Some, None, IfSome, Result, Ok, Err, option_map, refl, sym, ◌∙◌, ap, subst, inl, arith, length-append, length-take}
 use Rattle.std.specs.Prelude.{if◌then◌else◌}
 use Rattle.std.proofs.lemmas.List.{append-nil, take_at}
-use Rattle.ga_ports.specs.declared.files.Failed.{Failed}
+use Rattle.ga_counters.specs.declared.failed.Failed.{Failed}
 use Rattle.ga_disk.specs.Disk.{CutAt, Cuts, DiskView, Steps, Syncs, TornAt, Writes, written}
 use Rattle.ga_disk.specs.Images.{HasSide, Images, LeavesSteps, LeavesSynced, OnlyImage}
 use Rattle.ga_disk.specs.Sides.{Sides, of_side, with_side}
-use Rattle.ga_disk.specs.Stretch.{DiskWent}
-use Rattle.ga_disk.specs.Stretch.DiskCall.{cut_call, sync_call, write_call}
-use Rattle.ga_disk.specs.Stretch.DiskWent.{disk_then, no_disk_call, one_disk_call}
+use Rattle.ga_disk.specs.Trace.{DiskTrace}
+use Rattle.ga_disk.specs.Trace.DiskCall.{cut_call, sync_call, write_call}
+use Rattle.ga_disk.specs.Trace.DiskTrace.{disk_then, no_disk_call, one_disk_call}
 use Rattle.ga_store.specs.Commit.{Work, tail_calls}
 use Rattle.ga_store.specs.Commits.{Takes}
-use Rattle.ga_store.specs.CommitSteps.{Ends, Fills, Keeps, SameFront, Settles, after_tail}
+use Rattle.ga_store.specs.Steps.Committing.{Ends, Fills, Keeps, SameFront, Settles, after_tail}
 use Rattle.ga_store.specs.declared.fault.StoreFault.{StoreFault}
 use Rattle.ga_store.specs.declared.fault.StoreFault.TheVariants.{DiskFault}
 use Rattle.ga_store.proofs.CommitBytes.{then-front}
@@ -137,7 +137,7 @@ module _ (w : Work) {v0 v1 : DiskView} {i0 i1 : Images} (law : Law i0) where
 
     module _ (ends : Ends w.side (w.gate + 1 + length w.tail) w.is_new v1 v2 i1 i2 (Ok tt))
         (reaches : IfSome v0.seen (λ s. w.gate + 1 ≤ length (of_side w.side s))) where
-      went : DiskWent v0 v2
+      went : DiskTrace v0 v2
       went = disk_then (one_disk_call (write_call writes)) ends.works.calls
 
       clean : Clean v0 v2

@@ -5,8 +5,9 @@ use Rattle.std.proofs.lemmas.Bool.Decides.{nat_tests}
 use Rattle.ga_base.specs.declared.counts.TheConstants.{LIMIT}
 use Rattle.ga_base.specs.declared.counts.Totals.{Totals}
 use Rattle.ga_summary.specs.Limits.{passes}
-use Rattle.ga_summary.specs.Rows.{SummaryValue}
-use Rattle.ga_summary.specs.Sound.{IsSummary, TotalsFit}
+use Rattle.ga_summary.specs.SummaryRows.{SummaryValue}
+use Rattle.ga_summary.specs.Sound.{IsSummary}
+use Rattle.ga_base.specs.Totals.{TotalsFit}
 use Rattle.ga_summary.specs.Sums.{IsMerged}
 use Rattle.ga_codec.specs.Values.{EntryValue}
 use Rattle.ga_store.specs.Commit.{IsWorkBy, IsWorkOf, Makes, MergesBy, Work, adds_record, after_run}

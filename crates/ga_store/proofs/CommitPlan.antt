@@ -1,20 +1,21 @@
 -- What the work of a commit means for the sides before it: which changes leave the old database, and which make the new one.
 use Rattle.std.proofs.Common.{◌≡◌, ◌⊎◌, ℕ, ◌+◌, ◌^◌, ◌<◌, ◌≤◌, Bool, true, false, List, [], ◌∷◌, length, Some, None, refl, sym, ◌∙◌, ap, subst, inl, inr, arith, length-append}
 use Rattle.ga_summary.specs.Limits.{passes}
-use Rattle.ga_summary.specs.Rows.{SummaryValue, totals_plus}
+use Rattle.ga_summary.specs.SummaryRows.{SummaryValue}
+use Rattle.ga_base.specs.Totals.{totals_plus}
 use Rattle.ga_summary.specs.Sums.{IsMerged}
 use Rattle.ga_codec.specs.Shapes.{SpellDelta, SpellSnapshot}
 use Rattle.ga_codec.specs.Values.{EntryValue, SnapshotValue}
 use Rattle.ga_disk.specs.Sides.{Sides, of_side, with_side}
 use Rattle.ga_store.specs.Commit.{IsGenerationOf, IsLater, IsRecordOf, Makes, Work, closed_part, other_side}
 use Rattle.ga_store.specs.Commit.Makes.{by_generation, by_record}
-use Rattle.ga_store.specs.CommitSteps.{SameFront}
+use Rattle.ga_store.specs.Steps.Committing.{SameFront}
 use Rattle.ga_store.specs.Database.{DbOf, DbValue, HasSnapshot, ReadsOn, TakesOn, YieldsTo, of_snapshot}
 use Rattle.ga_store.specs.Database.Reading.{stored}
 use Rattle.ga_store.specs.Database.ReadsOn.{ends, goes_on}
 use Rattle.ga_store.specs.Database.YieldsTo.{closed, older}
 use Rattle.ga_store.specs.Database.DbOf.{nothing, chosen0, chosen1}
-use Rattle.ga_store.specs.Parts.{StandsAt, closed_gate, is_open_at, part_bytes}
+use Rattle.ga_store.specs.SideParts.{StandsAt, closed_gate, is_open_at, part_bytes}
 use Rattle.ga_store.proofs.Fronts.{adds0, adds1, closes0, closes1, sides-stay, stays0, stays1}
 use Rattle.ga_store.proofs.OnePart.{one-snapshot}
 use Rattle.ga_store.proofs.Torn.{tail-gate, tail-part}

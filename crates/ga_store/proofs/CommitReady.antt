@@ -5,7 +5,7 @@ use Rattle.ga_disk.specs.Images.{Images}
 use Rattle.ga_disk.specs.Sides.{Sides, of_side}
 use Rattle.ga_store.specs.Commit.{Work, must_close}
 use Rattle.ga_store.specs.Commits.{IsReady}
-use Rattle.ga_store.specs.CommitSteps.{after_closing, after_tail, with_tail}
+use Rattle.ga_store.specs.Steps.Committing.{after_closing, after_tail, with_tail}
 use Rattle.ga_store.proofs.CommitBytes.{closed-off, closing, tail-front}
 use Rattle.ga_store.proofs.CommitDb.{closing-by}
 use Rattle.ga_store.proofs.CommitDisk.{of-with}

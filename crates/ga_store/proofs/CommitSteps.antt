@@ -3,18 +3,18 @@ use Rattle.std.proofs.Common.{◌≡◌, ℕ, ◌+◌, ◌<◌, ◌≤◌, ◌||
 use Rattle.std.specs.Prelude.{if◌then◌else◌}
 use Rattle.std.proofs.lemmas.Bool.Decides.{nat_tests}
 use Rattle.std.proofs.lemmas.List.{get_or-drop, get_or-take}
-use Rattle.ga_ports.specs.declared.files.Failed.{Failed}
+use Rattle.ga_counters.specs.declared.failed.Failed.{Failed}
 use Rattle.ga_disk.specs.Disk.{DiskView, Reads, Sizes, Steps, Syncs, TornAt, Writes, written}
 use Rattle.ga_disk.specs.Images.{HasSide, Images, LeavesSame, LeavesSteps, LeavesSynced, OnlyImage}
 use Rattle.ga_disk.specs.Sides.{Sides, of_side, with_side}
-use Rattle.ga_disk.specs.Stretch.{DiskWent}
-use Rattle.ga_disk.specs.Stretch.DiskCall.{read_call, size_call, sync_call, write_call}
-use Rattle.ga_disk.specs.Stretch.DiskWent.{disk_then, one_disk_call}
+use Rattle.ga_disk.specs.Trace.{DiskTrace}
+use Rattle.ga_disk.specs.Trace.DiskCall.{read_call, size_call, sync_call, write_call}
+use Rattle.ga_disk.specs.Trace.DiskTrace.{disk_then, one_disk_call}
 use Rattle.ga_disk.proofs.Only.{same-then}
 use Rattle.ga_store.specs.Commit.{closing_calls, look_calls, must_close}
 use Rattle.ga_store.specs.Commits.{Takes}
-use Rattle.ga_store.specs.CommitSteps.{Closes, IsClosing, Keeps, LooksAt, Sets, Settles, Works, after_byte, after_closing}
-use Rattle.ga_store.specs.Parts.{closed_gate, open_gate}
+use Rattle.ga_store.specs.Steps.Committing.{Closes, IsClosing, Keeps, LooksAt, Sets, Settles, Works, after_byte, after_closing}
+use Rattle.ga_store.specs.SideParts.{closed_gate, open_gate}
 use Rattle.ga_store.specs.declared.fault.StoreFault.{StoreFault}
 use Rattle.ga_store.specs.declared.fault.StoreFault.TheVariants.{DiskFault}
 use Rattle.ga_store.proofs.CommitDisk.{Clean, at-seen, clean-by, clean-then, frames-by, takes-then, keeps-first, keeps-less, keeps-start, keeps-then, keeps-wider, only-synced, steps-self}
@@ -43,7 +43,7 @@ works-sync-err {v0} {v1} syncs = record {
   calls = one_disk_call (sync_call syncs);
 }
 
-pub works-ok : {A : Type 0} {a : A} {v0 v1 : DiskView} → DiskWent v0 v1 → Clean v0 v1 → Works {A = A} v0 v1 (Ok a)
+pub works-ok : {A : Type 0} {a : A} {v0 v1 : DiskView} → DiskTrace v0 v1 → Clean v0 v1 → Works {A = A} v0 v1 (Ok a)
 works-ok went clean = record { no_fault = clean.faults; fault = tt; cause = tt; frames = clean.frames; calls = went }
 
 pub clean-write : {side at : ℕ} {piece : List ℕ} {v0 v1 : DiskView} → Writes {E = Failed} side at piece v0 v1 (Ok tt) → Clean v0 v1
@@ -237,7 +237,7 @@ module _ {side gate size : ℕ} {v0 v1 v2 : DiskView} {i0 i1 i2 : Images} (sizes
 
 -- ---- the closing of a gate
 
-works-on : {A : Type 0} {v0 v1 v2 : DiskView} (r : Result A StoreFault) → DiskWent v0 v1 → Clean v0 v1 → Works v1 v2 r → Works v0 v2 r
+works-on : {A : Type 0} {v0 v1 v2 : DiskView} (r : Result A StoreFault) → DiskTrace v0 v1 → Clean v0 v1 → Works v1 v2 r → Works v0 v2 r
 works-on (Ok a) went clean works = works-ok (disk_then went works.calls) (clean-then clean (clean-of works))
 works-on (Err e) went clean works = works-then went clean works
 

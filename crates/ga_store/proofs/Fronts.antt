@@ -6,8 +6,8 @@ use Rattle.sha2.specs.Sha256.{sha256}
 use Rattle.ga_codec.specs.Spelling.{eight_bytes}
 use Rattle.ga_codec.specs.Values.{SnapshotValue}
 use Rattle.ga_disk.specs.Sides.{Sides}
-use Rattle.ga_store.specs.CommitSteps.{SameFront}
-use Rattle.ga_store.specs.Parts.{IsPartAt, StandsAt, is_open_at, open_gate, part_bytes}
+use Rattle.ga_store.specs.Steps.Committing.{SameFront}
+use Rattle.ga_store.specs.SideParts.{IsPartAt, StandsAt, is_open_at, open_gate, part_bytes}
 use Rattle.ga_store.specs.Database.{DbOf, DbValue, HasSnapshot, ReadsOn, TakesOn}
 use Rattle.ga_store.specs.Database.Reading.{stored}
 use Rattle.ga_store.specs.Database.ReadsOn.{ends, goes_on}

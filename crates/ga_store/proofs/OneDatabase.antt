@@ -1,13 +1,13 @@
 -- Two sides say one thing.
 use Rattle.std.proofs.Common.{◌≡◌, ℕ, ◌+◌, ◌<◌, Bool, true, false, List, length, refl, sym, ap, ◌∙◌, subst, arith}
 use Rattle.std.proofs.lemmas.Bool.{true≢false}
-use Rattle.ga_summary.specs.Rows.{SummaryValue}
+use Rattle.ga_summary.specs.SummaryRows.{SummaryValue}
 use Rattle.ga_summary.specs.Sums.{IsMerged}
 use Rattle.ga_summary.proofs.Unique.{one_merged}
 use Rattle.ga_codec.specs.Shapes.{SpellDelta, SpellSnapshot}
 use Rattle.ga_codec.specs.Values.{DeltaValue, SnapshotValue}
 use Rattle.ga_disk.specs.Sides.{Sides}
-use Rattle.ga_store.specs.Parts.{part_bytes}
+use Rattle.ga_store.specs.SideParts.{part_bytes}
 use Rattle.ga_store.specs.Database.{DbOf, DbValue, HasSnapshot, IsWhole, LacksSnapshot, Reading, ReadsOn, TakesOn, YieldsTo, of_snapshot}
 use Rattle.ga_store.specs.Database.DbOf.{chosen0, chosen1, equal, lacks0, lacks1, nothing}
 use Rattle.ga_store.specs.Database.IsWhole.{unused, used}

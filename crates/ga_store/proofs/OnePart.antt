@@ -8,7 +8,7 @@ use Rattle.ga_codec.specs.Spelling.{eight_bytes}
 use Rattle.ga_codec.specs.Values.{SnapshotValue}
 use Rattle.ga_codec.proofs.OneValue.{one_snapshot_value}
 use Rattle.ga_codec.specs.Shapes.{SpellSnapshot}
-use Rattle.ga_store.specs.Parts.{IsPartAt, part_bytes}
+use Rattle.ga_store.specs.SideParts.{IsPartAt, part_bytes}
 use Rattle.ga_store.specs.Database.{HasSnapshot}
 
 part-size : (body : List ℕ) → 8 + length body ≤ length (part_bytes body)

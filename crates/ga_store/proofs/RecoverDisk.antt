@@ -4,18 +4,18 @@ use Rattle.std.proofs.Math.Seq.{take-add}
 use Rattle.std.proofs.lemmas.List.{take_all}
 use Rattle.std.proofs.lemmas.Slice.{take-put_mid}
 use borrow.Rule.Slice.PartMut.{put_mid}
-use Rattle.ga_ports.specs.Counts.{raised}
+use Rattle.ga_counters.specs.Counts.{raised}
 use Rattle.ga_disk.specs.Disk.{DiskView, calls_once, fails_once}
 use Rattle.ga_disk.specs.Images.{AddsNone, HasSide, Images, LeavesSame, LeavesSynced, OnlyImage}
 use Rattle.ga_disk.specs.Sides.{Sides, of_side}
-use Rattle.ga_disk.specs.Stretch.{DiskCall}
-use Rattle.ga_disk.specs.Stretch.DiskWent.{disk_then, no_disk_call, one_disk_call}
+use Rattle.ga_disk.specs.Trace.{DiskCall}
+use Rattle.ga_disk.specs.Trace.DiskTrace.{disk_then, no_disk_call, one_disk_call}
 use Rattle.ga_disk.specs.declared.disk_counts.DiskCounts.{DiskCounts}
 use Rattle.ga_disk.proofs.Only.{only-same, same-then}
 use Rattle.ga_store.specs.Database.{DbOf}
 use Rattle.ga_store.specs.Database.Reading.{damaged}
-use Rattle.ga_store.specs.Reading.{Answers, Fetches, InPieces, IsOutside, IsSide, Looks, is_disk_fault}
-use Rattle.ga_store.specs.Store.{ReadsOnce, Recovers}
+use Rattle.ga_store.specs.Steps.Recovery.{Answers, Fetches, IsOutside, IsSide}
+use Rattle.ga_store.specs.Store.{InPieces, Looks, ReadsOnce, Recovers, is_disk_fault}
 use Rattle.ga_store.specs.declared.db.Db.{Db}
 use Rattle.ga_store.specs.declared.fault.StoreFault.{StoreFault}
 use Rattle.ga_store.specs.declared.fault.StoreFault.TheVariants.{CounterFull, Damaged, DiskFault, NoMemory}

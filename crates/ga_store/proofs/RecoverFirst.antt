@@ -2,7 +2,7 @@
 use Rattle.std.proofs.Common.{◌≡◌, ℕ, true, List, subst}
 use Rattle.ga_codec.specs.Shapes.{SpellSnapshot}
 use Rattle.ga_codec.specs.Values.{SnapshotValue}
-use Rattle.ga_store.specs.Parts.{IsPartAt, is_open_at}
+use Rattle.ga_store.specs.SideParts.{IsPartAt, is_open_at}
 use Rattle.ga_store.specs.Database.{LacksSnapshot}
 use Rattle.ga_store.proofs.RecoverParts.{one-part}
 

@@ -6,7 +6,7 @@ use Rattle.std.proofs.lemmas.Nat.{be_bytes_8, from_be_bytes-to_be_bytes_8}
 use Rattle.std.specs.Int.{w64, from_be_bytes}
 use Rattle.sha2.specs.Sha256.{sha256}
 use Rattle.sha2.proofs.Facts256.{length-sha256}
-use Rattle.ga_store.specs.Parts.{IsPartAt, StandsAt, part_bytes}
+use Rattle.ga_store.specs.SideParts.{IsPartAt, StandsAt, part_bytes}
 use Rattle.ga_codec.specs.Spelling.{eight_bytes}
 
 -- the first of two rows of bytes stands there too

@@ -1,13 +1,13 @@
 -- What the steps of reading two sides say of both.
 use Rattle.std.proofs.Common.{◌≡◌, ℕ, ◌+◌, true, List, Option, Some, None, Result, Ok, Err}
 use Rattle.ga_disk.specs.Sides.{Sides}
-use Rattle.ga_store.specs.Parts.{is_open_at}
+use Rattle.ga_store.specs.SideParts.{is_open_at}
 use Rattle.ga_store.specs.Database.{DbOf, DbValue, IsWhole, Reading, ReadsOn}
 use Rattle.ga_store.specs.Database.DbOf.{lacks0, lacks1}
 use Rattle.ga_store.specs.Database.IsWhole.{unused, used}
 use Rattle.ga_store.specs.Database.Reading.{damaged}
 use Rattle.ga_store.specs.Database.ReadsOn.{breaks}
-use Rattle.ga_store.specs.Reading.{Answers, AnswersFirst, AnswersStep}
+use Rattle.ga_store.specs.Steps.Recovery.{Answers, AnswersFirst, AnswersStep}
 use Rattle.ga_store.specs.declared.db.Db.{Db}
 use Rattle.ga_store.specs.declared.fault.StoreFault.{StoreFault}
 use Rattle.ga_store.specs.declared.fault.StoreFault.TheVariants.{CounterFull, Damaged, DiskFault, NoMemory}

@@ -2,13 +2,13 @@
 use Rattle.std.proofs.Common.{◌≡◌, ℕ, ◌+◌, ◌<◌, true, List, Option, Some, None, refl, ap, ◌∙◌, subst, arith}
 use Rattle.ga_base.specs.declared.counts.Counter.{Counter}
 use Rattle.ga_summary.specs.Limits.{passes}
-use Rattle.ga_summary.specs.Rows.{totals_plus}
+use Rattle.ga_base.specs.Totals.{totals_plus}
 use Rattle.ga_summary.specs.Sums.{IsMerged}
 use Rattle.ga_codec.specs.Shapes.{SpellDelta}
 use Rattle.ga_codec.specs.Values.{DeltaValue}
-use Rattle.ga_store.specs.Parts.{IsPartAt, is_open_at}
+use Rattle.ga_store.specs.SideParts.{IsPartAt, is_open_at}
 use Rattle.ga_store.specs.Database.{DbValue, TakesOn}
-use Rattle.ga_store.specs.Reading.{HasRecord, LacksRecord}
+use Rattle.ga_store.specs.Steps.Recovery.{HasRecord, LacksRecord}
 use Rattle.ga_store.proofs.RecoverParts.{long-part, one-part}
 
 -- a row of bytes spells one run record

@@ -5,9 +5,9 @@ use Rattle.std.proofs.Math.Seq.{get_or-append_seam}
 use Rattle.std.proofs.lemmas.List.{take-take, take_at, get_or-take, get_or-drop}
 use Rattle.std.proofs.lemmas.Grind.{same_number_lists}
 use Rattle.ga_disk.specs.Disk.{TornAt, CutAt}
-use Rattle.ga_store.specs.Parts.{IsPartAt, StandsAt, is_open_at, open_gate, closed_gate, part_bytes}
+use Rattle.ga_store.specs.SideParts.{IsPartAt, StandsAt, is_open_at, open_gate, closed_gate, part_bytes}
 use Rattle.ga_store.specs.Commit.{closed_part}
-use Rattle.ga_store.specs.CommitSteps.{SameFront}
+use Rattle.ga_store.specs.Steps.Committing.{SameFront}
 
 -- two rows that agree in front of a place
 front-by : (n : ℕ) (old new : List ℕ) → n ≤ length old → n ≤ length new → ((i : ℕ) → i < n → get_or new i 0 ≡ get_or old i 0) → SameFront n old new

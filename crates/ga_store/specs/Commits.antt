@@ -1,10 +1,10 @@
 -- What a commit says of the disk before and after it.
 use Rattle.std.specs.Prelude.{◌≡◌, ◌⊎◌, ℕ, true, Some, Result, OnOk, OnErr, IfErr}
-use Rattle.ga_ports.specs.Counts.{raised}
+use Rattle.ga_counters.specs.Counts.{raised}
 use Rattle.ga_disk.specs.Disk.{DiskView}
 use Rattle.ga_disk.specs.Images.{Images, LeavesOnly, OnlyImage}
 use Rattle.ga_disk.specs.Sides.{Sides, of_side, with_side}
-use Rattle.ga_disk.specs.Stretch.{DiskWent}
+use Rattle.ga_disk.specs.Trace.{DiskTrace}
 use Rattle.ga_store.specs.Commit.{IsLater, Makes, Work, commit_calls, committed}
 use Rattle.ga_store.specs.Database.{DbOf, DbValue}
 use Rattle.ga_store.specs.Database.Reading.{stored}
@@ -68,4 +68,4 @@ pub record Commits (work : Work) (disk disk' : DiskView) (images images' : Image
   pub fault : OnErr result (disk'.counts.faults ≡ raised disk.counts.faults 1)
   pub cause : IfErr result (λ fault. fault ≡ DiskFault)
   pub frames : Frames disk disk'
-  pub calls : DiskWent disk disk'
+  pub calls : DiskTrace disk disk'

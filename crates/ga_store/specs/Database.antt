@@ -1,12 +1,13 @@
 -- The database of two sides.
 use Rattle.std.specs.Prelude.{◌≡◌, ℕ, ◌+◌, ◌<◌, true, false, List, [], length, Option, Some, None}
 use Rattle.ga_summary.specs.Limits.{passes}
-use Rattle.ga_summary.specs.Rows.{SummaryValue, totals_plus}
+use Rattle.ga_summary.specs.SummaryRows.{SummaryValue}
+use Rattle.ga_base.specs.Totals.{totals_plus}
 use Rattle.ga_summary.specs.Sums.{IsMerged}
 use Rattle.ga_codec.specs.Shapes.{SpellDelta, SpellSnapshot}
 use Rattle.ga_codec.specs.Values.{DeltaValue, EntryValue, SnapshotValue}
 use Rattle.ga_disk.specs.Sides.{Sides}
-use Rattle.ga_store.specs.Parts.{IsPartAt, is_open_at, part_bytes}
+use Rattle.ga_store.specs.SideParts.{IsPartAt, is_open_at, part_bytes}
 
 pub record DbValue : Type 0 where
   pub summary : SummaryValue

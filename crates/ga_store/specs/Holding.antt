@@ -1,10 +1,10 @@
--- That a disk holds a database.
-use Rattle.std.specs.Prelude.{◌≡◌, ◌≤◌, length, IfSome}
+-- That a disk holds a database, or has damage.
+use Rattle.std.specs.Prelude.{◌≡◌, ℕ, ◌≤◌, length, IfSome}
 use Rattle.ga_disk.specs.Disk.{DiskView, max_size}
 use Rattle.ga_disk.specs.Images.{Images, OnlyImage}
 use Rattle.ga_disk.specs.Sides.{Sides}
 use Rattle.ga_store.specs.Database.{DbOf, DbValue}
-use Rattle.ga_store.specs.Database.Reading.{stored}
+use Rattle.ga_store.specs.Database.Reading.{damaged, stored}
 
 -- the disk as it reads has this database, and is its one image
 pub record Holds (disk : DiskView) (images : Images) (db : DbValue) : Type 0 where
@@ -15,3 +15,10 @@ pub record Holds (disk : DiskView) (images : Images) (db : DbValue) : Type 0 whe
   pub size0 : length sides.side0 ≤ max_size
   pub size1 : length sides.side1 ≤ max_size
   pub has : DbOf sides (stored db)
+
+-- the disk as it reads has this damage
+pub record IsDamaged (disk : DiskView) (side at : ℕ) : Type 0 where
+  -- the bytes of the sides, also where the disk doesn't tell them
+  pub sides : Sides
+  pub told : IfSome disk.seen (λ seen. seen ≡ sides)
+  pub has : DbOf sides (damaged side at)

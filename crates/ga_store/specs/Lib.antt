@@ -1,9 +1,8 @@
 -- The database on the two sides of a disk, and what recovery and a commit do with it.
-pub mod Parts
+pub mod SideParts
 pub mod Database
 pub mod Commit
 pub mod Holding
-pub mod Reading
 pub mod Store
 pub mod Commits
-pub mod CommitSteps
+pub mod Steps

@@ -1,9 +1,9 @@
 ghost use Rattle.std.specs.Prelude.{◌+◌, ◌<◌, ◌≤◌, ◌^◌, length, IsTrue};
 ghost use Rattle.ga_disk.specs.Disk.{Reaches, max_size};
 ghost use Rattle.ga_store.specs.Commits.{Commits, IsReady};
-ghost use Rattle.ga_store.specs.CommitSteps.{Closes, Ends, Fills, LooksAt, Sets};
+ghost use Rattle.ga_store.specs.Steps.Committing.{Closes, Ends, Fills, LooksAt, Sets};
 
-use crate::parts::OPEN;
+use crate::side_parts::OPEN;
 use crate::{Prepared, StoreFault};
 use ga_disk::Disk;
 

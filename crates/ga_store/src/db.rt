@@ -1,12 +1,12 @@
 ghost use Rattle.std.specs.Prelude.{◌≡◌, ◌↔◌, ◌+◌, ◌<◌, ℕ, Some, IsErrOf, OnErr, OnOk};
 ghost use Rattle.ga_base.specs.declared.counts.Counter.{Counter};
 ghost use Rattle.ga_summary.specs.Limits.{passes};
-ghost use Rattle.ga_summary.specs.Rows.{totals_plus};
+ghost use Rattle.ga_base.specs.Totals.{totals_plus};
 ghost use Rattle.ga_summary.specs.Sums.{IsMerged};
 ghost use Rattle.ga_summary.specs.declared.fault.MergeFault.{MergeFault};
 ghost use Rattle.ga_codec.specs.Values.{delta_value, snapshot_value};
 ghost use Rattle.ga_store.specs.Database.{empty_db, of_snapshot};
-ghost use Rattle.ga_store.specs.Reading.{db_value};
+ghost use Rattle.ga_store.specs.Store.{db_value};
 
 use crate::found::{FirstPart, RecordPart};
 use ga_base::Entries;

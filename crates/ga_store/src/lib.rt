@@ -11,10 +11,10 @@ mod fault;
 mod found;
 pub mod laws;
 mod mode;
-mod parts;
 mod prepared;
-mod reading;
 mod recovery;
+mod side_parts;
+mod side_reading;
 
 pub use committing::commit;
 pub use db::Db;
@@ -22,8 +22,3 @@ pub use fault::StoreFault;
 pub use mode::Mode;
 pub use prepared::{Prepared, prepare};
 pub use recovery::recover;
-
-#[cfg(test)]
-mod commit_tests;
-#[cfg(test)]
-mod tests;

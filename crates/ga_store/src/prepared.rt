@@ -4,9 +4,9 @@ ghost use Rattle.ga_base.specs.declared.counts.Counter.TheVariants.{Generations}
 ghost use Rattle.ga_summary.specs.Sound.{IsSummary};
 ghost use Rattle.ga_codec.specs.Values.{entry_value};
 ghost use Rattle.ga_store.specs.Commit.{IsGenerationOf, IsRecordOf, IsWorkOf, Makes, MergesBy, after_run, closed_part, other_side, passes_generations};
-ghost use Rattle.ga_store.specs.Reading.{db_value};
+ghost use Rattle.ga_store.specs.Store.{db_value};
 
-use crate::parts::FRAME;
+use crate::side_parts::FRAME;
 use crate::{Db, Mode, StoreFault};
 use ga_base::{Bytes, Counter, Entries, LIMIT, NoMemory};
 use ga_codec::{Delta, Snapshot, write_delta, write_snapshot};
@@ -59,7 +59,7 @@ pub fn prepare(
         ↔ (passes_generations mode (db_value db.now) ≡ true) }
     ensures causes { IfErr result (λ fault. (fault ≡ StoreFault.NoMemory) ⊎ (fault ≡ StoreFault.CounterFull Generations (LIMIT + 1))) }
 {
-    sound(merged);
+    summary_is_sound(merged);
     work_of(alloc, db, run, merged, entries, mode)
 }
 
@@ -86,7 +86,7 @@ fn work_of(
 }
 
 /// Each summary is sound.
-fn sound(summary: &Summary)
+fn summary_is_sound(summary: &Summary)
     ensures { IsSummary summary.now }
 {
     summary.totals();

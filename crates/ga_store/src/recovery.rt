@@ -1,13 +1,13 @@
 ghost use Rattle.std.specs.Prelude.{◌≡◌, ◌≤◌, ◌<◌, length, IfOk, IfErr, IfSome, OnOk, OnErr, IsTrue};
-ghost use Rattle.ga_ports.specs.Counts.{raised};
+ghost use Rattle.ga_counters.specs.Counts.{raised};
 ghost use Rattle.ga_disk.specs.Disk.{max_size};
 ghost use Rattle.ga_disk.specs.Images.{OnlyImage};
 ghost use Rattle.ga_disk.specs.Sides.{of_side};
-ghost use Rattle.ga_store.specs.Store.{Recovers};
-ghost use Rattle.ga_store.specs.Reading.{Fetches, IsOutside, IsSide, Looks, is_disk_fault};
+ghost use Rattle.ga_store.specs.Store.{Looks, Recovers, is_disk_fault};
+ghost use Rattle.ga_store.specs.Steps.Recovery.{Fetches, IsOutside, IsSide};
 ghost use Rattle.ga_store.specs.declared.fault.StoreFault.TheVariants.{DiskFault};
 
-use crate::reading::read_sides;
+use crate::side_reading::read_sides;
 use crate::{Db, StoreFault};
 use ga_disk::Disk;
 use std::alloc::Global;

@@ -10,7 +10,8 @@ use Rattle.ga_base.specs.declared.key.Visitor.{Visitor}
 use Rattle.ga_base.specs.declared.counts.Sums.{Sums}
 use Rattle.ga_base.specs.declared.counts.Totals.{Totals}
 use Rattle.ga_summary.specs.Outcomes.{Hit, Outcome, Failed, Excluded, Counted, hits_of, hits_at, has_key, is_by, is_failed, is_excluded, greatest_time, sums_of, has_visit, totals_of}
-use Rattle.ga_summary.specs.Rows.{SummaryValue, sums_plus, totals_plus}
+use Rattle.ga_summary.specs.SummaryRows.{SummaryValue, sums_plus}
+use Rattle.ga_base.specs.Totals.{totals_plus}
 use Rattle.ga_summary.specs.Sums.{IsSumOf, IsMerged}
 use Rattle.ga_summary.proofs.Lines.{same_totals}
 use Rattle.ga_summary.proofs.Merging.{same_sums}

@@ -12,7 +12,7 @@ use Rattle.ga_base.specs.declared.panel.Panel.{Panel}
 use Rattle.ga_base.specs.declared.panel.Panel.TheVariants.{Visitors}
 use Rattle.ga_summary.specs.declared.entry.Entry.{Entry}
 use Rattle.ga_base.specs.Orders.{name_cmp, is_same_key}
-use Rattle.ga_summary.specs.Rows.{Row, SummaryValue, IsInOrder, row_at, sums_at, no_sums}
+use Rattle.ga_summary.specs.SummaryRows.{SummaryRow, SummaryValue, IsInOrder, row_at, sums_at, no_sums}
 use Rattle.ga_summary.specs.Steps.Entries.{AllClosed, IsClosed, entry_names, rows_of, row_of}
 use Rattle.ga_summary.specs.Steps.Room.{entry_at, HasRoom, HasPlace, AllHaveRoom, AllHavePlace}
 use Rattle.ga_summary.specs.Sound.{IsSound}
@@ -37,27 +37,27 @@ is_flag-itself true = refl
 is_flag-itself false = refl
 
 -- one of the rows that pass a test has at most what they have together
-part_of_sum : (f : Row → ℕ) (test : Row → Bool) (rows : List Row) (row : Row) → Contains rows row → test row ≡ true → f row ≤ sum_by f (filter test rows)
+part_of_sum : (f : SummaryRow → ℕ) (test : SummaryRow → Bool) (rows : List SummaryRow) (row : SummaryRow) → Contains rows row → test row ≡ true → f row ≤ sum_by f (filter test rows)
 part_of_sum f test rows row at pass = rw (sum_by-filter f test rows) (go rows at.0 at.1 at.2)
   where
-    go : (rows : List Row) (k : ℕ) → k < length rows → get_or rows k row ≡ row → f row ≤ sum_by (λ r. cond (test r) (f r) 0) rows
+    go : (rows : List SummaryRow) (k : ℕ) → k < length rows → get_or rows k row ≡ row → f row ≤ sum_by (λ r. cond (test r) (f r) 0) rows
     go [] k lt e = absurd (omega arith)
     go (x ∷ rows) zero lt e =
-        let w = λ (r : Row). cond (test r) (f r) 0 in
+        let w = λ (r : SummaryRow). cond (test r) (f r) 0 in
         let here : cond (test x) (f x) 0 ≡ f row = rw (e, pass) in
         omega (arith, sum_by-cons w x rows)
     go (x ∷ rows) (suc k) lt e =
-        let w = λ (r : Row). cond (test r) (f r) 0 in
+        let w = λ (r : SummaryRow). cond (test r) (f r) 0 in
         omega (arith, sum_by-cons w x rows, go rows k (omega arith) e)
 
 -- so has the one that is found at a key that passes
-found_of_sum : (f : Row → ℕ) (test : Key → Bool) (rows : List Row) (key : Key) → test key ≡ true → option_map_or f (row_at rows key) 0 ≤ sum_by f (filter (λ row. test row.key) rows)
+found_of_sum : (f : SummaryRow → ℕ) (test : Key → Bool) (rows : List SummaryRow) (key : Key) → test key ≡ true → option_map_or f (row_at rows key) 0 ≤ sum_by f (filter (λ row. test row.key) rows)
 found_of_sum f test rows key pass = rw (sum_by-filter f (λ row. test row.key) rows) (go rows)
   where
-    go : (rows : List Row) → option_map_or f (row_at rows key) 0 ≤ sum_by (λ row. cond (test row.key) (f row) 0) rows
+    go : (rows : List SummaryRow) → option_map_or f (row_at rows key) 0 ≤ sum_by (λ row. cond (test row.key) (f row) 0) rows
     go [] = omega arith
     go (x ∷ rows) =
-        let w = λ (row : Row). cond (test row.key) (f row) 0 in
+        let w = λ (row : SummaryRow). cond (test row.key) (f row) 0 in
         let rest = go rows in
         elim (is_same_key key x.key) as (λ v. is_same_key key x.key ≡ v → option_map_or f (cond v (Some x) (row_at rows key)) 0 ≤ sum_by w (x ∷ rows)) [
           | true ↦ λ same.
@@ -73,41 +73,41 @@ module _ (s : SummaryValue) (sound : IsSound s) where
   day_small date =
       let pass : is_same_panel (day_key date).panel Visitors ≡ true = is_same_panel-itself Visitors in
       let test = λ (key : Key). is_same_panel key.panel Visitors in
-      let hits = found_of_sum (λ (row : Row). row.sums.hits) test s.rows (day_key date) pass in
-      let bytes = found_of_sum (λ (row : Row). row.sums.bytes) test s.rows (day_key date) pass in
-      let micros = found_of_sum (λ (row : Row). row.sums.micros) test s.rows (day_key date) pass in
+      let hits = found_of_sum (λ (row : SummaryRow). row.sums.hits) test s.rows (day_key date) pass in
+      let bytes = found_of_sum (λ (row : SummaryRow). row.sums.bytes) test s.rows (day_key date) pass in
+      let micros = found_of_sum (λ (row : SummaryRow). row.sums.micros) test s.rows (day_key date) pass in
       small (row_at s.rows (day_key date)) (omega (arith, hits, sound.totals.days.hits, sound.totals.lines, sound.totals.fit.lines)) (omega (arith, bytes, sound.totals.days.bytes, sound.totals.fit.bytes)) (omega (arith, micros, sound.totals.days.micros, sound.totals.fit.micros))
     where
-      small : (o : Option Row) → option_map_or (λ (row : Row). row.sums.hits) o 0 ≤ LIMIT → option_map_or (λ (row : Row). row.sums.bytes) o 0 ≤ LIMIT → option_map_or (λ (row : Row). row.sums.micros) o 0 ≤ LIMIT → AreSmall (option_map_or (λ (row : Row). row.sums) o no_sums)
+      small : (o : Option SummaryRow) → option_map_or (λ (row : SummaryRow). row.sums.hits) o 0 ≤ LIMIT → option_map_or (λ (row : SummaryRow). row.sums.bytes) o 0 ≤ LIMIT → option_map_or (λ (row : SummaryRow). row.sums.micros) o 0 ≤ LIMIT → AreSmall (option_map_or (λ (row : SummaryRow). row.sums) o no_sums)
       small None h b m = record { hits = h; bytes = b; micros = m }
       small (Some row) h b m = record { hits = h; bytes = b; micros = m }
 
-  row_small : (row : Row) → Contains s.rows row → AreSmall row.sums
+  row_small : (row : SummaryRow) → Contains s.rows row → AreSmall row.sums
   row_small row at =
       let layer : Layer = record { panel = row.key.panel; groups = is_empty row.key.label } in
-      let test = λ (r : Row). (r.key.date == row.key.date) && in_layer layer r.key in
+      let test = λ (r : SummaryRow). (r.key.date == row.key.date) && in_layer layer r.key in
       let pass : test row ≡ true = rw (eq-eqb row.key.date row.key.date refl, is_same_panel-itself row.key.panel) (is_flag-itself (is_empty row.key.label)) in
       let day = day_small row.key.date in
       let within = sound.rows.layers layer row.key.date in
       record {
-        hits = omega (arith, part_of_sum (λ (r : Row). r.sums.hits) test s.rows row at pass, within.hits, day.hits);
-        bytes = omega (arith, part_of_sum (λ (r : Row). r.sums.bytes) test s.rows row at pass, within.bytes, day.bytes);
-        micros = omega (arith, part_of_sum (λ (r : Row). r.sums.micros) test s.rows row at pass, within.micros, day.micros);
+        hits = omega (arith, part_of_sum (λ (r : SummaryRow). r.sums.hits) test s.rows row at pass, within.hits, day.hits);
+        bytes = omega (arith, part_of_sum (λ (r : SummaryRow). r.sums.bytes) test s.rows row at pass, within.bytes, day.bytes);
+        micros = omega (arith, part_of_sum (λ (r : SummaryRow). r.sums.micros) test s.rows row at pass, within.micros, day.micros);
       }
 
   pub rows_small : All (λ row. AreSmall row.sums) s.rows
   rows_small = All-weaker (Contains s.rows) (λ row. AreSmall row.sums) row_small s.rows (All-contains_itself s.rows)
 
-module _ {A : Type 0} (entries : List (Box Entry A)) (ordered : IsInOrder (rows_of entries)) (small : All (λ (row : Row). AreSmall row.sums) (rows_of entries)) where
+module _ {A : Type 0} (entries : List (Box Entry A)) (ordered : IsInOrder (rows_of entries)) (small : All (λ (row : SummaryRow). AreSmall row.sums) (rows_of entries)) where
   row_at-entry : (key : Key) (boxed : Box Entry A) → entry_at entries key ≡ Some boxed → row_at (rows_of entries) key ≡ Some (row_of boxed.value)
-  row_at-entry key boxed found = find-map (λ (row : Row). is_same_key key row.key) (λ (b : Box Entry A). row_of b.value) entries ∙ ap (option_map (λ (b : Box Entry A). row_of b.value)) found
+  row_at-entry key boxed found = find-map (λ (row : SummaryRow). is_same_key key row.key) (λ (b : Box Entry A). row_of b.value) entries ∙ ap (option_map (λ (b : Box Entry A). row_of b.value)) found
 
   place_from_room : (more : Entry) → AreSmall more.sums → IsStrictlySortedBy name_cmp (entry_names more) → IsClosed more → HasRoom entries more → HasPlace entries more
   place_from_room more more_small more_rises closed room boxed found =
       let row = row_at-entry more.key boxed found in
-      let here = all-row_at (λ (r : Row). AreSmall r.sums) (rows_of entries) more.key (row_of boxed.value) small row in
+      let here = all-row_at (λ (r : SummaryRow). AreSmall r.sums) (rows_of entries) more.key (row_of boxed.value) small row in
       record {
-        rising = all-row_at (λ (r : Row). IsStrictlySortedBy name_cmp r.names) (rows_of entries) more.key (row_of boxed.value) ordered.names row;
+        rising = all-row_at (λ (r : SummaryRow). IsStrictlySortedBy name_cmp r.names) (rows_of entries) more.key (row_of boxed.value) ordered.names row;
         rising_more = rw closed at more_rises;
         closed_more = closed;
         room = room boxed found;
@@ -119,9 +119,9 @@ module _ {A : Type 0} (entries : List (Box Entry A)) (ordered : IsInOrder (rows_
       }
 
   -- where there is room for all names, all entries have their places
-  pub places_from_room : (more : List (Box Entry A)) → All (λ (row : Row). AreSmall row.sums) (rows_of more) → All (λ (row : Row). IsStrictlySortedBy name_cmp row.names) (rows_of more) → AllClosed more → AllHaveRoom entries more → AllHavePlace entries more
+  pub places_from_room : (more : List (Box Entry A)) → All (λ (row : SummaryRow). AreSmall row.sums) (rows_of more) → All (λ (row : SummaryRow). IsStrictlySortedBy name_cmp row.names) (rows_of more) → AllClosed more → AllHaveRoom entries more → AllHavePlace entries more
   places_from_room more more_small more_rise closed room = go more (recursion_from_All _ (rows_of more) more_small) (recursion_from_All _ (rows_of more) more_rise) (recursion_from_All (λ (b : Box Entry A). IsClosed b.value) more closed) (recursion_from_All (λ (b : Box Entry A). HasRoom entries b.value) more room)
     where
-      go : (more : List (Box Entry A)) → AllByRecursion (λ (row : Row). AreSmall row.sums) (rows_of more) → AllByRecursion (λ (row : Row). IsStrictlySortedBy name_cmp row.names) (rows_of more) → AllByRecursion (λ (b : Box Entry A). IsClosed b.value) more → AllByRecursion (λ (b : Box Entry A). HasRoom entries b.value) more → AllHavePlace entries more
+      go : (more : List (Box Entry A)) → AllByRecursion (λ (row : SummaryRow). AreSmall row.sums) (rows_of more) → AllByRecursion (λ (row : SummaryRow). IsStrictlySortedBy name_cmp row.names) (rows_of more) → AllByRecursion (λ (b : Box Entry A). IsClosed b.value) more → AllByRecursion (λ (b : Box Entry A). HasRoom entries b.value) more → AllHavePlace entries more
       go [] p r c q = tt
       go (boxed ∷ more) p r c q = (place_from_room boxed.value p.0 r.0 c.0 q.0, go more p.1 r.1 c.1 q.1)

@@ -9,7 +9,7 @@ use Rattle.ga_base.specs.declared.key.Key.{Key}
 use Rattle.ga_base.specs.Orders.{key_cmp, is_same_key}
 use Rattle.ga_base.proofs.OrderLemmas.{key_cmp_total}
 use Rattle.ga_summary.specs.declared.entry.Entry.{Entry}
-use Rattle.ga_summary.specs.Rows.{Row}
+use Rattle.ga_summary.specs.SummaryRows.{SummaryRow}
 use Rattle.ga_summary.specs.Steps.Entries.{AllClosed, IsClosed, entry_names, row_of, rows_of}
 use Rattle.ga_summary.specs.Steps.Places.{Rises}
 use Rattle.ga_summary.specs.Steps.Room.{IsClosedAt, OpenAmong, entry_at}
@@ -72,14 +72,14 @@ set_more P (x ∷ xs) (suc i) y lt p before zero d l = before 0 d (omega arith)
 set_more P (x ∷ xs) (suc i) y lt p before (suc j) d l = set_more P xs i y (omega arith) p (λ k e less. before (suc k) e (omega arith)) j d (omega arith)
 
 abbrev pub EntriesRise : {A : Type 0} → List (Box Entry A) → Type 0
-EntriesRise entries = Rises key_cmp (λ (row : Row). row.key) (rows_of entries)
+EntriesRise entries = Rises key_cmp (λ (row : SummaryRow). row.key) (rows_of entries)
 
 module _ {A : Type 0} where
   -- an entry with the same row at the place of another
   pub rows_kept : (entries : List (Box Entry A)) (i : ℕ) (b : Box Entry A) (entry : Entry) → i < length entries → row_of entry ≡ row_of (get_or entries i b).value → rows_of (set entries i (with_value (get_or entries i b) entry)) ≡ rows_of entries
   rows_kept [] i b entry lt row = absurd (omega arith)
-  rows_kept (x ∷ xs) zero b entry lt row = ap (λ (r : Row). r ∷ rows_of xs) row
-  rows_kept (x ∷ xs) (suc i) b entry lt row = ap (λ (l : List Row). row_of x.value ∷ l) (rows_kept xs i b entry (omega arith) row)
+  rows_kept (x ∷ xs) zero b entry lt row = ap (λ (r : SummaryRow). r ∷ rows_of xs) row
+  rows_kept (x ∷ xs) (suc i) b entry lt row = ap (λ (l : List SummaryRow). row_of x.value ∷ l) (rows_kept xs i b entry (omega arith) row)
 
   pub open_to_none : (entries more : List (Box Entry A)) (n : ℕ) → n ≡ length more → n ≡ 0 → OpenAmong entries more → OpenAmong entries []
   open_to_none entries [] n len none opened = opened
@@ -92,18 +92,18 @@ module _ {A : Type 0} where
   open_from_closed entries more closed key none = closed_at entries closed key
 
   -- a key below all entries' has none of them
-  missing_above : (key : Key) (entries : List (Box Entry A)) → Above key_cmp (λ (row : Row). row.key) key (rows_of entries) → entry_at entries key ≡ None
-  missing_above key entries above = none_unmapped (λ (row : Row). is_same_key key row.key) (λ (b : Box Entry A). row_of b.value) entries (find_above key_cmp key_cmp_total (λ (row : Row). row.key) key (rows_of entries) above)
+  missing_above : (key : Key) (entries : List (Box Entry A)) → Above key_cmp (λ (row : SummaryRow). row.key) key (rows_of entries) → entry_at entries key ≡ None
+  missing_above key entries above = none_unmapped (λ (row : SummaryRow). is_same_key key row.key) (λ (b : Box Entry A). row_of b.value) entries (find_above key_cmp key_cmp_total (λ (row : SummaryRow). row.key) key (rows_of entries) above)
 
   module _ (a : Box Entry A) (ls : List (Box Entry A)) (rising : EntriesRise (a ∷ ls)) where
-    above : Above key_cmp (λ (row : Row). row.key) a.value.key (rows_of ls)
-    above = rises_head key_cmp (λ (row : Row). row.key) (row_of a.value) (rows_of ls) rising
+    above : Above key_cmp (λ (row : SummaryRow). row.key) a.value.key (rows_of ls)
+    above = rises_head key_cmp (λ (row : SummaryRow). row.key) (row_of a.value) (rows_of ls) rising
 
     missing_same : (key : Key) → key_cmp key a.value.key ≡ Equal → entry_at ls key ≡ None
-    missing_same key same = missing_above key ls (above_same key_cmp key_cmp_total (λ (row : Row). row.key) key a.value.key (rows_of ls) same above)
+    missing_same key same = missing_above key ls (above_same key_cmp key_cmp_total (λ (row : SummaryRow). row.key) key a.value.key (rows_of ls) same above)
 
     missing_below : (key : Key) → key_cmp key a.value.key ≡ Less → entry_at (a ∷ ls) key ≡ None
-    missing_below key less = missing_above key (a ∷ ls) (less, above_more key_cmp key_cmp_total (λ (row : Row). row.key) key a.value.key (rows_of ls) less above)
+    missing_below key less = missing_above key (a ∷ ls) (less, above_more key_cmp key_cmp_total (λ (row : SummaryRow). row.key) key a.value.key (rows_of ls) less above)
 
     -- what is found among the others has another key
     found_apart : (key : Key) (x : Box Entry A) → entry_at ls key ≡ Some x → is_same_key key a.value.key ≡ false
@@ -127,7 +127,7 @@ module _ {A : Type 0} where
     where
       go : (entries : List (Box Entry A)) → EntriesRise entries → OpenAmong entries [] → AllByRecursion (λ (b : Box Entry A). IsClosed b.value) entries
       go [] rising opened = tt
-      go (a ∷ ls) rising opened = (closed_first a ls (opened a.value.key refl), go ls (rises_tail key_cmp (λ (row : Row). row.key) (row_of a.value) (rows_of ls) rising) (open_rest a ls rising [] opened))
+      go (a ∷ ls) rising opened = (closed_first a ls (opened a.value.key refl), go ls (rises_tail key_cmp (λ (row : SummaryRow). row.key) (row_of a.value) (rows_of ls) rising) (open_rest a ls rising [] opened))
 
   -- the first entry is closed where no more will come to it
   pub first_closed : (a : Box Entry A) (ls : List (Box Entry A)) → OpenAmong (a ∷ ls) [] → IsClosed a.value

@@ -13,9 +13,9 @@ use Rattle.ga_base.specs.Layers.{HasForm, day_key}
 use Rattle.ga_base.specs.Orders.{key_cmp}
 use Rattle.ga_base.specs.Panels.{panel_number}
 use Rattle.ga_base.proofs.OrderLemmas.{key_cmp_total, panel_number_exact}
-use Rattle.ga_summary.specs.declared.parts.PartRow.{PartRow}
-use Rattle.ga_summary.specs.Parts.{row_of_part, rows_in}
-use Rattle.ga_summary.specs.Rows.{Row, row_at}
+use Rattle.ga_summary.specs.declared.summary_parts.PartRow.{PartRow}
+use Rattle.ga_summary.specs.SummaryParts.{row_of_part, rows_in}
+use Rattle.ga_summary.specs.SummaryRows.{SummaryRow, row_at}
 use Rattle.ga_summary.specs.Steps.Passing.{day_cmp}
 use Rattle.ga_summary.specs.Steps.Places.{StandsAt, GoesTo}
 use Rattle.ga_summary.proofs.Put.{searched_map, find_stands, find_goes, read_map, get_or-map_at}
@@ -52,20 +52,20 @@ day_cmp_is key date form =
     let is : key ≡ day_key date = day_key_is key form visitors ∙ ap day_key (exact_unsigned key.date date day) in
     ap (λ (k : Key). key_cmp k (day_key date)) is ∙ tied_itself key_cmp_total (day_key date))
 
-module _ (rows : List PartRow) (date : ℕ) (rising : KeysRise (rows_in rows)) (formed : All (λ (row : Row). HasForm row.key) (rows_in rows)) where
+module _ (rows : List PartRow) (date : ℕ) (rising : KeysRise (rows_in rows)) (formed : All (λ (row : SummaryRow). HasForm row.key) (rows_in rows)) where
   pub day_searched : (r : Result ℕ ℕ) → IsSearchInRange r (length rows) → IsBinarySearchResult (λ (row : PartRow). day_cmp row.key date) rows r
-      → MatchResult r (StandsAt key_cmp (λ (row : Row). row.key) (day_key date) (rows_in rows)) (GoesTo key_cmp (λ (row : Row). row.key) (day_key date) (rows_in rows))
+      → MatchResult r (StandsAt key_cmp (λ (row : SummaryRow). row.key) (day_key date) (rows_in rows)) (GoesTo key_cmp (λ (row : SummaryRow). row.key) (day_key date) (rows_in rows))
   day_searched r within found =
       let same = λ (k : ℕ) (d : PartRow) (lt : k < length rows). day_cmp_is (get_or rows k d).key date
-      (subst (λ (row : Row). HasForm row.key) (get_or-map_at key_cmp (λ (row : Row). row.key) row_of_part rows k d (row_of_part d) lt) (formed k (row_of_part d) (omega (arith, lt, length-map rows row_of_part)))) in
-      searched_map key_cmp (λ (row : Row). row.key) row_of_part key_cmp_total (day_key date) rows r rising within
+      (subst (λ (row : SummaryRow). HasForm row.key) (get_or-map_at key_cmp (λ (row : SummaryRow). row.key) row_of_part rows k d (row_of_part d) lt) (formed k (row_of_part d) (omega (arith, lt, length-map rows row_of_part)))) in
+      searched_map key_cmp (λ (row : SummaryRow). row.key) row_of_part key_cmp_total (day_key date) rows r rising within
       (searched_same (λ (row : PartRow). day_cmp row.key date) (λ (row : PartRow). key_cmp row.key (day_key date)) rows same r within found)
 
 module _ (rows : List PartRow) (key : Key) (i : ℕ) where
-  pub part_found : (part : PartRow) → StandsAt key_cmp (λ (row : Row). row.key) key (rows_in rows) i → part ≡ get_or rows i part → row_at (rows_in rows) key ≡ Some (row_of_part part)
+  pub part_found : (part : PartRow) → StandsAt key_cmp (λ (row : SummaryRow). row.key) key (rows_in rows) i → part ≡ get_or rows i part → row_at (rows_in rows) key ≡ Some (row_of_part part)
   part_found part h e =
-      find_stands key_cmp key_cmp_total (λ (row : Row). row.key) key (rows_in rows) i (row_of_part part) h
-      ∙ ap Some (read_map key_cmp (λ (row : Row). row.key) row_of_part rows i part (omega (arith, h.within, length-map rows row_of_part)) e)
+      find_stands key_cmp key_cmp_total (λ (row : SummaryRow). row.key) key (rows_in rows) i (row_of_part part) h
+      ∙ ap Some (read_map key_cmp (λ (row : SummaryRow). row.key) row_of_part rows i part (omega (arith, h.within, length-map rows row_of_part)) e)
 
-  pub part_missing : KeysRise (rows_in rows) → GoesTo key_cmp (λ (row : Row). row.key) key (rows_in rows) i → row_at (rows_in rows) key ≡ None
-  part_missing s h = find_goes key_cmp key_cmp_total (λ (row : Row). row.key) key (rows_in rows) i s h
+  pub part_missing : KeysRise (rows_in rows) → GoesTo key_cmp (λ (row : SummaryRow). row.key) key (rows_in rows) i → row_at (rows_in rows) key ≡ None
+  part_missing s h = find_goes key_cmp key_cmp_total (λ (row : SummaryRow). row.key) key (rows_in rows) i s h

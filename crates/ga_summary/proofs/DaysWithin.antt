@@ -5,23 +5,23 @@ use Rattle.std.proofs.lemmas.List.Elements.{filter-append}
 use Rattle.ga_base.specs.declared.panel.Panel.TheVariants.{Visitors}
 use Rattle.ga_base.specs.Panels.{is_same_panel}
 use Rattle.ga_summary.specs.declared.load.Load.{Load}
-use Rattle.ga_summary.specs.declared.parts.PartRow.{PartRow}
-use Rattle.ga_summary.specs.Parts.{row_of_part, rows_in}
-use Rattle.ga_summary.specs.Rows.{Row}
+use Rattle.ga_summary.specs.declared.summary_parts.PartRow.{PartRow}
+use Rattle.ga_summary.specs.SummaryParts.{row_of_part, rows_in}
+use Rattle.ga_summary.specs.SummaryRows.{SummaryRow}
 use Rattle.ga_summary.specs.Sound.{day_rows}
 use Rattle.ga_summary.specs.Steps.Loads.{LoadWithin, load_of, load_plus, sums_load}
 use Rattle.ga_summary.proofs.LayerSteps.{load_of-append, load_of-one}
 use Rattle.ga_summary.proofs.PartRows.{rows_more}
 
-day_rows-append : (xs ys : List Row) → day_rows (xs ++ ys) ≡ day_rows xs ++ day_rows ys
-day_rows-append xs ys = filter-append (λ (row : Row). is_same_panel row.key.panel Visitors) xs ys
+day_rows-append : (xs ys : List SummaryRow) → day_rows (xs ++ ys) ≡ day_rows xs ++ day_rows ys
+day_rows-append xs ys = filter-append (λ (row : SummaryRow). is_same_panel row.key.panel Visitors) xs ys
 
 -- what the days sum to is at least what the first of them do
 days_grow : (rows : List PartRow) (n : ℕ) (most : Load) → LoadWithin (load_of (day_rows (rows_in rows))) most → LoadWithin (load_of (day_rows (rows_in (take n rows)))) most
 days_grow rows n most fits =
     let parts : rows_in rows ≡ rows_in (take n rows) ++ rows_in (drop n rows) = ap rows_in (sym (take-append-drop n rows)) ∙ map-append row_of_part (take n rows) (drop n rows) in
     let sum : load_of (day_rows (rows_in rows)) ≡ load_plus (load_of (day_rows (rows_in (take n rows)))) (load_of (day_rows (rows_in (drop n rows)))) =
-    ap (λ (l : List Row). load_of (day_rows l)) parts ∙ ap load_of (day_rows-append (rows_in (take n rows)) (rows_in (drop n rows))) ∙ load_of-append (day_rows (rows_in (take n rows))) (day_rows (rows_in (drop n rows))) in
+    ap (λ (l : List SummaryRow). load_of (day_rows l)) parts ∙ ap load_of (day_rows-append (rows_in (take n rows)) (rows_in (drop n rows))) ∙ load_of-append (day_rows (rows_in (take n rows))) (day_rows (rows_in (drop n rows))) in
     let both : LoadWithin (load_plus (load_of (day_rows (rows_in (take n rows)))) (load_of (day_rows (rows_in (drop n rows))))) most = subst (λ (l : Load). LoadWithin l most) sum fits in
     record { hits = omega (arith, both.hits); bytes = omega (arith, both.bytes); micros = omega (arith, both.micros) }
 

@@ -3,8 +3,8 @@ use Rattle.std.proofs.Common.{◌≡◌, ℕ, ◌+◌, ◌≤◌, inl, inr, List
 use Rattle.std.proofs.Math.Nat.{eq-or-lt_of_le}
 use Rattle.std.proofs.lemmas.List.{length-map, take-map}
 use Rattle.ga_base.specs.declared.counts.Totals.{Totals}
-use Rattle.ga_summary.specs.declared.parts.PartRow.{PartRow}
-use Rattle.ga_summary.specs.Parts.{IsFirstBad, RowsAreGood, row_of_part, rows_in}
+use Rattle.ga_summary.specs.declared.summary_parts.PartRow.{PartRow}
+use Rattle.ga_summary.specs.SummaryParts.{IsFirstBad, RowsAreGood, row_of_part, rows_in}
 use Rattle.ga_summary.specs.Sound.{IsSummary, TotalsAreSound}
 use Rattle.ga_summary.specs.Steps.Passing.{GoodUpTo, IsFirstBadRow}
 use Rattle.ga_summary.proofs.Lines.{IsSummary-lines}

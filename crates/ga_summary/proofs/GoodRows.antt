@@ -15,8 +15,8 @@ use Rattle.ga_base.specs.declared.name.Name.{Name}
 use Rattle.ga_base.specs.Layers.{HasForm, Layer, day_key, in_layer, is_empty, is_flag}
 use Rattle.ga_base.specs.Orders.{key_cmp, name_cmp, is_same_key, is_same_name, name_of}
 use Rattle.ga_base.proofs.OrderLemmas.{key_cmp_total, key_cmp_exact, name_cmp_total, name_cmp_exact}
-use Rattle.ga_summary.specs.Parts.{RowsAreGood}
-use Rattle.ga_summary.specs.Rows.{Row, row_at, sums_at, names_at, has_name, has_pair, no_sums}
+use Rattle.ga_summary.specs.SummaryParts.{RowsAreGood}
+use Rattle.ga_summary.specs.SummaryRows.{SummaryRow, row_at, sums_at, names_at, has_name, has_pair, no_sums}
 use Rattle.ga_summary.specs.Sound.{HasRow, SumsWithin, layer_rows}
 use Rattle.ga_summary.specs.Steps.Passing.{AllAmong, StandsAlone}
 use Rattle.ga_summary.proofs.Bounds.{is_same_panel-itself}
@@ -30,10 +30,10 @@ abbrev pub layer_of : Key → Layer
 layer_of key = record { panel = key.panel; groups = is_empty key.label }
 
 -- where all rows are below a key, it has none
-pub none_at_above : (rows : List Row) (key : Key) → Below key_cmp (λ (row : Row). row.key) rows key → row_at rows key ≡ None
+pub none_at_above : (rows : List SummaryRow) (key : Key) → Below key_cmp (λ (row : SummaryRow). row.key) rows key → row_at rows key ≡ None
 none_at_above rows key below = go rows (recursion_from_All _ rows below)
   where
-    go : (rows : List Row) → AllByRecursion (λ (row : Row). key_cmp row.key key ≡ Less) rows → row_at rows key ≡ None
+    go : (rows : List SummaryRow) → AllByRecursion (λ (row : SummaryRow). key_cmp row.key key ≡ Less) rows → row_at rows key ≡ None
     go [] b = refl
     go (row ∷ rows) b =
         let other : is_same_key key row.key ≡ false = ap is_eq (key_cmp_total.antisymm key row.key ∙ ap ordering_reverse b.0) in
@@ -70,26 +70,26 @@ is_flag-refl true = refl
 is_flag-refl false = refl
 
 -- what a key has in rows with one more
-pub data At (rows : List Row) (row : Row) (key : Key) : Type 0 where
+pub data At (rows : List SummaryRow) (row : SummaryRow) (key : Key) : Type 0 where
   before : HasRow rows key → row_at (rows ++ row ∷ []) key ≡ row_at rows key → At rows row key
   here : key ≡ row.key → row_at rows key ≡ None → row_at (rows ++ row ∷ []) key ≡ Some row → At rows row key
   nowhere : is_same_key key row.key ≡ false → row_at rows key ≡ None → row_at (rows ++ row ∷ []) key ≡ None → At rows row key
 
-pub at_push : (rows : List Row) (row : Row) (key : Key) → At rows row key
+pub at_push : (rows : List SummaryRow) (row : SummaryRow) (key : Key) → At rows row key
 at_push rows row key = go (row_at rows key) refl (is_same_key key row.key) refl
   where
     all : row_at (rows ++ row ∷ []) key ≡ option_or (row_at rows key) (cond (is_same_key key row.key) (Some row) None)
-    all = find-append (λ (r : Row). is_same_key key r.key) rows (row ∷ [])
+    all = find-append (λ (r : SummaryRow). is_same_key key r.key) rows (row ∷ [])
 
-    go : (o : Option Row) → row_at rows key ≡ o → (v : Bool) → is_same_key key row.key ≡ v → At rows row key
-    go (Some r) e v same = before (ap is_some e) (all ∙ ap (λ (o : Option Row). option_or o (cond (is_same_key key row.key) (Some row) None)) e ∙ sym e)
+    go : (o : Option SummaryRow) → row_at rows key ≡ o → (v : Bool) → is_same_key key row.key ≡ v → At rows row key
+    go (Some r) e v same = before (ap is_some e) (all ∙ ap (λ (o : Option SummaryRow). option_or o (cond (is_same_key key row.key) (Some row) None)) e ∙ sym e)
     go None e true same = here (key_cmp_exact key row.key (equal_from_is_eq _ same)) e (all ∙ (λ i. option_or (e i) (cond (same i) (Some row) None)))
     go None e false same = nowhere same e (all ∙ (λ i. option_or (e i) (cond (same i) (Some row) None)))
 
-module _ (rows : List Row) (row : Row) where
+module _ (rows : List SummaryRow) (row : SummaryRow) where
   -- a layer's rows with one more
   pub layer_push : (layer : Layer) (date : ℕ) → layer_rows layer date (rows ++ row ∷ []) ≡ layer_rows layer date rows ++ cond ((row.key.date == date) && in_layer layer row.key) (row ∷ []) []
-  layer_push layer date = filter-append (λ (r : Row). (r.key.date == date) && in_layer layer r.key) rows (row ∷ [])
+  layer_push layer date = filter-append (λ (r : SummaryRow). (r.key.date == date) && in_layer layer r.key) rows (row ∷ [])
 
   -- the row is in its key's layer, and in no other
   pub in_its_layer : ((row.key.date == row.key.date) && in_layer (layer_of row.key) row.key) ≡ true
@@ -115,7 +115,7 @@ module _ (rows : List Row) (row : Row) where
   has_kept key has = ap is_some (kept key has) ∙ has
 
   module _ (good : RowsAreGood rows) (rising : KeysRise (rows ++ row ∷ [])) (alone : StandsAlone row)
-      (day : Row) (day_is : row_at (rows ++ row ∷ []) (day_key row.key.date) ≡ Some day) (among : AllAmong row.names day.names)
+      (day : SummaryRow) (day_is : row_at (rows ++ row ∷ []) (day_key row.key.date) ≡ Some day) (among : AllAmong row.names day.names)
       (within : SumsWithin (layer_rows (layer_of row.key) row.key.date (rows ++ row ∷ [])) day.sums.hits day.sums.bytes day.sums.micros) where
     form : (key : Key) → HasRow (rows ++ row ∷ []) key → HasForm key
     form key has = elim (at_push rows row key) [
@@ -186,7 +186,7 @@ module _ (rows : List Row) (row : Row) where
 
     pub good_push : RowsAreGood (rows ++ row ∷ [])
     good_push = record {
-      ordered = record { keys = rising; names = All-push (λ (r : Row). IsStrictlySortedBy name_cmp r.names) rows row good.ordered.names alone.names };
+      ordered = record { keys = rising; names = All-push (λ (r : SummaryRow). IsStrictlySortedBy name_cmp r.names) rows row good.ordered.names alone.names };
       sound = record { form = form; day = has_day; layers = layers; hit = hit; visitors = visitors; visits = visits };
     }
 
@@ -194,7 +194,7 @@ module _ (rows : List Row) (row : Row) where
   module _ (good : RowsAreGood (rows ++ row ∷ [])) where
     pub row_here : row_at (rows ++ row ∷ []) row.key ≡ Some row
     row_here = elim (at_push rows row row.key) [
-      | before has _ ↦ absurd (false≢true (sym (ap is_some (none_at_above rows row.key (below_from_push key_cmp (λ (r : Row). r.key) rows row good.ordered.keys))) ∙ has))
+      | before has _ ↦ absurd (false≢true (sym (ap is_some (none_at_above rows row.key (below_from_push key_cmp (λ (r : SummaryRow). r.key) rows row good.ordered.keys))) ∙ has))
       | here _ _ e ↦ e
       | nowhere other _ _ ↦ absurd (false≢true (sym other ∙ ap is_eq (tied_itself key_cmp_total row.key)))
     ]
@@ -204,7 +204,7 @@ module _ (rows : List Row) (row : Row) where
         let has : HasRow (rows ++ row ∷ []) row.key = ap is_some row_here in
         record {
           form = good.sound.form row.key has;
-          names = All-contains (λ (r : Row). IsStrictlySortedBy name_cmp r.names) (rows ++ row ∷ []) row good.ordered.names (Contains-push rows row);
+          names = All-contains (λ (r : SummaryRow). IsStrictlySortedBy name_cmp r.names) (rows ++ row ∷ []) row good.ordered.names (Contains-push rows row);
           hit = rw row_here at (good.sound.hit row.key has);
           visits = rw row_here at (good.sound.visits row.key);
         }
@@ -212,7 +212,7 @@ module _ (rows : List Row) (row : Row) where
     pub day_from_good : row_at (rows ++ row ∷ []) (day_key row.key.date) ≡ None → ⊥
     day_from_good none = false≢true (sym (ap is_some none) ∙ good.sound.day row.key (ap is_some row_here))
 
-    module _ (day : Row) (day_is : row_at (rows ++ row ∷ []) (day_key row.key.date) ≡ Some day) where
+    module _ (day : SummaryRow) (day_is : row_at (rows ++ row ∷ []) (day_key row.key.date) ≡ Some day) where
       pub within_from_good : SumsWithin (layer_rows (layer_of row.key) row.key.date (rows ++ row ∷ [])) day.sums.hits day.sums.bytes day.sums.micros
       within_from_good = rw day_is at (good.sound.layers (layer_of row.key) row.key.date)
 

@@ -13,7 +13,7 @@ use Rattle.ga_base.specs.Orders.{key_cmp}
 use Rattle.ga_base.specs.Panels.{is_same_panel, panel_number}
 use Rattle.ga_summary.specs.declared.layer_sums.LayerSums.{LayerSums}
 use Rattle.ga_summary.specs.declared.load.Load.{Load}
-use Rattle.ga_summary.specs.Rows.{Row}
+use Rattle.ga_summary.specs.SummaryRows.{SummaryRow}
 use Rattle.ga_summary.specs.Sound.{layer_rows}
 use Rattle.ga_summary.specs.Steps.Loads.{load_of, load_plus, no_load, sums_load}
 use Rattle.ga_summary.specs.Steps.Passing.{AreSumsOf, begun, is_at, layer_load, layer_plus, reached, with_load}
@@ -34,10 +34,10 @@ begun_sums = record { here = here; ahead = λ key groups below apart. refl }
 same_load : (a b : Load) → a.hits ≡ b.hits → a.bytes ≡ b.bytes → a.micros ≡ b.micros → a ≡ b
 same_load a b h y m = λ i. record { hits = h i; bytes = y i; micros = m i }
 
-pub load_of-append : (xs ys : List Row) → load_of (xs ++ ys) ≡ load_plus (load_of xs) (load_of ys)
-load_of-append xs ys = same_load _ _ (sum_by-append (λ (row : Row). row.sums.hits) xs ys) (sum_by-append (λ (row : Row). row.sums.bytes) xs ys) (sum_by-append (λ (row : Row). row.sums.micros) xs ys)
+pub load_of-append : (xs ys : List SummaryRow) → load_of (xs ++ ys) ≡ load_plus (load_of xs) (load_of ys)
+load_of-append xs ys = same_load _ _ (sum_by-append (λ (row : SummaryRow). row.sums.hits) xs ys) (sum_by-append (λ (row : SummaryRow). row.sums.bytes) xs ys) (sum_by-append (λ (row : SummaryRow). row.sums.micros) xs ys)
 
-pub load_of-one : (row : Row) → load_of (row ∷ []) ≡ sums_load row.sums
+pub load_of-one : (row : SummaryRow) → load_of (row ∷ []) ≡ sums_load row.sums
 load_of-one row = same_load _ _ (omega arith) (omega arith) (omega arith)
 
 -- nothing is kept where nothing passes
@@ -124,7 +124,7 @@ in_panel_and_day layer date key e =
     let both = both_true (is_same_panel key.panel layer.panel) (is_flag layer.groups (is_empty key.label)) parts.1 in
     (ap panel_number (same_panel key.panel layer.panel both.0), eqb→eq key.date date (subst T (sym parts.0) tt))
 
-module _ (rows : List Row) (row : Row) (sums : LayerSums) (are : AreSumsOf rows sums) (rising : KeysRise (rows ++ row ∷ [])) where
+module _ (rows : List SummaryRow) (row : SummaryRow) (sums : LayerSums) (are : AreSumsOf rows sums) (rising : KeysRise (rows ++ row ∷ [])) where
   -- the sums of the row's panel and day before it
   reached_load : (groups : Bool) → layer_load (reached sums row.key) groups ≡ load_of (layer_rows (record { panel = row.key.panel; groups = groups }) row.key.date rows)
   reached_load groups = pick (is_at sums row.key) refl
@@ -139,7 +139,7 @@ module _ (rows : List Row) (row : Row) (sums : LayerSums) (are : AreSumsOf rows 
           let panel : sums.panel ≡ row.key.panel = same_panel _ _ parts.0 in
           let date : sums.date ≡ row.key.date = eqb→eq sums.date row.key.date (subst T (sym parts.1) tt) in
           are.here groups ∙ (λ i. load_of (layer_rows (record { panel = panel i; groups = groups }) (date i) rows))
-      pick false e = none groups ∙ ap load_of (sym (are.ahead row.key groups (below_from_push key_cmp (λ (r : Row). r.key) rows row rising) e))
+      pick false e = none groups ∙ ap load_of (sym (are.ahead row.key groups (below_from_push key_cmp (λ (r : SummaryRow). r.key) rows row rising) e))
 
   -- what its layer sums to with it
   pub its_layer : layer_plus sums row.key (sums_load row.sums) ≡ load_of (layer_rows (layer_of row.key) row.key.date (rows ++ row ∷ []))
@@ -167,16 +167,16 @@ module _ (rows : List Row) (row : Row) (sums : LayerSums) (are : AreSumsOf rows 
           let rest : layer_rows layer row.key.date (rows ++ row ∷ []) ≡ layer_rows layer row.key.date rows = rw (layer_push rows row layer row.key.date, out) (append-nil _) in
           put_other (is_empty row.key.label) groups (reached sums row.key) (sums_load row.sums) e ∙ reached_load groups ∙ ap load_of (sym rest)
 
-  next_ahead : (key : Key) (groups : Bool) → Below key_cmp (λ (r : Row). r.key) (rows ++ row ∷ []) key → is_at (with_load sums row.key (sums_load row.sums)) key ≡ false
+  next_ahead : (key : Key) (groups : Bool) → Below key_cmp (λ (r : SummaryRow). r.key) (rows ++ row ∷ []) key → is_at (with_load sums row.key (sums_load row.sums)) key ≡ false
       → layer_rows (record { panel = key.panel; groups = groups }) key.date (rows ++ row ∷ []) ≡ []
   next_ahead key groups below apart =
       let layer : Layer = record { panel = key.panel; groups = groups } in
       let apart_from : panel_number row.key.panel ≡ panel_number key.panel → row.key.date ≡ key.date → ⊥ =
       λ panel date. false≢true (sym apart ∙ is_at_from (with_load sums row.key (sums_load row.sums)) key (ap panel_number next_panel ∙ panel) (next_date ∙ date)) in
-      let row_below : key_cmp row.key key ≡ Less = All-contains (λ (r : Row). key_cmp r.key key ≡ Less) (rows ++ row ∷ []) row below (Contains-push rows row) in
-      let before = below_from_push key_cmp (λ (r : Row). r.key) rows row rising in
-      let test = λ (r : Row). (r.key.date == key.date) && in_layer layer r.key in
-      filter_none test (rows ++ row ∷ []) (All-push (λ (r : Row). test r ≡ true → ⊥) rows row
+      let row_below : key_cmp row.key key ≡ Less = All-contains (λ (r : SummaryRow). key_cmp r.key key ≡ Less) (rows ++ row ∷ []) row below (Contains-push rows row) in
+      let before = below_from_push key_cmp (λ (r : SummaryRow). r.key) rows row rising in
+      let test = λ (r : SummaryRow). (r.key.date == key.date) && in_layer layer r.key in
+      filter_none test (rows ++ row ∷ []) (All-push (λ (r : SummaryRow). test r ≡ true → ⊥) rows row
       (λ k d lt e.
       let is = in_panel_and_day layer key.date (get_or rows k d).key e in
       let same = between (get_or rows k d).key row.key key (before k d lt) row_below is.0 is.1 in

@@ -23,6 +23,5 @@ pub mod Appends
 pub mod OneLine
 pub mod Unique
 pub mod SoundSums
-pub mod TestLines
 pub mod NamePass
 pub mod RowPass

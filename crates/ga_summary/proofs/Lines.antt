@@ -9,7 +9,7 @@ use Rattle.std.specs.List.Sorted.{IsStrictlySortedBy}
 use Rattle.ga_base.specs.declared.counts.Totals.{Totals}
 use Rattle.ga_base.specs.declared.counts.TheConstants.{LIMIT}
 use Rattle.ga_summary.specs.Outcomes.{Outcome, Failed, Excluded, hits_of, is_failed, is_excluded, lines_of}
-use Rattle.ga_summary.specs.Rows.{SummaryValue, IsInOrder}
+use Rattle.ga_summary.specs.SummaryRows.{SummaryValue, IsInOrder}
 use Rattle.ga_summary.specs.Sums.{IsSumOf}
 use Rattle.ga_summary.specs.Sound.{IsSummary}
 

@@ -11,7 +11,7 @@ use Rattle.ga_base.specs.declared.key.Visitor.{Visitor}
 use Rattle.ga_base.specs.declared.counts.Sums.{Sums}
 use Rattle.ga_base.specs.declared.name.Name.{Name}
 use Rattle.ga_base.specs.Orders.{key_cmp, name_cmp, name_of, is_same_name, is_same_key}
-use Rattle.ga_summary.specs.Rows.{Row, IsInOrder, row_at, sums_at, names_at, has_name, has_pair, no_sums, sums_plus}
+use Rattle.ga_summary.specs.SummaryRows.{SummaryRow, IsInOrder, row_at, sums_at, names_at, has_name, has_pair, no_sums, sums_plus}
 use Rattle.ga_summary.specs.Steps.Joined.{joined, put_row, put_rows, put_name, put_names}
 use Rattle.ga_summary.proofs.Put.{both_at, Some≢None, find_put_all, rises_put_all, sum_by-put_all}
 use Rattle.ga_summary.proofs.NameLists.{any-find, rising_put_names, names_rise}
@@ -77,8 +77,8 @@ pub sums_plus-none : (s : Sums) → sums_plus s no_sums ≡ s
 sums_plus-none s = same_sums _ _ (omega arith) (omega arith) (omega arith) (omega arith)
 
 -- what holds of the rows and survives a join holds of the rows put together
-module _ (P : Row → Type 0) (joins : (x y : Row) → P x → P y → P (joined x y)) where
-  all-put_row : (y : Row) (xs : List Row) → P y → AllByRecursion P xs → AllByRecursion P (put_row y xs)
+module _ (P : SummaryRow → Type 0) (joins : (x y : SummaryRow) → P x → P y → P (joined x y)) where
+  all-put_row : (y : SummaryRow) (xs : List SummaryRow) → P y → AllByRecursion P xs → AllByRecursion P (put_row y xs)
   all-put_row y [] p h = (p, tt)
   all-put_row y (x ∷ xs) p h =
       elim (key_cmp y.key x.key) as (λ v. AllByRecursion P (match_ordering v (y ∷ x ∷ xs) (joined x y ∷ xs) (x ∷ put_row y xs))) [
@@ -87,36 +87,36 @@ module _ (P : Row → Type 0) (joins : (x y : Row) → P x → P y → P (joined
         | Greater ↦ (h.0, all-put_row y xs p h.1)
       ]
 
-  all-put_rows : (ys xs : List Row) → AllByRecursion P ys → AllByRecursion P xs → AllByRecursion P (put_rows ys xs)
+  all-put_rows : (ys xs : List SummaryRow) → AllByRecursion P ys → AllByRecursion P xs → AllByRecursion P (put_rows ys xs)
   all-put_rows [] xs g h = h
   all-put_rows (y ∷ ys) xs g h = all-put_rows ys (put_row y xs) g.1 (all-put_row y xs g.0 h)
 
 -- what holds of all rows holds of the one that is found
-pub all-row_at : (P : Row → Type 0) (rows : List Row) (key : Key) (row : Row) → All P rows → row_at rows key ≡ Some row → P row
+pub all-row_at : (P : SummaryRow → Type 0) (rows : List SummaryRow) (key : Key) (row : SummaryRow) → All P rows → row_at rows key ≡ Some row → P row
 all-row_at P rows key row all found = go rows (recursion_from_All P rows all) found
   where
-    go : (rows : List Row) → AllByRecursion P rows → row_at rows key ≡ Some row → P row
+    go : (rows : List SummaryRow) → AllByRecursion P rows → row_at rows key ≡ Some row → P row
     go [] h e = absurd (Some≢None (sym e))
     go (x ∷ rows) h e = elim (is_same_key key x.key) as (λ v. cond v (Some x) (row_at rows key) ≡ Some row → P row) [
       | true ↦ λ here. subst P (some_inj here) h.0
       | false ↦ λ rest. go rows h.1 rest
     ] e
 
-module _ (a b : List Row) (s : IsInOrder a) (t : IsInOrder b) where
+module _ (a b : List SummaryRow) (s : IsInOrder a) (t : IsInOrder b) where
   pub IsInOrder-put_rows : IsInOrder (put_rows b a)
   IsInOrder-put_rows = record {
-    keys = rises_put_all key_cmp key_cmp_total (λ (row : Row). row.key) joined (λ _ _. refl) b a s.keys;
-    names = All-from_recursion _ _ (all-put_rows (λ (row : Row). IsStrictlySortedBy name_cmp row.names) (λ x y p q. rising_put_names x.names p y.names) b a (recursion_from_All _ b t.names) (recursion_from_All _ a s.names));
+    keys = rises_put_all key_cmp key_cmp_total (λ (row : SummaryRow). row.key) joined (λ _ _. refl) b a s.keys;
+    names = All-from_recursion _ _ (all-put_rows (λ (row : SummaryRow). IsStrictlySortedBy name_cmp row.names) (λ x y p q. rising_put_names x.names p y.names) b a (recursion_from_All _ b t.names) (recursion_from_All _ a s.names));
   }
 
   -- the row at each key
   pub row_at-put_rows : (key : Key) → row_at (put_rows b a) key ≡ both_at joined (row_at a key) (row_at b key)
-  row_at-put_rows key = find_put_all key_cmp key_cmp_total (λ (row : Row). row.key) joined (λ _ _. refl) key b a t.keys s.keys
+  row_at-put_rows key = find_put_all key_cmp key_cmp_total (λ (row : SummaryRow). row.key) joined (λ _ _. refl) key b a t.keys s.keys
 
   pub present-put_rows : (key : Key) → is_some (row_at (put_rows b a) key) ≡ (is_some (row_at a key) || is_some (row_at b key))
   present-put_rows key = ap is_some (row_at-put_rows key) ∙ split (row_at a key) (row_at b key)
     where
-      split : (x y : Option Row) → is_some (both_at joined x y) ≡ (is_some x || is_some y)
+      split : (x y : Option SummaryRow) → is_some (both_at joined x y) ≡ (is_some x || is_some y)
       split None y = refl
       split (Some x) None = refl
       split (Some x) (Some y) = refl
@@ -124,25 +124,25 @@ module _ (a b : List Row) (s : IsInOrder a) (t : IsInOrder b) where
   pub sums_at-put_rows : (key : Key) → sums_at (put_rows b a) key ≡ sums_plus (sums_at a key) (sums_at b key)
   sums_at-put_rows key = ap sums_of_row (row_at-put_rows key) ∙ split (row_at a key) (row_at b key)
     where
-      sums_of_row : Option Row → Sums
-      sums_of_row o = option_map_or (λ (row : Row). row.sums) o no_sums
+      sums_of_row : Option SummaryRow → Sums
+      sums_of_row o = option_map_or (λ (row : SummaryRow). row.sums) o no_sums
 
-      split : (x y : Option Row) → sums_of_row (both_at joined x y) ≡ sums_plus (sums_of_row x) (sums_of_row y)
+      split : (x y : Option SummaryRow) → sums_of_row (both_at joined x y) ≡ sums_plus (sums_of_row x) (sums_of_row y)
       split None None = refl
       split None (Some y) = sym (none-sums_plus y.sums)
       split (Some x) None = sym (sums_plus-none x.sums)
       split (Some x) (Some y) = refl
 
-  names_rise_at : (rows : List Row) → IsInOrder rows → (key : Key) (row : Row) → row_at rows key ≡ Some row → IsStrictlySortedBy name_cmp row.names
-  names_rise_at rows o key row found = all-row_at (λ (r : Row). IsStrictlySortedBy name_cmp r.names) rows key row o.names found
+  names_rise_at : (rows : List SummaryRow) → IsInOrder rows → (key : Key) (row : SummaryRow) → row_at rows key ≡ Some row → IsStrictlySortedBy name_cmp row.names
+  names_rise_at rows o key row found = all-row_at (λ (r : SummaryRow). IsStrictlySortedBy name_cmp r.names) rows key row o.names found
 
   pub has_name-put_rows : (key : Key) (name : Name) → has_name (names_at (put_rows b a) key) name ≡ (has_name (names_at a key) name || has_name (names_at b key) name)
-  has_name-put_rows key name = ap (λ (o : Option Row). has_name (names_of_row o) name) (row_at-put_rows key) ∙ split (row_at a key) (row_at b key) refl refl
+  has_name-put_rows key name = ap (λ (o : Option SummaryRow). has_name (names_of_row o) name) (row_at-put_rows key) ∙ split (row_at a key) (row_at b key) refl refl
     where
-      names_of_row : Option Row → List Name
-      names_of_row o = option_map_or (λ (row : Row). row.names) o []
+      names_of_row : Option SummaryRow → List Name
+      names_of_row o = option_map_or (λ (row : SummaryRow). row.names) o []
 
-      split : (x y : Option Row) → row_at a key ≡ x → row_at b key ≡ y → has_name (names_of_row (both_at joined x y)) name ≡ (has_name (names_of_row x) name || has_name (names_of_row y) name)
+      split : (x y : Option SummaryRow) → row_at a key ≡ x → row_at b key ≡ y → has_name (names_of_row (both_at joined x y)) name ≡ (has_name (names_of_row x) name || has_name (names_of_row y) name)
       split None y e f = refl
       split (Some x) None e f = sym (or_false (has_name x.names name))
       split (Some x) (Some y) e f = has_name-put_names y.names x.names name (names_rise_at b t key y f) (names_rise_at a s key x e)
@@ -153,22 +153,22 @@ module _ (a b : List Row) (s : IsInOrder a) (t : IsInOrder b) where
   pub length-names_at-put_rows : (key : Key) → length (names_at (put_rows b a) key) ≤ length (names_at a key) + length (names_at b key)
   length-names_at-put_rows key = rw (row_at-put_rows key) (split (row_at a key) (row_at b key))
     where
-      names_of_row : Option Row → List Name
-      names_of_row o = option_map_or (λ (row : Row). row.names) o []
+      names_of_row : Option SummaryRow → List Name
+      names_of_row o = option_map_or (λ (row : SummaryRow). row.names) o []
 
-      split : (x y : Option Row) → length (names_of_row (both_at joined x y)) ≤ length (names_of_row x) + length (names_of_row y)
+      split : (x y : Option SummaryRow) → length (names_of_row (both_at joined x y)) ≤ length (names_of_row x) + length (names_of_row y)
       split None None = omega arith
       split None (Some y) = omega arith
       split (Some x) None = omega arith
       split (Some x) (Some y) = length-put_names y.names x.names
 
   -- a sum over the rows whose keys pass a test, of what joins add up
-  pub sum_by-filter-put_rows : (f : Row → ℕ) → ((x y : Row) → f (joined x y) ≡ f x + f y) → (test : Key → Bool) → sum_by f (filter (λ (row : Row). test row.key) (put_rows b a)) ≡ sum_by f (filter (λ (row : Row). test row.key) a) + sum_by f (filter (λ (row : Row). test row.key) b)
+  pub sum_by-filter-put_rows : (f : SummaryRow → ℕ) → ((x y : SummaryRow) → f (joined x y) ≡ f x + f y) → (test : Key → Bool) → sum_by f (filter (λ (row : SummaryRow). test row.key) (put_rows b a)) ≡ sum_by f (filter (λ (row : SummaryRow). test row.key) a) + sum_by f (filter (λ (row : SummaryRow). test row.key) b)
   sum_by-filter-put_rows f adds test =
-      let w = λ (row : Row). cond (test row.key) (f row) 0 in
-      let by_key = λ (row : Row). test row.key in
+      let w = λ (row : SummaryRow). cond (test row.key) (f row) 0 in
+      let by_key = λ (row : SummaryRow). test row.key in
       sum_by-filter f by_key (put_rows b a)
-      ∙ sum_by-put_all key_cmp key_cmp_total (λ (row : Row). row.key) joined (λ _ _. refl) w (λ x y same. adds_at x y same) b a
+      ∙ sum_by-put_all key_cmp key_cmp_total (λ (row : SummaryRow). row.key) joined (λ _ _. refl) w (λ x y same. adds_at x y same) b a
       ∙ ap (λ (n : ℕ). n + sum_by w b) (sym (sum_by-filter f by_key a))
       ∙ ap (λ (n : ℕ). sum_by f (filter by_key a) + n) (sym (sum_by-filter f by_key b))
     where
@@ -176,5 +176,5 @@ module _ (a b : List Row) (s : IsInOrder a) (t : IsInOrder b) where
       split true m n k e = e
       split false m n k e = refl
 
-      adds_at : (x y : Row) → key_cmp y.key x.key ≡ Equal → cond (test x.key) (f (joined x y)) 0 ≡ cond (test x.key) (f x) 0 + cond (test y.key) (f y) 0
+      adds_at : (x y : SummaryRow) → key_cmp y.key x.key ≡ Equal → cond (test x.key) (f (joined x y)) 0 ≡ cond (test x.key) (f x) 0 + cond (test y.key) (f y) 0
       adds_at x y same = rw (ap test (key_cmp_exact y.key x.key same)) (split (test x.key) (f x) (f y) (f (joined x y)) (adds x y))

@@ -4,7 +4,7 @@ use Rattle.std.specs.List.{insert, list_any, find}
 use Rattle.std.specs.List.Sorted.{IsStrictlySortedBy, IsSearchInRange, IsBinarySearchResult}
 use Rattle.ga_base.specs.declared.name.Name.{Name}
 use Rattle.ga_base.specs.Orders.{name_cmp}
-use Rattle.ga_summary.specs.Rows.{has_name}
+use Rattle.ga_summary.specs.SummaryRows.{has_name}
 use Rattle.ga_summary.specs.Steps.Joined.{put_name, put_names}
 use Rattle.ga_summary.specs.Steps.Places.{Rises, StandsAt, GoesTo}
 use Rattle.ga_base.proofs.OrderLemmas.{name_cmp_total}

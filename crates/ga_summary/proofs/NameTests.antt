@@ -10,7 +10,7 @@ use Rattle.std.proofs.Math.Nat.{eq-or-lt_of_le}
 use Rattle.ga_base.specs.declared.name.Name.{Name}
 use Rattle.ga_base.specs.Orders.{name_cmp}
 use Rattle.ga_base.proofs.OrderLemmas.{name_cmp_total}
-use Rattle.ga_summary.specs.Rows.{has_name}
+use Rattle.ga_summary.specs.SummaryRows.{has_name}
 use Rattle.ga_summary.specs.Steps.Passing.{AllAmong, IsBehind}
 use Rattle.ga_summary.specs.Steps.Places.{Rises, StandsAt}
 use Rattle.ga_summary.proofs.Put.{rises_less, stands_tail}

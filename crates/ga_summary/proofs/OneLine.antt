@@ -18,7 +18,7 @@ use Rattle.ga_base.specs.declared.panel.Panel.TheVariants.{Visitors}
 use Rattle.ga_base.specs.declared.name.Name.{Name}
 use Rattle.ga_base.specs.Orders.{key_cmp, name_cmp, is_same_key, name_of}
 use Rattle.ga_summary.specs.Outcomes.{Hit, Counted, has_key, is_by, greatest_time, sums_of, has_visit}
-use Rattle.ga_summary.specs.Rows.{Row, IsInOrder, row_at, sums_at, names_at, has_name, has_pair, no_sums}
+use Rattle.ga_summary.specs.SummaryRows.{SummaryRow, IsInOrder, row_at, sums_at, names_at, has_name, has_pair, no_sums}
 use Rattle.ga_summary.specs.OneLine.{names_of, line_sums, line_row, line_value}
 use Rattle.ga_summary.specs.Sums.{IsSumOf}
 use Rattle.ga_base.specs.Layers.{HasForm}
@@ -60,16 +60,16 @@ module _ (hit : Hit) where
   row_at-line key = rows_at_key hit.keys key
 
   sums_at-line : (key : Key) → sums_at (line_value hit).rows key ≡ cond (has_key key hit) (line_sums hit.bytes hit.micros) no_sums
-  sums_at-line key = ap (λ (o : Option Row). option_map_or (λ (row : Row). row.sums) o no_sums) (row_at-line key) ∙ split (has_key key hit)
+  sums_at-line key = ap (λ (o : Option SummaryRow). option_map_or (λ (row : SummaryRow). row.sums) o no_sums) (row_at-line key) ∙ split (has_key key hit)
     where
-      split : (b : Bool) → option_map_or (λ (row : Row). row.sums) (cond b (Some (line_row (line_sums hit.bytes hit.micros) hit.visitor key)) None) no_sums ≡ cond b (line_sums hit.bytes hit.micros) no_sums
+      split : (b : Bool) → option_map_or (λ (row : SummaryRow). row.sums) (cond b (Some (line_row (line_sums hit.bytes hit.micros) hit.visitor key)) None) no_sums ≡ cond b (line_sums hit.bytes hit.micros) no_sums
       split true = refl
       split false = refl
 
   names_at-line : (key : Key) → names_at (line_value hit).rows key ≡ cond (has_key key hit) (names_of hit.visitor) []
-  names_at-line key = ap (λ (o : Option Row). option_map_or (λ (row : Row). row.names) o []) (row_at-line key) ∙ split (has_key key hit)
+  names_at-line key = ap (λ (o : Option SummaryRow). option_map_or (λ (row : SummaryRow). row.names) o []) (row_at-line key) ∙ split (has_key key hit)
     where
-      split : (b : Bool) → option_map_or (λ (row : Row). row.names) (cond b (Some (line_row (line_sums hit.bytes hit.micros) hit.visitor key)) None) [] ≡ cond b (names_of hit.visitor) []
+      split : (b : Bool) → option_map_or (λ (row : SummaryRow). row.names) (cond b (Some (line_row (line_sums hit.bytes hit.micros) hit.visitor key)) None) [] ≡ cond b (names_of hit.visitor) []
       split true = refl
       split false = refl
 
@@ -152,11 +152,11 @@ module _ (hit : Hit) where
       names = All-from_recursion _ _ (all_names hit.keys);
     }
       where
-        keys-line : (keys : List Key) → map (λ (row : Row). row.key) (map (line_row (line_sums hit.bytes hit.micros) hit.visitor) keys) ≡ keys
+        keys-line : (keys : List Key) → map (λ (row : SummaryRow). row.key) (map (line_row (line_sums hit.bytes hit.micros) hit.visitor) keys) ≡ keys
         keys-line [] = refl
         keys-line (key ∷ keys) = ap (λ (l : List Key). key ∷ l) (keys-line keys)
 
-        all_names : (keys : List Key) → AllByRecursion (λ (row : Row). IsStrictlySortedBy name_cmp row.names) (map (line_row (line_sums hit.bytes hit.micros) hit.visitor) keys)
+        all_names : (keys : List Key) → AllByRecursion (λ (row : SummaryRow). IsStrictlySortedBy name_cmp row.names) (map (line_row (line_sums hit.bytes hit.micros) hit.visitor) keys)
         all_names [] = tt
         all_names (key ∷ keys) = (one_name hit.visitor, all_names keys)
 
@@ -186,9 +186,9 @@ module _ (hit : Hit) where
     day_sums = rw (sums_at-line (day_key date), has_contained (day_key date) can.day)
 
     -- a sum over rows whose keys all stand in one layer is at most one line's
-    in_one_layer : (f : Row → ℕ) (m : ℕ) → ((key : Key) → f (line_row (line_sums hit.bytes hit.micros) hit.visitor key) ≡ m) → (test : Key → Bool) (layer : Layer) → All (λ key. test key ≡ true → in_layer layer key ≡ true) hit.keys → sum_by f (filter (λ (row : Row). test row.key) (line_value hit).rows) ≤ m
+    in_one_layer : (f : SummaryRow → ℕ) (m : ℕ) → ((key : Key) → f (line_row (line_sums hit.bytes hit.micros) hit.visitor key) ≡ m) → (test : Key → Bool) (layer : Layer) → All (λ key. test key ≡ true → in_layer layer key ≡ true) hit.keys → sum_by f (filter (λ (row : SummaryRow). test row.key) (line_value hit).rows) ≤ m
     in_one_layer f m each test layer within =
-        rw (sum_by-filter f (λ (row : Row). test row.key) (line_value hit).rows)
+        rw (sum_by-filter f (λ (row : SummaryRow). test row.key) (line_value hit).rows)
         (omega (arith, go hit.keys (recursion_from_All _ hit.keys within), mul-le-mul_left m (can.layers layer)))
       where
         step : (t l : Bool) (n : ℕ) → (t ≡ true → l ≡ true) → n ≡ m → cond t n 0 ≤ m * cond l 1 0
@@ -197,19 +197,19 @@ module _ (hit : Hit) where
         step false l n h e = omega arith
 
         go : (keys : List Key) → AllByRecursion (λ key. test key ≡ true → in_layer layer key ≡ true) keys
-            → sum_by (λ (row : Row). cond (test row.key) (f row) 0) (map (line_row (line_sums hit.bytes hit.micros) hit.visitor) keys) ≤ m * count_by (in_layer layer) keys
+            → sum_by (λ (row : SummaryRow). cond (test row.key) (f row) 0) (map (line_row (line_sums hit.bytes hit.micros) hit.visitor) keys) ≤ m * count_by (in_layer layer) keys
         go [] h = omega arith
         go (key ∷ keys) h =
             let row = line_row (line_sums hit.bytes hit.micros) hit.visitor key in
             let rest = go keys h.1 in
             let here = step (test key) (in_layer layer key) (f row) h.0 (each key) in
-            rw (sum_by-cons (λ (row : Row). cond (test row.key) (f row) 0) row (map (line_row (line_sums hit.bytes hit.micros) hit.visitor) keys), sum_by-cons (λ (key : Key). cond (in_layer layer key) 1 0) key keys) (omega arith)
+            rw (sum_by-cons (λ (row : SummaryRow). cond (test row.key) (f row) 0) row (map (line_row (line_sums hit.bytes hit.micros) hit.visitor) keys), sum_by-cons (λ (key : Key). cond (in_layer layer key) 1 0) key keys) (omega arith)
 
-    within_line : (test : Key → Bool) (layer : Layer) → All (λ key. test key ≡ true → in_layer layer key ≡ true) hit.keys → SumsWithin (filter (λ (row : Row). test row.key) (line_value hit).rows) 1 hit.bytes hit.micros
+    within_line : (test : Key → Bool) (layer : Layer) → All (λ key. test key ≡ true → in_layer layer key ≡ true) hit.keys → SumsWithin (filter (λ (row : SummaryRow). test row.key) (line_value hit).rows) 1 hit.bytes hit.micros
     within_line test layer within = record {
-      hits = in_one_layer (λ (row : Row). row.sums.hits) 1 (λ _. refl) test layer within;
-      bytes = in_one_layer (λ (row : Row). row.sums.bytes) hit.bytes (λ _. refl) test layer within;
-      micros = in_one_layer (λ (row : Row). row.sums.micros) hit.micros (λ _. refl) test layer within;
+      hits = in_one_layer (λ (row : SummaryRow). row.sums.hits) 1 (λ _. refl) test layer within;
+      bytes = in_one_layer (λ (row : SummaryRow). row.sums.bytes) hit.bytes (λ _. refl) test layer within;
+      micros = in_one_layer (λ (row : SummaryRow). row.sums.micros) hit.micros (λ _. refl) test layer within;
     }
 
     layers-line : (layer : Layer) (day : ℕ) → let d = sums_at (line_value hit).rows (day_key day) in SumsWithin (layer_rows layer day (line_value hit).rows) d.hits d.bytes d.micros

@@ -11,8 +11,8 @@ use Rattle.ga_base.specs.Layers.{HasForm, Layer, day_key, in_layer}
 use Rattle.ga_base.specs.Orders.{key_cmp, name_cmp}
 use Rattle.ga_base.proofs.OrderLemmas.{key_cmp_total, key_cmp_exact, panel_number_exact}
 use Rattle.ga_summary.specs.declared.load.Load.{Load}
-use Rattle.ga_summary.specs.Parts.{RowsAreGood, IsFirstBad}
-use Rattle.ga_summary.specs.Rows.{Row, SummaryValue, row_at, sums_at, names_at, has_pair}
+use Rattle.ga_summary.specs.SummaryParts.{RowsAreGood, IsFirstBad}
+use Rattle.ga_summary.specs.SummaryRows.{SummaryRow, SummaryValue, row_at, sums_at, names_at, has_pair}
 use Rattle.ga_summary.specs.Sound.{HasRow, IsSummary, SumsWithin, layer_rows}
 use Rattle.ga_summary.specs.Steps.Loads.{load_of, load_plus}
 use Rattle.ga_summary.proofs.DayRows.{day_key_is}
@@ -34,12 +34,12 @@ not_below_day key form less = elim (by_panel_and_day key (day_key key.date) less
       Less≢Equal (sym less ∙ ap (λ (k : Key). key_cmp key k) (sym is) ∙ tied_itself key_cmp_total key)
 ]
 
-module _ (rows : List Row) (row : Row) (good : RowsAreGood (rows ++ row ∷ [])) where
+module _ (rows : List SummaryRow) (row : SummaryRow) (good : RowsAreGood (rows ++ row ∷ [])) where
   -- a key that was there is below the last one
-  below_row : (key : Key) (r : Row) → row_at rows key ≡ Some r → key_cmp key row.key ≡ Less
+  below_row : (key : Key) (r : SummaryRow) → row_at rows key ≡ Some r → key_cmp key row.key ≡ Less
   below_row key r found =
-      let same : key ≡ r.key = key_cmp_exact key r.key (find_is key_cmp key_cmp_total (λ (x : Row). x.key) key rows r found) in
-      let less = all-row_at (λ (x : Row). key_cmp x.key row.key ≡ Less) rows key r (below_from_push key_cmp (λ (x : Row). x.key) rows row good.ordered.keys) found in
+      let same : key ≡ r.key = key_cmp_exact key r.key (find_is key_cmp key_cmp_total (λ (x : SummaryRow). x.key) key rows r found) in
+      let less = all-row_at (λ (x : SummaryRow). key_cmp x.key row.key ≡ Less) rows key r (below_from_push key_cmp (λ (x : SummaryRow). x.key) rows row good.ordered.keys) found in
       subst (λ (k : Key). key_cmp k row.key ≡ Less) (sym same) less
 
   form : (key : Key) → HasRow rows key → HasForm key
@@ -52,7 +52,7 @@ module _ (rows : List Row) (row : Row) (good : RowsAreGood (rows ++ row ∷ []))
     | nowhere _ _ e ↦ absurd (false≢true (sym (ap is_some e) ∙ good.sound.day key (has_kept rows row key has)))
   ]
     where
-      last : day_key key.date ≡ row.key → (o : Option Row) → row_at rows key ≡ o → ⊥
+      last : day_key key.date ≡ row.key → (o : Option SummaryRow) → row_at rows key ≡ o → ⊥
       last is (Some r) e = not_below_day key (form key has) (ap (λ (k : Key). key_cmp key k) is ∙ below_row key r e)
       last is None e = false≢true (sym (ap is_some e) ∙ has)
 
@@ -75,7 +75,7 @@ module _ (rows : List Row) (row : Row) (good : RowsAreGood (rows ++ row ∷ []))
     where
       nothing : row_at rows (day_key date) ≡ None → let d = sums_at rows (day_key date) in SumsWithin (layer_rows layer date rows) d.hits d.bytes d.micros
       nothing none =
-          let empty : layer_rows layer date rows ≡ [] = filter_none (λ (r : Row). (r.key.date == date) && in_layer layer r.key) rows (λ k d lt e.
+          let empty : layer_rows layer date rows ≡ [] = filter_none (λ (r : SummaryRow). (r.key.date == date) && in_layer layer r.key) rows (λ k d lt e.
           let is = in_panel_and_day layer date (get_or rows k d).key e in
           let has : HasRow rows (day_key date) = subst (λ (n : ℕ). HasRow rows (day_key n)) is.1 (day (get_or rows k d).key (has_own rows k d lt)) in
           false≢true (sym (ap is_some none) ∙ has)) in
@@ -105,8 +105,8 @@ module _ (rows : List Row) (row : Row) (good : RowsAreGood (rows ++ row ∷ []))
   pub good_before : RowsAreGood rows
   good_before = record {
     ordered = record {
-      keys = rises_before key_cmp (λ (r : Row). r.key) rows row good.ordered.keys;
-      names = λ k d lt. subst (λ (r : Row). IsStrictlySortedBy name_cmp r.names) (get_or_append_left rows (row ∷ []) d k lt) (good.ordered.names k d (omega (arith, length-append rows (row ∷ []))));
+      keys = rises_before key_cmp (λ (r : SummaryRow). r.key) rows row good.ordered.keys;
+      names = λ k d lt. subst (λ (r : SummaryRow). IsStrictlySortedBy name_cmp r.names) (get_or_append_left rows (row ∷ []) d k lt) (good.ordered.names k d (omega (arith, length-append rows (row ∷ []))));
     };
     sound = record {
       form = form;
@@ -118,14 +118,14 @@ module _ (rows : List Row) (row : Row) (good : RowsAreGood (rows ++ row ∷ []))
     };
   }
 
-good_but : (d : Row) (rows : List Row) → RowsAreGood rows → (k n : ℕ) → n + k ≡ length rows → RowsAreGood (take n rows)
+good_but : (d : SummaryRow) (rows : List SummaryRow) → RowsAreGood rows → (k n : ℕ) → n + k ≡ length rows → RowsAreGood (take n rows)
 good_but d rows good zero n e = subst RowsAreGood (sym (take_all n rows (omega arith))) good
 good_but d rows good (suc k) n e =
     let within : n < length rows = omega arith in
     let longer = good_but d rows good k (n + 1) (omega arith) in
     good_before (take n rows) (get_or rows n d) (subst RowsAreGood (take_more rows n d within) longer)
 
-pub good_take : (rows : List Row) → RowsAreGood rows → (n : ℕ) → RowsAreGood (take n rows)
+pub good_take : (rows : List SummaryRow) → RowsAreGood rows → (n : ℕ) → RowsAreGood (take n rows)
 good_take [] good zero = good
 good_take [] good (suc n) = good
 good_take (first ∷ rest) good n = elim (cases_lt n (length (first ∷ rest))) [

@@ -4,11 +4,12 @@ use Rattle.std.specs.List.{AllByRecursion}
 use Rattle.std.proofs.lemmas.List.Elements.{recursion_from_All}
 use Rattle.ga_base.specs.declared.counts.Totals.{Totals}
 use Rattle.ga_summary.specs.Outcomes.{Outcome, Failed, Excluded, Counted, hits_of, totals_of}
-use Rattle.ga_summary.specs.Rows.{SummaryValue, totals_plus}
+use Rattle.ga_summary.specs.SummaryRows.{SummaryValue}
+use Rattle.ga_base.specs.Totals.{totals_plus, TotalsFit}
 use Rattle.ga_summary.specs.OneLine.{line_value}
 use Rattle.ga_summary.specs.Steps.Joined.{merged_value}
 use Rattle.ga_summary.specs.Sums.{IsSumOf}
-use Rattle.ga_summary.specs.Sound.{IsSound, IsSummary, IsCountable, AllCountable, TotalsFit}
+use Rattle.ga_summary.specs.Sound.{IsSound, IsSummary, IsCountable, AllCountable}
 use Rattle.ga_summary.proofs.Appends.{IsSumOf-append, totals_of-append}
 use Rattle.ga_summary.proofs.Lines.{lines_value, IsSumOf-lines, IsSummary-lines}
 use Rattle.ga_summary.proofs.OneLine.{IsSumOf-line, IsSummary-line}

@@ -6,11 +6,12 @@ use Rattle.ga_base.specs.declared.key.Visitor.{Visitor}
 use Rattle.ga_base.specs.declared.counts.Sums.{Sums}
 use Rattle.ga_base.specs.declared.counts.TheConstants.{BIG}
 use Rattle.ga_base.specs.declared.panel.Panel.TheVariants.{Visitors}
-use Rattle.ga_summary.specs.Rows.{Row, SummaryValue, IsInOrder, sums_at, names_at, has_pair, totals_plus}
+use Rattle.ga_summary.specs.SummaryRows.{SummaryRow, SummaryValue, IsInOrder, sums_at, names_at, has_pair}
+use Rattle.ga_base.specs.Totals.{totals_plus, TotalsFit}
 use Rattle.ga_summary.specs.Steps.Joined.{put_rows, merged_value}
 use Rattle.ga_summary.specs.Sums.{IsMerged}
 use Rattle.ga_base.specs.Layers.{HasForm}
-use Rattle.ga_summary.specs.Sound.{IsSound, TotalsFit, HasRow, layer_rows, day_rows, SumsWithin}
+use Rattle.ga_summary.specs.Sound.{IsSound, HasRow, layer_rows, day_rows, SumsWithin}
 use Rattle.ga_base.specs.Layers.{day_key, Layer, in_layer}
 use Rattle.ga_base.specs.Panels.{is_same_panel}
 use Rattle.ga_summary.proofs.Merging.{IsInOrder-put_rows, present-put_rows, sums_at-put_rows, has_pair-put_rows, length-names_at-put_rows, sum_by-filter-put_rows}
@@ -26,7 +27,7 @@ module _ (a b : SummaryValue) (s : IsInOrder a.rows) (t : IsInOrder b.rows) wher
   }
 
   module _ (x : IsSound a) (y : IsSound b) (fit : TotalsFit (totals_plus a.totals b.totals)) where
-    rows : List Row
+    rows : List SummaryRow
     rows = put_rows b.rows a.rows
 
     in_either : (key : Key) → HasRow (put_rows b.rows a.rows) key → HasRow a.rows key ⊎ HasRow b.rows key
@@ -49,11 +50,11 @@ module _ (a b : SummaryValue) (s : IsInOrder a.rows) (t : IsInOrder b.rows) wher
         let both = ap (λ (v : Sums). v.hits) (sums_at-put_rows a.rows b.rows s t key) in
         elim (in_either key has) [ inl h ↦ omega (arith, both, x.rows.hit key h) | inr h ↦ omega (arith, both, y.rows.hit key h) ]
 
-    within : (test : Key → Bool) (h m n h' m' n' : ℕ) → SumsWithin (filter (λ (row : Row). test row.key) a.rows) h m n → SumsWithin (filter (λ (row : Row). test row.key) b.rows) h' m' n' → SumsWithin (filter (λ (row : Row). test row.key) (put_rows b.rows a.rows)) (h + h') (m + m') (n + n')
+    within : (test : Key → Bool) (h m n h' m' n' : ℕ) → SumsWithin (filter (λ (row : SummaryRow). test row.key) a.rows) h m n → SumsWithin (filter (λ (row : SummaryRow). test row.key) b.rows) h' m' n' → SumsWithin (filter (λ (row : SummaryRow). test row.key) (put_rows b.rows a.rows)) (h + h') (m + m') (n + n')
     within test h m n h' m' n' p q = record {
-      hits = rw (sum_by-filter-put_rows a.rows b.rows s t (λ (row : Row). row.sums.hits) (λ _ _. refl) test) (omega (arith, p.hits, q.hits));
-      bytes = rw (sum_by-filter-put_rows a.rows b.rows s t (λ (row : Row). row.sums.bytes) (λ _ _. refl) test) (omega (arith, p.bytes, q.bytes));
-      micros = rw (sum_by-filter-put_rows a.rows b.rows s t (λ (row : Row). row.sums.micros) (λ _ _. refl) test) (omega (arith, p.micros, q.micros));
+      hits = rw (sum_by-filter-put_rows a.rows b.rows s t (λ (row : SummaryRow). row.sums.hits) (λ _ _. refl) test) (omega (arith, p.hits, q.hits));
+      bytes = rw (sum_by-filter-put_rows a.rows b.rows s t (λ (row : SummaryRow). row.sums.bytes) (λ _ _. refl) test) (omega (arith, p.bytes, q.bytes));
+      micros = rw (sum_by-filter-put_rows a.rows b.rows s t (λ (row : SummaryRow). row.sums.micros) (λ _ _. refl) test) (omega (arith, p.micros, q.micros));
     }
 
     layers : (layer : Layer) (date : ℕ) → let d = sums_at (put_rows b.rows a.rows) (day_key date) in SumsWithin (layer_rows layer date (put_rows b.rows a.rows)) d.hits d.bytes d.micros

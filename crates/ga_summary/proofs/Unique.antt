@@ -12,7 +12,7 @@ use Rattle.ga_base.specs.declared.name.Name.{Name}
 use Rattle.ga_base.specs.Orders.{key_cmp, name_cmp, is_same_name}
 use Rattle.ga_summary.specs.Outcomes.{Outcome}
 use Rattle.ga_summary.specs.Steps.Places.{Rises, find_at}
-use Rattle.ga_summary.specs.Rows.{Row, SummaryValue, IsInOrder, row_at, sums_at, has_name, has_pair}
+use Rattle.ga_summary.specs.SummaryRows.{SummaryRow, SummaryValue, IsInOrder, row_at, sums_at, has_name, has_pair}
 use Rattle.ga_summary.specs.Sums.{IsSumOf, IsMerged}
 use Rattle.ga_summary.proofs.Put.{Above, rises_head, rises_tail, above_more, above_same, find_above, equal_from_is_eq, Some≢None}
 use Rattle.ga_summary.proofs.NameLists.{any-find, names_rise}
@@ -89,25 +89,25 @@ same_names xs ys s t same = same_from_find name_cmp name_cmp_total (λ n. n) xs 
     found name = pick name _ _ refl refl (sym (any-find (λ n. is_same_name name n) xs) ∙ same name ∙ any-find (λ n. is_same_name name n) ys)
 
 -- rows in order in which the same is found are one list
-pub same_rows : (a b : List Row) → IsInOrder a → IsInOrder b → ((key : Key) → is_some (row_at a key) ≡ is_some (row_at b key)) → ((key : Key) → sums_at a key ≡ sums_at b key) → ((key : Key) (visitor : Visitor) → has_pair a key visitor ≡ has_pair b key visitor) → a ≡ b
-same_rows a b s t present sums pairs = same_from_find key_cmp key_cmp_total (λ (row : Row). row.key) a b s.keys t.keys (λ key. pick key _ _ refl refl (present key))
+pub same_rows : (a b : List SummaryRow) → IsInOrder a → IsInOrder b → ((key : Key) → is_some (row_at a key) ≡ is_some (row_at b key)) → ((key : Key) → sums_at a key ≡ sums_at b key) → ((key : Key) (visitor : Visitor) → has_pair a key visitor ≡ has_pair b key visitor) → a ≡ b
+same_rows a b s t present sums pairs = same_from_find key_cmp key_cmp_total (λ (row : SummaryRow). row.key) a b s.keys t.keys (λ key. pick key _ _ refl refl (present key))
   where
-    key_of : (rows : List Row) (key : Key) (row : Row) → row_at rows key ≡ Some row → row.key ≡ key
-    key_of rows key row e = sym (key_cmp_exact key row.key (find_is key_cmp key_cmp_total (λ (r : Row). r.key) key rows row e))
+    key_of : (rows : List SummaryRow) (key : Key) (row : SummaryRow) → row_at rows key ≡ Some row → row.key ≡ key
+    key_of rows key row e = sym (key_cmp_exact key row.key (find_is key_cmp key_cmp_total (λ (r : SummaryRow). r.key) key rows row e))
 
-    same_row : (x y : Row) → x.key ≡ y.key → x.sums ≡ y.sums → x.names ≡ y.names → x ≡ y
+    same_row : (x y : SummaryRow) → x.key ≡ y.key → x.sums ≡ y.sums → x.names ≡ y.names → x ≡ y
     same_row x y k m n = λ i. record { key = k i; sums = m i; names = n i }
 
     visitor_of : Key → Name → Visitor
     visitor_of key name = record { host = name.host; date = key.date; agent = name.agent }
 
-    names_same : (key : Key) (x y : Row) → row_at a key ≡ Some x → row_at b key ≡ Some y → (name : Name) → has_name x.names name ≡ has_name y.names name
+    names_same : (key : Key) (x y : SummaryRow) → row_at a key ≡ Some x → row_at b key ≡ Some y → (name : Name) → has_name x.names name ≡ has_name y.names name
     names_same key x y e f name =
         let left : has_pair a key (visitor_of key name) ≡ has_name x.names name = rw (e, eq-eqb key.date key.date refl) in
         let right : has_pair b key (visitor_of key name) ≡ has_name y.names name = rw (f, eq-eqb key.date key.date refl) in
         sym left ∙ pairs key (visitor_of key name) ∙ right
 
-    pick : (key : Key) (x y : Option Row) → row_at a key ≡ x → row_at b key ≡ y → is_some x ≡ is_some y → x ≡ y
+    pick : (key : Key) (x y : Option SummaryRow) → row_at a key ≡ x → row_at b key ≡ y → is_some x ≡ is_some y → x ≡ y
     pick key None None e f h = refl
     pick key None (Some y) e f h = absurd (false≢true h)
     pick key (Some x) None e f h = absurd (false≢true (sym h))
@@ -115,7 +115,7 @@ same_rows a b s t present sums pairs = same_from_find key_cmp key_cmp_total (λ 
         let sums_left : sums_at a key ≡ x.sums = rw e in
         let sums_right : sums_at b key ≡ y.sums = rw f in
         ap Some (same_row x y (key_of a key x e ∙ sym (key_of b key y f)) (sym sums_left ∙ sums key ∙ sums_right)
-        (same_names x.names y.names (all-row_at (λ (r : Row). IsStrictlySortedBy name_cmp r.names) a key x s.names e) (all-row_at (λ (r : Row). IsStrictlySortedBy name_cmp r.names) b key y t.names f) (names_same key x y e f)))
+        (same_names x.names y.names (all-row_at (λ (r : SummaryRow). IsStrictlySortedBy name_cmp r.names) a key x s.names e) (all-row_at (λ (r : SummaryRow). IsStrictlySortedBy name_cmp r.names) b key y t.names f) (names_same key x y e f)))
 
 -- outcomes have one sum
 pub one_sum : (outcomes : List Outcome) (a b : SummaryValue) → IsSumOf outcomes a → IsSumOf outcomes b → a ≡ b

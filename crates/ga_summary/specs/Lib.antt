@@ -1,9 +1,9 @@
-pub mod Rows
+pub mod SummaryRows
 pub mod Faults
 pub mod Outcomes
 pub mod Sums
 pub mod Sound
-pub mod Parts
+pub mod SummaryParts
 pub mod Limits
 pub mod OneLine
 pub mod Steps

@@ -1,15 +1,11 @@
 -- Where a counter would pass its greatest value.
-use Rattle.std.specs.Prelude.{◌≡◌, ℕ, ◌+◌, List, [], ◌∷◌, Option, Some, None, nat_lt, if◌then◌else◌}
+use Rattle.std.specs.Prelude.{ℕ, List, [], ◌∷◌, Option, Some, None, nat_lt, if◌then◌else◌}
 use Rattle.ga_base.specs.declared.counts.TheConstants.{LIMIT}
 use Rattle.ga_base.specs.declared.counts.Totals.{Totals}
 use Rattle.ga_base.specs.declared.counts.Counter.{Counter}
 use Rattle.ga_base.specs.declared.counts.Counter.TheVariants.{Lines, Bytes, Micros}
 use Rattle.ga_summary.specs.Outcomes.{Outcome, totals_of}
-use Rattle.ga_summary.specs.Rows.{totals_plus}
-
--- each line was counted, failed or excluded
-abbrev pub LinesAdd : Totals → Type 0
-LinesAdd totals = totals.hits + totals.failed + totals.excluded ≡ totals.lines
+use Rattle.ga_base.specs.Totals.{totals_plus}
 
 -- the first of lines, bytes and micros that is above the limit, with its value
 abbrev pub passes : Totals → Option (Counter × ℕ)

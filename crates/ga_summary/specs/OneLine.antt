@@ -8,7 +8,7 @@ use Rattle.ga_base.specs.declared.record.Record.{Record}
 use Rattle.ga_base.specs.declared.name.Name.{Name}
 use Rattle.ga_base.specs.Orders.{name_of}
 use Rattle.ga_summary.specs.Outcomes.{Hit}
-use Rattle.ga_summary.specs.Rows.{Row, SummaryValue}
+use Rattle.ga_summary.specs.SummaryRows.{SummaryRow, SummaryValue}
 
 -- the names of one visitor or none
 abbrev pub names_of : Option Visitor → List Name
@@ -30,7 +30,7 @@ record_totals rec = line_totals rec.bytes (unwrap_or rec.micros 0)
 abbrev pub record_sums : Record → Sums
 record_sums rec = line_sums rec.bytes (unwrap_or rec.micros 0)
 
-abbrev pub line_row : Sums → Option Visitor → Key → Row
+abbrev pub line_row : Sums → Option Visitor → Key → SummaryRow
 line_row sums visitor key = record { key = key; sums = sums; names = names_of visitor }
 
 abbrev pub line_value : Hit → SummaryValue

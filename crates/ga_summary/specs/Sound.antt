@@ -1,42 +1,37 @@
 -- What holds of every summary: its numbers can be the sum of some lines of a log.
-use Rattle.std.specs.Prelude.{◌≡◌, ℕ, ◌+◌, ◌≤◌, ◌==◌, ◌&&◌, true, is_some, List, length, filter, sum_by, count_by, All, Contains}
+use Rattle.std.specs.Prelude.{◌≡◌, ℕ, ◌≤◌, ◌==◌, ◌&&◌, true, is_some, List, length, filter, sum_by, count_by, All, Contains}
 use Rattle.std.specs.List.Sorted.{IsStrictlySortedBy}
 use Rattle.std.specs.Option.{ForSome}
-use Rattle.ga_base.specs.declared.counts.TheConstants.{LIMIT, BIG}
+use Rattle.ga_base.specs.declared.counts.TheConstants.{BIG}
 use Rattle.ga_base.specs.declared.key.Key.{Key}
 use Rattle.ga_base.specs.declared.key.Visitor.{Visitor}
-use Rattle.ga_base.specs.declared.counts.Totals.{Totals}
 use Rattle.ga_base.specs.declared.panel.Panel.TheVariants.{Visitors}
 use Rattle.ga_base.specs.Layers.{HasForm, Layer, day_key, in_layer}
 use Rattle.ga_base.specs.Orders.{key_cmp}
 use Rattle.ga_base.specs.Panels.{is_same_panel}
+use Rattle.ga_base.specs.Totals.{LinesAdd, TotalsFit}
 use Rattle.ga_summary.specs.Outcomes.{Hit, Outcome, hits_of}
-use Rattle.ga_summary.specs.Rows.{Row, SummaryValue, IsInOrder, row_at, sums_at, names_at, has_pair}
+use Rattle.ga_summary.specs.SummaryRows.{SummaryRow, SummaryValue, IsInOrder, row_at, sums_at, names_at, has_pair}
 
 -- the rows of a layer on a day
-abbrev pub layer_rows : Layer → ℕ → List Row → List Row
+abbrev pub layer_rows : Layer → ℕ → List SummaryRow → List SummaryRow
 layer_rows layer date rows = filter (λ row. (row.key.date == date) && in_layer layer row.key) rows
 
 -- the rows of VISITORS
-abbrev pub day_rows : List Row → List Row
+abbrev pub day_rows : List SummaryRow → List SummaryRow
 day_rows rows = filter (λ row. is_same_panel row.key.panel Visitors) rows
 
 -- the rows' hits, bytes and micros sum to at most those
-pub record SumsWithin (rows : List Row) (most_hits most_bytes most_micros : ℕ) : Type 0 where
+pub record SumsWithin (rows : List SummaryRow) (most_hits most_bytes most_micros : ℕ) : Type 0 where
   pub hits : sum_by (λ row. row.sums.hits) rows ≤ most_hits
   pub bytes : sum_by (λ row. row.sums.bytes) rows ≤ most_bytes
   pub micros : sum_by (λ row. row.sums.micros) rows ≤ most_micros
 
-abbrev pub HasRow : List Row → Key → Type 0
+abbrev pub HasRow : List SummaryRow → Key → Type 0
 HasRow rows key = is_some (row_at rows key) ≡ true
 
-pub record TotalsFit (totals : Totals) : Type 0 where
-  pub lines : totals.lines ≤ LIMIT
-  pub bytes : totals.bytes ≤ LIMIT
-  pub micros : totals.micros ≤ LIMIT
-
 -- what holds of the rows alone
-pub record RowsAreSound (rows : List Row) : Type 0 where
+pub record RowsAreSound (rows : List SummaryRow) : Type 0 where
   -- each key has its form, and its day has a row
   pub form : (key : Key) → HasRow rows key → HasForm key
   pub day : (key : Key) → HasRow rows key → HasRow rows (day_key key.date)
@@ -51,7 +46,7 @@ pub record RowsAreSound (rows : List Row) : Type 0 where
 pub record TotalsAreSound (s : SummaryValue) : Type 0 where
   -- the days sum to at most the totals, which add up and fit
   pub days : SumsWithin (day_rows s.rows) s.totals.hits s.totals.bytes s.totals.micros
-  pub lines : s.totals.hits + s.totals.failed + s.totals.excluded ≡ s.totals.lines
+  pub lines : LinesAdd s.totals
   pub fit : TotalsFit s.totals
   -- a maximum is a time, and at most its key's sum
   pub times : (key : Key) → ((sums_at s.rows key).max_micros ≤ BIG) × ((sums_at s.rows key).max_micros ≤ (sums_at s.rows key).micros)

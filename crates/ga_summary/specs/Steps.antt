@@ -3,6 +3,5 @@ pub mod Places
 pub mod Entries
 pub mod Joined
 pub mod Room
-pub mod TestKeys
 pub mod Loads
 pub mod Passing

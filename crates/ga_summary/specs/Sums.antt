@@ -3,7 +3,8 @@ use Rattle.std.specs.Prelude.{◌≡◌, ◌||◌, List, nat_lt, is_some}
 use Rattle.ga_base.specs.declared.key.Key.{Key}
 use Rattle.ga_base.specs.declared.key.Visitor.{Visitor}
 use Rattle.ga_summary.specs.Outcomes.{Outcome, sums_of, has_visit, totals_of}
-use Rattle.ga_summary.specs.Rows.{SummaryValue, IsInOrder, row_at, sums_at, has_pair, sums_plus, totals_plus}
+use Rattle.ga_summary.specs.SummaryRows.{SummaryValue, IsInOrder, row_at, sums_at, has_pair, sums_plus}
+use Rattle.ga_base.specs.Totals.{totals_plus}
 
 -- s is the sum of the outcomes, and nothing else is: rows in order are known by what is found in them
 pub record IsSumOf (outcomes : List Outcome) (s : SummaryValue) : Type 0 where

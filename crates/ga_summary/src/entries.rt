@@ -1,8 +1,8 @@
 ghost use Rattle.std.specs.Prelude.{◌≡◌, ◌+◌, ◌<◌, ◌≤◌, false, true, None, Some, IfOk, MatchResult, MatchOption, [], max, vec_len, vec_capacity};
 ghost use Rattle.ga_base.specs.declared.key.Key.{Key as TheKey};
 ghost use Rattle.ga_base.specs.Orders.{key_cmp, is_same_key};
-ghost use Rattle.ga_summary.specs.Parts.{rows_in};
-ghost use Rattle.ga_summary.specs.Rows.{row_at};
+ghost use Rattle.ga_summary.specs.SummaryParts.{rows_in};
+ghost use Rattle.ga_summary.specs.SummaryRows.{row_at};
 ghost use Rattle.ga_summary.specs.Steps.Entries.{AllClosed, IsClosed, rows_of, row_of};
 ghost use Rattle.ga_summary.specs.Steps.Joined.{put_row, put_rows};
 ghost use Rattle.ga_summary.specs.Steps.Room.{HasPlace, AllHavePlace, IsClosedAt, OpenAmong, entry_at};

@@ -1,7 +1,7 @@
 ghost use Rattle.std.specs.Prelude.{◌≡◌, ◌+◌, ◌≤◌, OnOk, IfOk, length, vec_capacity};
 ghost use Rattle.std.specs.List.Sorted.{IsStrictlySortedBy};
 ghost use Rattle.ga_base.specs.Orders.{name_cmp};
-ghost use Rattle.ga_summary.specs.Rows.{amounts_of, sums_plus};
+ghost use Rattle.ga_summary.specs.SummaryRows.{amounts_of, sums_plus};
 ghost use Rattle.ga_summary.specs.Steps.Entries.{IsClosed, entry_names, names_beside, row_of};
 ghost use Rattle.ga_summary.specs.Steps.Joined.{joined, put_names};
 ghost use Rattle.ga_summary.specs.Steps.Room.{CanTake, HasNameRoom, SumsFit};
@@ -23,7 +23,7 @@ pub(crate) struct Entry {
 }
 
 /// So many names are put in their places one by one; more come in by one pass over all.
-const FEW: usize = 8;
+const FEW_NAMES: usize = 8;
 
 impl Entry {
     /// A closed entry.
@@ -107,7 +107,7 @@ impl Entry {
         if all <= self.work.capacity() {
             return Ok(());
         }
-        if count > FEW && self.work.is_empty() {
+        if count > FEW_NAMES && self.work.is_empty() {
             self.work = Vec::with_capacity(*self.work.allocator(), all)?;
             return Ok(());
         }

@@ -1,8 +1,8 @@
 ghost use Rattle.std.specs.Prelude.{◌≡◌, ◌+◌, ◌<◌, MatchOption, MatchResult, None, Some, All, length, take};
 ghost use Rattle.ga_base.specs.Layers.{HasForm, day_key};
 ghost use Rattle.ga_base.specs.Orders.{key_cmp};
-ghost use Rattle.ga_summary.specs.Parts.{IsFirstBad, RowsAreGood, row_of_part, rows_in};
-ghost use Rattle.ga_summary.specs.Rows.{SummaryValue, row_at};
+ghost use Rattle.ga_summary.specs.SummaryParts.{IsFirstBad, RowsAreGood, row_of_part, rows_in};
+ghost use Rattle.ga_summary.specs.SummaryRows.{SummaryValue, row_at};
 ghost use Rattle.ga_summary.specs.Sound.{IsSummary};
 ghost use Rattle.ga_summary.specs.Steps.Passing.{AreSumsOf, GoodUpTo, IsFirstBadRow};
 ghost use Rattle.ga_summary.specs.Steps.Places.{GoesTo, Rises, StandsAt};

@@ -2,9 +2,10 @@
 
 ghost use Rattle.std.specs.Prelude.{◌≡◌, ℕ, List, ◌++◌};
 ghost use Rattle.ga_summary.specs.Outcomes.{Outcome, totals_of};
-ghost use Rattle.ga_summary.specs.Parts.{IsFirstBad};
-ghost use Rattle.ga_summary.specs.Rows.{SummaryValue};
-ghost use Rattle.ga_summary.specs.Sound.{IsSound, IsSummary, AllCountable, TotalsFit};
+ghost use Rattle.ga_summary.specs.SummaryParts.{IsFirstBad};
+ghost use Rattle.ga_summary.specs.SummaryRows.{SummaryValue};
+ghost use Rattle.ga_summary.specs.Sound.{IsSound, IsSummary, AllCountable};
+ghost use Rattle.ga_base.specs.Totals.{TotalsFit};
 ghost use Rattle.ga_summary.specs.Sums.{IsSumOf, IsMerged};
 
 /// The sums of two lists of outcomes, merged, are the sum of one list after the other.

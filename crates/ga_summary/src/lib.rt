@@ -14,18 +14,15 @@ mod not_sound;
 mod one_line;
 mod one_pass;
 mod order;
-mod parts;
 mod room;
 mod row_tests;
 mod row_view;
 mod summary;
+mod summary_parts;
 mod totals_tests;
 
 pub use fault::MergeFault;
 pub use not_sound::NotSound;
-pub use parts::{PartRow, PartRows, SummaryParts};
 pub use row_view::RowView;
 pub use summary::Summary;
-
-#[cfg(test)]
-mod tests;
+pub use summary_parts::{PartRow, PartRows, SummaryParts};

@@ -1,14 +1,13 @@
 ghost use Rattle.std.specs.Prelude.{◌≡◌, ◌+◌, ◌<◌, ◌≤◌, ◌^◌, ◌↔◌, ℕ, Some, None, IfOk, IsErrOf};
 ghost use Rattle.ga_base.specs.declared.counts.Counter.{Counter as TheCounter};
-ghost use Rattle.ga_summary.specs.Rows.{totals_plus};
-ghost use Rattle.ga_summary.specs.Sound.{TotalsFit};
-ghost use Rattle.ga_summary.specs.Limits.{passes, LinesAdd};
+ghost use Rattle.ga_base.specs.Totals.{totals_plus, TotalsFit, LinesAdd};
+ghost use Rattle.ga_summary.specs.Limits.{passes};
 
 use crate::MergeFault;
 use ga_base::{Counter, LIMIT, Totals};
 
 /// The first of lines, bytes and micros that is above the limit, with its value.
-fn exceeded(totals: Totals) -> Option<(Counter, u64)>
+fn first_exceeded(totals: Totals) -> Option<(Counter, u64)>
     ensures { result ≡ passes totals }
 {
     if totals.lines > LIMIT {
@@ -32,15 +31,8 @@ pub(crate) fn add_totals(a: Totals, b: Totals) -> Result<Totals, MergeFault>
     ensures fit { IfOk result TotalsFit }
     ensures full { (which : TheCounter) (total : ℕ) → IsErrOf result (MergeFault.CounterFull which total) ↔ (passes (totals_plus a b) ≡ Some (which, total)) }
 {
-    let totals = Totals {
-        lines: a.lines + b.lines,
-        failed: a.failed + b.failed,
-        excluded: a.excluded + b.excluded,
-        hits: a.hits + b.hits,
-        bytes: a.bytes + b.bytes,
-        micros: a.micros + b.micros,
-    };
-    match exceeded(totals) {
+    let totals = a.plus(&b);
+    match first_exceeded(totals) {
         Some((which, total)) => Err(MergeFault::CounterFull {
             which,
             total: u128::from(total),

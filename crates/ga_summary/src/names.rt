@@ -1,7 +1,7 @@
 ghost use Rattle.std.specs.Prelude.{◌≡◌, ◌+◌, ◌<◌, ◌≤◌, MatchResult, vec_len, vec_capacity};
 ghost use Rattle.std.specs.List.Sorted.{IsStrictlySortedBy};
 ghost use Rattle.ga_base.specs.Orders.{name_cmp, name_of};
-ghost use Rattle.ga_summary.specs.Rows.{has_name};
+ghost use Rattle.ga_summary.specs.SummaryRows.{has_name};
 ghost use Rattle.ga_summary.specs.Steps.Places.{StandsAt, GoesTo};
 ghost use Rattle.ga_summary.specs.Steps.Joined.{put_name, put_names};
 

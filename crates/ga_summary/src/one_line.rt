@@ -13,11 +13,10 @@ pub(crate) fn totals_of_record(rec: &Record) -> Totals
 {
     Totals {
         lines: 1,
-        failed: 0,
-        excluded: 0,
         hits: 1,
         bytes: rec.bytes,
         micros: rec.micros.unwrap_or(0),
+        ..Totals::ZERO
     }
 }
 

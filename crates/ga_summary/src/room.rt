@@ -10,7 +10,7 @@ use crate::entry::Entry;
 use ga_base::NoMemory;
 
 /// So many entries are put in their places one by one; more come in by one pass over all.
-const FEW: usize = 32;
+const FEW_ENTRIES: usize = 32;
 
 /// Reserves room for an entry's names at the entry of its key, if it is there.
 fn reserve_names(entries: &mut Vec<Box<Entry>>, more: &Entry) -> Result<(), NoMemory>
@@ -42,7 +42,7 @@ fn reserve_places(
     ensures room { IfOk result (λ room. vec_len entries.new + length more.now ≤ max (vec_capacity entries.new) (vec_capacity room)) }
 {
     let alloc = *entries.allocator();
-    if more.len() <= FEW {
+    if more.len() <= FEW_ENTRIES {
         entries.reserve(more.len())?;
         return Ok(Vec::new(alloc));
     }

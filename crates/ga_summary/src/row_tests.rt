@@ -1,11 +1,11 @@
 ghost use Rattle.std.specs.Prelude.{◌≡◌, ◌+◌, ◌/◌, ◌%◌, ◌<◌, ◌↔◌, IsTrue, MatchOption, false, [], take, length};
 ghost use Rattle.std.specs.List.Sorted.{IsStrictlySortedBy};
 ghost use Rattle.ga_base.specs.Days.{eight_digits};
-ghost use Rattle.ga_base.specs.Layers.{HasForm, has_groups, has_requests};
+ghost use Rattle.ga_base.specs.Layers.{HasForm, has_requests};
 ghost use Rattle.ga_base.specs.Orders.{key_cmp, name_cmp};
 ghost use Rattle.ga_base.specs.declared.panel.Panel.TheVariants.{Visitors};
-ghost use Rattle.ga_summary.specs.Parts.{row_of_part, rows_in};
-ghost use Rattle.ga_summary.specs.Rows.{has_name};
+ghost use Rattle.ga_summary.specs.SummaryParts.{row_of_part, rows_in};
+ghost use Rattle.ga_summary.specs.SummaryRows.{has_name};
 ghost use Rattle.ga_summary.specs.Steps.Passing.{AllAmong, IsBehind, StandsAlone};
 ghost use Rattle.ga_summary.specs.Steps.Places.{Rises};
 
@@ -45,16 +45,6 @@ fn is_day(text: &[u8], date: u32) -> bool
     text == digits.as_slice()
 }
 
-/// Whether the entries of a panel stand in groups.
-fn has_groups(panel: Panel) -> bool
-    ensures { result ≡ has_groups panel }
-{
-    matches!(
-        panel,
-        Panel::Os | Panel::Browsers | Panel::StatusCodes | Panel::MimeType
-    )
-}
-
 /// Whether the keys of a panel have the method and the protocol.
 fn has_requests(panel: Panel) -> bool
     ensures { result ≡ has_requests panel }
@@ -88,7 +78,7 @@ fn has_form(key: &Key) -> bool
 {
     FIRST_DAY <= key.date
         && key.date <= LAST_DAY
-        && key.parent.bytes().is_empty() != has_groups(key.panel)
+        && key.parent.bytes().is_empty() != key.panel.has_groups()
         && has_day_label(key)
         && has_request_form(key)
 }

@@ -5,9 +5,10 @@ ghost use Rattle.ga_summary.specs.Limits.{passes};
 ghost use Rattle.std.specs.Option.{option_copied};
 ghost use Rattle.ga_summary.specs.OneLine.{line_value, record_totals};
 ghost use Rattle.ga_summary.specs.Outcomes.{Outcome, Counted, hit_of, lines_of};
-ghost use Rattle.ga_summary.specs.Parts.{IsFirstBad, value_of};
-ghost use Rattle.ga_summary.specs.Rows.{SummaryValue, amounts_at, has_pair, totals_plus};
-ghost use Rattle.ga_summary.specs.Sound.{IsSummary, TotalsFit, IsCountable};
+ghost use Rattle.ga_summary.specs.SummaryParts.{IsFirstBad, value_of};
+ghost use Rattle.ga_summary.specs.SummaryRows.{SummaryValue, amounts_at, has_pair};
+ghost use Rattle.ga_base.specs.Totals.{totals_plus, TotalsFit};
+ghost use Rattle.ga_summary.specs.Sound.{IsSummary, IsCountable};
 ghost use Rattle.ga_summary.specs.Sums.{IsSumOf, IsMerged};
 
 use crate::entries::{copy_all, entries_of, entry_of, place_all};
@@ -32,7 +33,7 @@ pub struct Summary {
 }
 
 impl Model for Summary {
-    ghost use Rattle.ga_summary.specs.Rows.{SummaryValue};
+    ghost use Rattle.ga_summary.specs.SummaryRows.{SummaryValue};
 
     ghost Value = { SummaryValue };
 
@@ -73,9 +74,7 @@ impl Summary {
                 lines: failed + excluded,
                 failed,
                 excluded,
-                hits: 0,
-                bytes: 0,
-                micros: 0,
+                ..Totals::ZERO
             },
             entries: Vec::new(alloc),
         }

@@ -1,8 +1,8 @@
 ghost use Rattle.std.specs.Prelude.{◌↔◌, IsTrue, All};
-ghost use Rattle.ga_summary.specs.Limits.{LinesAdd};
-ghost use Rattle.ga_summary.specs.Parts.{rows_in};
-ghost use Rattle.ga_summary.specs.Rows.{IsInOrder};
-ghost use Rattle.ga_summary.specs.Sound.{TotalsAreSound, TotalsFit, day_rows};
+ghost use Rattle.ga_base.specs.Totals.{LinesAdd, TotalsFit};
+ghost use Rattle.ga_summary.specs.SummaryParts.{rows_in};
+ghost use Rattle.ga_summary.specs.SummaryRows.{IsInOrder};
+ghost use Rattle.ga_summary.specs.Sound.{TotalsAreSound, day_rows};
 ghost use Rattle.ga_summary.specs.Steps.Loads.{LoadWithin, TimeFits, load_of};
 
 use crate::PartRow;

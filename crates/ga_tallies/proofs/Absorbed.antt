@@ -12,10 +12,10 @@ use Rattle.ga_base.specs.Orders.{is_same_key, is_same_visitor}
 use Rattle.ga_shards.specs.Steps.{all_noted}
 use Rattle.ga_shards.proofs.Noting.{stays-distinct}
 use Rattle.ga_summary.specs.Outcomes.{Outcome, sums_of, has_visit, totals_of}
-use Rattle.ga_summary.specs.Rows.{no_sums, sums_plus, totals_plus}
-use Rattle.ga_summary.specs.Sound.{TotalsFit}
+use Rattle.ga_summary.specs.SummaryRows.{no_sums, sums_plus}
+use Rattle.ga_base.specs.Totals.{totals_plus, TotalsFit}
 use Rattle.ga_summary.proofs.Appends.{sums_of-append, has_visit-append, totals_of-append}
-use Rattle.ga_numbers.specs.Numbers.{places_of}
+use Rattle.ga_numbers.specs.NotedNumbers.{places_of}
 use Rattle.ga_tallies.specs.Steps.Absorbing.{AddsSuch, IsMapped, rows_added}
 use Rattle.ga_tallies.specs.Tallies.{TallySeen, IsTallyOf}
 use Rattle.ga_tallies.proofs.AddedRows.{all-added, with_those}

@@ -10,11 +10,11 @@ use Rattle.ga_base.specs.declared.key.Key.{Key}
 use Rattle.ga_base.specs.Orders.{is_same_key}
 use Rattle.ga_shards.specs.Numbers.{noted, place_of}
 use Rattle.ga_shards.specs.Steps.{all_noted}
-use Rattle.ga_summary.specs.Rows.{no_sums, sums_plus}
-use Rattle.ga_summary.specs.Sound.{TotalsFit}
+use Rattle.ga_summary.specs.SummaryRows.{no_sums, sums_plus}
+use Rattle.ga_base.specs.Totals.{TotalsFit}
 use Rattle.ga_summary.proofs.Merging.{sums_plus-none}
-use Rattle.ga_tallies.specs.Adding.{added_at}
-use Rattle.ga_numbers.specs.Numbers.{places_of}
+use Rattle.ga_tallies.specs.Steps.Adding.{added_at}
+use Rattle.ga_numbers.specs.NotedNumbers.{places_of}
 use Rattle.ga_tallies.specs.Steps.Absorbing.{rows_added}
 use Rattle.ga_numbers.proofs.Noted.{any-noted, noted-distinct}
 use Rattle.ga_tallies.proofs.Rows.{AreWithin, no-stop, none-alike, rows-noted}

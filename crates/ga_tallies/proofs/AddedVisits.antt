@@ -8,7 +8,7 @@ use Rattle.std.proofs.lemmas.List.{get_or-set_other, get_or-set_same, length-map
 use Rattle.std.proofs.lemmas.List.Elements.{Contains-append_left, Contains-append_right, Contains-append_cases, Contains-push, Contains-push_cases}
 use Rattle.std.proofs.lemmas.Option.{slice_get-get_or, slice_get_past}
 use Rattle.smallvec.specs.SmallVec.{SmallVec}
-use Rattle.ga_tallies.specs.Adding.{AddsOne, HoldTheSame}
+use Rattle.ga_tallies.specs.Steps.Adding.{AddsOne, HoldTheSame}
 use Rattle.ga_tallies.specs.Steps.Absorbing.{AddsSuch, IsAmong, IsMapped, IsMappedItem}
 use Rattle.ga_tallies.specs.Tallies.{lists_in, pairs_from, row_pairs}
 use Rattle.ga_tallies.proofs.PairLists.{at-row, both-numbers, lists-set}

@@ -8,11 +8,10 @@ use Rattle.ga_base.specs.declared.key.Visitor.{Visitor}
 use Rattle.ga_base.specs.Orders.{is_same_key, is_same_visitor}
 use Rattle.ga_shards.specs.Steps.{all_noted}
 use Rattle.ga_summary.specs.Outcomes.{Outcome}
-use Rattle.ga_summary.specs.Rows.{totals_plus}
-use Rattle.ga_summary.specs.Sound.{TotalsFit}
-use Rattle.ga_numbers.specs.Numbers.{AreNotedInTurn, all_in_turn, numbers_in_turn, places_of}
-use Rattle.ga_tallies.specs.Adding.{HoldTheSame}
-use Rattle.ga_tallies.specs.Steps.Absorbing.{AddsSuch, CountsSeen, IsMapped, IsMoved, MoveSeen, counts_seen, moves_with, rows_added, sums_moved}
+use Rattle.ga_base.specs.Totals.{totals_plus, TotalsFit}
+use Rattle.ga_numbers.specs.NotedNumbers.{AreNotedInTurn, all_in_turn, numbers_in_turn, places_of}
+use Rattle.ga_tallies.specs.Steps.Adding.{HoldTheSame}
+use Rattle.ga_tallies.specs.Steps.Absorbing.{AddsSuch, CountsSeen, IsMapped, IsRemapped, RemappedSeen, counts_seen, remapped_with, rows_added, sums_remapped}
 use Rattle.ga_tallies.specs.Tallies.{AbsorbsAll, IsTallyOf, TallySeen, together, totals_from}
 use Rattle.ga_tallies.proofs.Absorbed.{TakesParts, absorbed}
 use Rattle.ga_numbers.proofs.Same.{same-key}
@@ -21,26 +20,26 @@ use Rattle.ga_numbers.proofs.InTurn.{numbered-within}
 use Rattle.ga_tallies.proofs.PairRows.{nothing-there}
 
 -- what others have counted, with the numbers that their keys and visitors get among these
-abbrev pub moves_among : List Key → List Visitor → List TallySeen → List MoveSeen
-moves_among keys visitors others =
-    moves_with (numbers_in_turn is_same_key keys (map (λ t. t.keys) others)) (numbers_in_turn is_same_visitor visitors (map (λ t. t.visitors) others)) (map counts_seen others)
+abbrev pub remapped_among : List Key → List Visitor → List TallySeen → List RemappedSeen
+remapped_among keys visitors others =
+    remapped_with (numbers_in_turn is_same_key keys (map (λ t. t.keys) others)) (numbers_in_turn is_same_visitor visitors (map (λ t. t.visitors) others)) (map counts_seen others)
 
 -- so they are, where keys and visitors were noted and have these numbers
-pub moves-are : (keys : List Key) (visitors : List Visitor) (others : List TallySeen) (more : List (List Key)) (numbers : List (List ℕ)) (new : List Key)
+pub remapped_tallies-are : (keys : List Key) (visitors : List Visitor) (others : List TallySeen) (more : List (List Key)) (numbers : List (List ℕ)) (new : List Key)
     (comers : List (List Visitor)) (places : List (List ℕ)) (all : List Visitor) (counts : List CountsSeen)
     → more ≡ map (λ t. t.keys) others → AreNotedInTurn is_same_key more numbers keys new
     → comers ≡ map (λ t. t.visitors) others → AreNotedInTurn is_same_visitor comers places visitors all
-    → counts ≡ map counts_seen others → moves_with numbers places counts ≡ moves_among keys visitors others
-moves-are keys visitors others more numbers new comers places all counts apart noted away met counted =
+    → counts ≡ map counts_seen others → remapped_with numbers places counts ≡ remapped_among keys visitors others
+remapped_tallies-are keys visitors others more numbers new comers places all counts apart noted away met counted =
     let first : numbers ≡ numbers_in_turn is_same_key keys (map (λ (t : TallySeen). t.keys) others) = noted.places ∙ ap (numbers_in_turn is_same_key keys) apart in
     let second : places ≡ numbers_in_turn is_same_visitor visitors (map (λ (t : TallySeen). t.visitors) others) = met.places ∙ ap (numbers_in_turn is_same_visitor visitors) away in
-    λ i. moves_with (first i) (second i) (counted i)
+    λ i. remapped_with (first i) (second i) (counted i)
 
 -- and a pair that comes by one of them is of a key that has a number then
-pub moved-within : (keys : List Key) (visitors : List Visitor) (others : List TallySeen) (p : ℕ × ℕ) → IsMoved (moves_among keys visitors others) p
+pub remapped-within : (keys : List Key) (visitors : List Visitor) (others : List TallySeen) (p : ℕ × ℕ) → IsRemapped (remapped_among keys visitors others) p
     → p.0 < length (all_in_turn is_same_key keys (map (λ t. t.keys) others))
-moved-within keys visitors [] p none = absurd none
-moved-within keys visitors (other ∷ others) p is = ⊎_elim now (moved-within (all_noted is_same_key keys other.keys) (all_noted is_same_visitor visitors other.visitors) others p) is
+remapped-within keys visitors [] p none = absurd none
+remapped-within keys visitors (other ∷ others) p is = ⊎_elim now (remapped-within (all_noted is_same_key keys other.keys) (all_noted is_same_visitor visitors other.visitors) others p) is
   where
     now : IsMapped (places_of is_same_key keys other.keys) (places_of is_same_visitor visitors other.visitors) other.pairs p
         → p.0 < length (all_in_turn is_same_key (all_noted is_same_key keys other.keys) (map (λ t. t.keys) others))
@@ -53,10 +52,10 @@ pub record TakesAll (others : List TallySeen) (old new : TallySeen) : Type 0 whe
   pub totals : new.totals ≡ totals_from old.totals others
   pub keys : new.keys ≡ all_in_turn is_same_key old.keys (map (λ t. t.keys) others)
   pub visitors : new.visitors ≡ all_in_turn is_same_visitor old.visitors (map (λ t. t.visitors) others)
-  pub sums : new.sums ≡ sums_moved (moves_among old.keys old.visitors others) old.sums
-  pub pairs : AddsSuch (IsMoved (moves_among old.keys old.visitors others)) old.pairs new.pairs
+  pub sums : new.sums ≡ sums_remapped (remapped_among old.keys old.visitors others) old.sums
+  pub pairs : AddsSuch (IsRemapped (remapped_among old.keys old.visitors others)) old.pairs new.pairs
 
--- ---- pairs that come by a move, as a list
+-- ---- pairs that come from a remapped tally, as a list
 
 abbrev both : Option ℕ → Option ℕ → List (ℕ × ℕ)
 both (Some key) (Some visitor) = (key, visitor) ∷ []
@@ -111,7 +110,7 @@ module _ (keys visitors : List ℕ) where
     only = λ p at. ⊎_elim (λ was. inl was) (λ new. inr (came-only pairs p new)) (Contains-append_cases old (came keys visitors pairs) p at);
   }
 
-  -- those of a move are there, and those of others came then
+  -- those of one are there, and those of others came then
   came-first : (pairs old new : List (ℕ × ℕ)) (Later : ℕ × ℕ → Type 0) → AddsSuch (λ p. IsMapped keys visitors pairs p ⊎ Later p) old new → AddsSuch Later (old ++ came keys visitors pairs) new
   came-first pairs old new Later adds = record {
     kept = λ p at. ⊎_elim (λ was. adds.kept p was) (λ some. adds.there p (inl (came-only pairs p some))) (Contains-append_cases old (came keys visitors pairs) p at);
@@ -188,5 +187,5 @@ absorbed-all (other ∷ others) old new takes fit before (part ∷ parts) was ar
       keys = takes.keys;
       visitors = takes.visitors;
       sums = takes.sums;
-      pairs = came-first keys visitors other.pairs old.pairs new.pairs (IsMoved (moves_among mid.keys mid.visitors others)) takes.pairs;
+      pairs = came-first keys visitors other.pairs old.pairs new.pairs (IsRemapped (remapped_among mid.keys mid.visitors others)) takes.pairs;
     }

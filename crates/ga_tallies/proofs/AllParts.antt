@@ -1,17 +1,18 @@
 -- Pairs that came to the rows of some keys and to those of the keys behind them.
-use Rattle.std.proofs.Common.{◌≡◌, ◌<◌, ℕ, ◌+◌, ⊎_elim, inl, inr, List, ◌++◌, length, Result, Ok, Err, OnOk, sym, ap, ◌∙◌, subst, arith}
+use Rattle.std.proofs.Common.{◌≡◌, ◌<◌, ℕ, ◌+◌, ⊎_elim, inl, inr, List, ◌++◌, length, Ok, Err, OnOk, refl, sym, ap, ◌∙◌, subst, arith}
 use Rattle.std.proofs.lemmas.List.{length-append, length-map, map-append}
+use Rattle.std.specs.Prelude.{Result}
+use Rattle.std.specs.Borrow.{MutBor}
+use Rattle.std.specs.Fn.{Shared}
 use Rattle.smallvec.specs.SmallVec.{SmallVec}
-use Rattle.ga_tallies.specs.Adding.{HoldTheSame}
+use Rattle.ga_base.specs.declared.no_memory.NoMemory.{NoMemory}
+use Rattle.ga_base.specs.Parts.{ChangesPart, ChangesParts}
+use Rattle.ga_base.proofs.InParts.{whole-parts}
+use Rattle.ga_tallies.specs.Steps.Adding.{HoldTheSame}
 use Rattle.ga_tallies.specs.Steps.Absorbing.{AddsSuch, IsAmong}
 use Rattle.ga_tallies.specs.Tallies.{lists_in, pairs_from}
 use Rattle.ga_tallies.proofs.AddedVisits.{among-both}
 use Rattle.ga_tallies.proofs.PairLists.{pairs-append}
-
--- what follows of two things that a success says
-pub both-ok : {T E A B C : Type 0} (result : Result T E) → (A → B → C) → OnOk result A → OnOk result B → OnOk result C
-both-ok (Ok value) so one other = so one other
-both-ok (Err fault) so one other = tt
 
 pairs-both : (s : ℕ) (low high : List (SmallVec ℕ)) → pairs_from s (lists_in (low ++ high)) ≡ pairs_from s (lists_in low) ++ pairs_from (s + length low) (lists_in high)
 pairs-both s low high =
@@ -33,6 +34,16 @@ parts-added P s many rows low high more others apart long same one two =
     (subst (λ n. AddsSuch (IsAmong s n P) (pairs_from s (lists_in (low ++ high))) (pairs_from s (lists_in (more ++ others)))) as-many
     (subst (λ l. AddsSuch (IsAmong s (length low + length high) P) l (pairs_from s (lists_in (more ++ others)))) (sym (pairs-both s low high))
     (subst (λ l. AddsSuch (IsAmong s (length low + length high) P) (pairs_from s (lists_in low) ++ pairs_from (s + length low) (lists_in high)) l) new all)))
+
+-- each part got the pairs that come to its keys
+pub added-parts : {F : Type 0} (g : Shared F (ℕ × (MutBor (List (SmallVec ℕ)) × Unit {0})) (Result (Unit {0}) NoMemory × (MutBor (List (SmallVec ℕ)) × Unit {0}))) (f : F) (P : ℕ × ℕ → Type 0)
+    → ((s : ℕ) (rows more : List (SmallVec ℕ)) → ChangesPart g f s rows (Ok tt) more → AddsSuch (IsAmong s (length rows) P) (pairs_from s (lists_in rows)) (pairs_from s (lists_in more)))
+    → (s : ℕ) (rows more : List (SmallVec ℕ)) (result : Result (Unit {0}) NoMemory) → OnOk result (ChangesParts g f s rows more)
+    → OnOk result (AddsSuch (IsAmong s (length rows) P) (pairs_from s (lists_in rows)) (pairs_from s (lists_in more)))
+added-parts g f P each s rows more (Ok value) changes =
+    whole-parts g f (λ s rows more. AddsSuch (IsAmong s (length rows) P) (pairs_from s (lists_in rows)) (pairs_from s (lists_in more))) each
+    (λ s low high more others same one two. parts-added P s (length low) (low ++ high) low high more others refl refl same one two) changes
+added-parts g f P each s rows more (Err fault) changes = tt
 
 -- all pairs that come are of these keys
 pub among-all : (P : ℕ × ℕ → Type 0) (many : ℕ) (old made new : List (ℕ × ℕ)) → HoldTheSame old made → ((p : ℕ × ℕ) → P p → p.0 < many) → AddsSuch (IsAmong 0 many P) made new → AddsSuch P old new

@@ -1,8 +1,7 @@
 -- The totals of tallies, added up.
 use Rattle.std.proofs.Common.{List, [], ◌∷◌, ◌++◌, ◌≡◌, refl, arith}
 use Rattle.ga_base.specs.declared.counts.Totals.{Totals}
-use Rattle.ga_summary.specs.Rows.{totals_plus}
-use Rattle.ga_summary.specs.Sound.{TotalsFit}
+use Rattle.ga_base.specs.Totals.{totals_plus, TotalsFit}
 use Rattle.ga_tallies.specs.Tallies.{TallySeen, totals_from}
 
 -- what they were added up to fits where all of them fit

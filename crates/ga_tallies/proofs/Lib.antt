@@ -14,7 +14,7 @@ pub mod Taking
 pub mod AddedRows
 pub mod AddedVisits
 pub mod AllParts
-pub mod Moves
+pub mod Remapped
 pub mod AllTotals
 pub mod Absorbed
 pub mod AllAbsorbed

@@ -2,7 +2,7 @@
 use Rattle.std.proofs.Common.{[], refl, arith}
 use Rattle.std.specs.List.{IsDistinct}
 use Rattle.std.proofs.lemmas.Bool.{false≢true}
-use Rattle.ga_outcomes.specs.Counting.{no_totals}
+use Rattle.ga_base.specs.Totals.{no_totals}
 use Rattle.ga_tallies.specs.Tallies.{TallySeen, IsTallyOf}
 
 abbrev pub no_tally : TallySeen

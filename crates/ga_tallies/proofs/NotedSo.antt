@@ -5,8 +5,8 @@ use Rattle.ga_base.specs.declared.counts.Sums.{Sums}
 use Rattle.ga_base.specs.declared.key.Key.{Key}
 use Rattle.ga_base.specs.declared.key.Visitor.{Visitor}
 use Rattle.ga_base.specs.Orders.{is_same_key, is_same_visitor}
-use Rattle.ga_numbers.specs.Numbers.{IsNumbered}
-use Rattle.ga_tallies.specs.Adding.{added_at}
+use Rattle.ga_numbers.specs.NotedNumbers.{IsNumbered}
+use Rattle.ga_tallies.specs.Steps.Adding.{added_at}
 use Rattle.ga_tallies.specs.Steps.Notes.{AddsVisit, NotesKey, NotesOne}
 use Rattle.ga_tallies.specs.Tallies.{TallySeen}
 

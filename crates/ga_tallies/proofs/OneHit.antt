@@ -11,8 +11,7 @@ use Rattle.ga_base.specs.Orders.{is_same_key, is_same_visitor}
 use Rattle.ga_shards.specs.Numbers.{noted}
 use Rattle.ga_summary.specs.OneLine.{line_sums, line_totals}
 use Rattle.ga_summary.specs.Outcomes.{Outcome, Counted}
-use Rattle.ga_summary.specs.Rows.{totals_plus}
-use Rattle.ga_summary.specs.Sound.{TotalsFit}
+use Rattle.ga_base.specs.Totals.{totals_plus, TotalsFit}
 use Rattle.ga_tallies.specs.Steps.Notes.{NotesKey, NotesKeys, NotesVisitor}
 use Rattle.ga_tallies.specs.Tallies.{TallySeen, IsTallyOf}
 use Rattle.ga_numbers.proofs.Noted.{kept, noted-distinct, place-cases}

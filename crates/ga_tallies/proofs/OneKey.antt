@@ -10,7 +10,8 @@ use Rattle.ga_base.specs.declared.key.Visitor.{Visitor}
 use Rattle.ga_base.specs.Orders.{is_same_key}
 use Rattle.ga_summary.specs.OneLine.{line_sums, line_totals}
 use Rattle.ga_summary.specs.Outcomes.{Hit, Outcome, Counted, has_key, is_by, greatest_time, hits_at, sums_of, has_visit, totals_of}
-use Rattle.ga_summary.specs.Rows.{no_sums, sums_plus, totals_plus}
+use Rattle.ga_summary.specs.SummaryRows.{no_sums, sums_plus}
+use Rattle.ga_base.specs.Totals.{totals_plus}
 use Rattle.ga_summary.proofs.Appends.{sums_of-append, has_visit-append, totals_of-append}
 use Rattle.ga_summary.proofs.Lines.{same_totals}
 use Rattle.ga_summary.proofs.Merging.{same_sums, sums_plus-none}

@@ -19,8 +19,9 @@ use Rattle.ga_panels.specs.declared.setup.PanelSetup.{PanelSetup}
 use Rattle.ga_summary.specs.OneLine.{record_sums, record_totals}
 use Rattle.ga_summary.specs.Outcomes.{Hit, Outcome, Counted, hit_of, hits_of, sums_of, has_visit, totals_of}
 use Rattle.ga_summary.specs.Outcomes as outcomes
-use Rattle.ga_summary.specs.Rows.{no_sums, sums_plus, totals_plus}
-use Rattle.ga_summary.specs.Sound.{AllCountable, IsCountable, TotalsFit}
+use Rattle.ga_summary.specs.SummaryRows.{no_sums, sums_plus}
+use Rattle.ga_base.specs.Totals.{totals_plus, TotalsFit}
+use Rattle.ga_summary.specs.Sound.{AllCountable, IsCountable}
 use Rattle.ga_summary.proofs.Appends.{sums_of-append, has_visit-append, totals_of-append}
 use Rattle.ga_summary.proofs.Lines.{same_totals}
 use Rattle.ga_summary.proofs.Merging.{sums_plus-none}

@@ -10,7 +10,7 @@ use Rattle.std.proofs.lemmas.List.Kept.{Contains-dedup, Contains-from_dedup}
 use Rattle.std.proofs.lemmas.List.Sorted.{Contains-permutation, IsPermutation-sym}
 use Rattle.std.proofs.lemmas.Option.{IfSome_then}
 use Rattle.smallvec.specs.SmallVec.{SmallVec}
-use Rattle.ga_tallies.specs.Adding.{AddsOne, AreThere, HoldTheSame, KeepsAll}
+use Rattle.ga_tallies.specs.Steps.Adding.{AddsOne, AreThere, HoldTheSame, KeepsAll}
 use Rattle.ga_tallies.specs.Tallies.{lists_in, pair_of, pairs_from, pairs_in, row_pairs}
 use Rattle.ga_tallies.specs.declared.pairs.Pair.{Pair}
 use Rattle.ga_tallies.proofs.PairRows.{row_at, row-of-pair, pair-of-row}
@@ -18,9 +18,9 @@ use Rattle.ga_numbers.proofs.Same.{exact-laws}
 
 -- numbers of which the same are one hold the same as before
 pub equals-dropped : (xs ys : List ℕ) → IsPermutation xs ys → HoldTheSame xs (dedup (λ a b. a == b) ys)
-equals-dropped xs ys moved = record {
-  kept = λ x at. Contains-dedup (exact-laws (λ a b. a == b) (λ a. eq-eqb a a refl) eqb-true) eqb-true ys x (Contains-permutation xs ys x moved at);
-  only = λ x at. Contains-permutation ys xs x (IsPermutation-sym xs ys moved) (Contains-from_dedup (λ a b. a == b) ys x at);
+equals-dropped xs ys remapped = record {
+  kept = λ x at. Contains-dedup (exact-laws (λ a b. a == b) (λ a. eq-eqb a a refl) eqb-true) eqb-true ys x (Contains-permutation xs ys x remapped at);
+  only = λ x at. Contains-permutation ys xs x (IsPermutation-sym xs ys remapped) (Contains-from_dedup (λ a b. a == b) ys x at);
 }
 
 pub holds-itself : {T : Type 0} (xs : List T) → HoldTheSame xs xs

@@ -9,9 +9,9 @@ use Rattle.ga_base.specs.declared.key.Visitor.{Visitor}
 use Rattle.ga_base.specs.Orders.{is_same_key, is_same_visitor}
 use Rattle.ga_shards.specs.Numbers.{noted, place_of}
 use Rattle.ga_summary.specs.Outcomes.{Outcome, is_by, sums_of, has_visit, totals_of}
-use Rattle.ga_summary.specs.Rows.{sums_plus}
-use Rattle.ga_summary.specs.Sound.{TotalsFit}
-use Rattle.ga_tallies.specs.Adding.{added_at}
+use Rattle.ga_summary.specs.SummaryRows.{sums_plus}
+use Rattle.ga_base.specs.Totals.{TotalsFit}
+use Rattle.ga_tallies.specs.Steps.Adding.{added_at}
 use Rattle.ga_tallies.specs.Steps.Notes.{AddsVisit, NotesKey}
 use Rattle.ga_tallies.specs.Tallies.{TallySeen, IsTallyOf}
 use Rattle.ga_numbers.proofs.Noted.{any-noted, kept, noted-distinct, or-false, or-true}

@@ -15,10 +15,10 @@ use Rattle.ga_shards.specs.Numbers.{noted, place_of}
 use Rattle.ga_shards.proofs.Noting.{first-within}
 use Rattle.ga_shards.proofs.Room.{filter-short}
 use Rattle.ga_summary.specs.Outcomes.{Hit, Outcome, Failed, Excluded, Counted, has_key, hits_of, sums_of, totals_of}
-use Rattle.ga_summary.specs.Rows.{no_sums, sums_plus}
-use Rattle.ga_summary.specs.Sound.{TotalsFit}
+use Rattle.ga_summary.specs.SummaryRows.{no_sums, sums_plus}
+use Rattle.ga_base.specs.Totals.{TotalsFit}
 use Rattle.ga_summary.proofs.Merging.{same_sums, none-sums_plus, sum_by-filter}
-use Rattle.ga_tallies.specs.Adding.{added_at, stopped, with_line}
+use Rattle.ga_tallies.specs.Steps.Adding.{added_at, stopped, with_line}
 use Rattle.ga_numbers.proofs.Noted.{noted-cases, place-absent}
 use Rattle.ga_numbers.proofs.Same.{key-itself, same-key}
 

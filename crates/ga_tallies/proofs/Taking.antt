@@ -2,8 +2,9 @@
 use Rattle.std.proofs.Common.{◌≡◌, ℕ, List, [], ◌∷◌, ◌++◌, Option, Some, None, refl, sym, ap, ◌∙◌, subst, append_assoc, append-nil}
 use Rattle.std.proofs.lemmas.List.Elements.{All-append}
 use Rattle.ga_summary.specs.Outcomes.{Hit, Outcome, Failed, Excluded, Counted, hits_of, totals_of}
-use Rattle.ga_summary.specs.Sound.{AllCountable, IsCountable, TotalsFit}
-use Rattle.ga_outcomes.specs.Counting.{listed}
+use Rattle.ga_summary.specs.Sound.{AllCountable, IsCountable}
+use Rattle.ga_base.specs.Totals.{TotalsFit}
+use Rattle.ga_outcomes.specs.LineOutcomes.{listed}
 use Rattle.ga_tallies.specs.Steps.OneLine.{OverfillsLine, TakesLine}
 use Rattle.ga_tallies.specs.Tallies.{IsTallyOf, Overfills, TakesIn, TallySeen}
 use Rattle.ga_outcomes.specs.declared.setup.Setup.{Setup}
@@ -13,7 +14,7 @@ use Rattle.ga_tallies.proofs.OneLine.{none-countable}
 pub takes-none : (setup : Setup) (t : TallySeen) → TakesIn setup [] t t
 takes-none setup t = record {
   outcomes = [];
-  come = refl;
+  have_outcomes = refl;
   countable = none-countable;
   tally = λ before is. subst (λ (os : List Outcome). IsTallyOf os t) (sym (append-nil before)) is;
 }
@@ -33,7 +34,7 @@ both-countable (Some (Counted hit)) rest h k = All-append (λ (x : Hit). (date :
 pub takes-more : (setup : Setup) (line : List ℕ) (rest : List (List ℕ)) (old mid new : TallySeen) → TakesLine setup line old mid → TakesIn setup rest mid new → TakesIn setup (line ∷ rest) old new
 takes-more setup line rest old mid new (said, says, one) more = record {
   outcomes = listed one.outcome more.outcomes;
-  come = (one.outcome, more.outcomes, (said, says, one.is), more.come, refl);
+  have_outcomes = (one.outcome, more.outcomes, (said, says, one.is), more.have_outcomes, refl);
   countable = both-countable one.outcome more.outcomes one.countable more.countable;
   tally = λ before is.
       let along : (before ++ listed one.outcome []) ++ more.outcomes ≡ before ++ listed one.outcome more.outcomes =
@@ -48,7 +49,7 @@ overfills-here setup line rest old (said, says, one) before is = record {
   back = rest;
   split = refl;
   outcomes = one.outcome ∷ [];
-  come = (Some one.outcome, [], (said, says, one.is), refl, refl);
+  have_outcomes = (Some one.outcome, [], (said, says, one.is), refl, refl);
   full = one.full before is;
 }
 
@@ -63,6 +64,6 @@ overfills-later setup line rest old mid (said, says, one) more before is =
       back = later.back;
       split = ap (λ (ls : List (List ℕ)). line ∷ ls) later.split;
       outcomes = listed one.outcome later.outcomes;
-      come = (one.outcome, later.outcomes, (said, says, one.is), later.come, refl);
+      have_outcomes = (one.outcome, later.outcomes, (said, says, one.is), later.have_outcomes, refl);
       full = subst (λ (os : List Outcome). ¬ TotalsFit (totals_of os)) along later.full;
     }

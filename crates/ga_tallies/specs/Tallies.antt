@@ -8,11 +8,11 @@ use Rattle.ga_base.specs.declared.key.Key.{Key}
 use Rattle.ga_base.specs.declared.key.Visitor.{Visitor}
 use Rattle.ga_base.specs.Orders.{is_same_key, is_same_visitor}
 use Rattle.ga_summary.specs.Outcomes.{Outcome, sums_of, has_visit, totals_of}
-use Rattle.ga_summary.specs.Rows.{totals_plus}
-use Rattle.ga_summary.specs.Sound.{AllCountable, TotalsFit}
-use Rattle.ga_outcomes.specs.Counting.{Come}
+use Rattle.ga_base.specs.Totals.{totals_plus, TotalsFit}
+use Rattle.ga_summary.specs.Sound.{AllCountable}
+use Rattle.ga_outcomes.specs.LineOutcomes.{HaveOutcomes}
 use Rattle.ga_tallies.specs.declared.pairs.Pair.{Pair}
-use Rattle.ga_tallies.specs.declared.parts.TallyParts.{TallyParts}
+use Rattle.ga_tallies.specs.declared.tally_parts.TallyParts.{TallyParts}
 use Rattle.ga_outcomes.specs.declared.setup.Setup.{Setup}
 
 -- a tally as contracts see it
@@ -78,7 +78,7 @@ seen_in parts = record {
 -- a tally took in these lines, behind the outcomes that it was of
 pub record TakesIn (setup : Setup) (all : List (List ℕ)) (old new : TallySeen) : Type 0 where
   pub outcomes : List Outcome
-  pub come : Come setup all outcomes
+  pub have_outcomes : HaveOutcomes setup all outcomes
   pub countable : AllCountable outcomes
   pub tally : (before : List Outcome) → IsTallyOf before old → IsTallyOf (before ++ outcomes) new
 
@@ -88,7 +88,7 @@ pub record PassesLimit (setup : Setup) (before : List Outcome) (all : List (List
   pub back : List (List ℕ)
   pub split : all ≡ front ++ back
   pub outcomes : List Outcome
-  pub come : Come setup front outcomes
+  pub have_outcomes : HaveOutcomes setup front outcomes
   pub full : ¬ TotalsFit (totals_of (before ++ outcomes))
 
 -- whatever the tally is of, these lines behind it are too much

@@ -1,18 +1,18 @@
 ghost use Rattle.std.specs.Prelude.{◌≡◌, ◌<◌, ℕ, IfOk, OnOk, map};
 ghost use Rattle.ga_base.specs.Orders.{is_same_key, is_same_visitor};
-ghost use Rattle.ga_numbers.specs.Numbers.{AreNotedInTurn};
-ghost use Rattle.ga_summary.specs.Sound.{TotalsFit};
-ghost use Rattle.ga_tallies.specs.Adding.{HoldTheSame};
-ghost use Rattle.ga_tallies.specs.Steps.Absorbing.{AddsSuch, IsBrought, IsMoved, move_of, rows_added, sums_moved};
+ghost use Rattle.ga_numbers.specs.NotedNumbers.{AreNotedInTurn};
+ghost use Rattle.ga_base.specs.Totals.{TotalsFit};
+ghost use Rattle.ga_tallies.specs.Steps.Adding.{HoldTheSame};
+ghost use Rattle.ga_tallies.specs.Steps.Absorbing.{AddsSuch, IsBrought, IsRemapped, remapped_seen, rows_added, sums_remapped};
 ghost use Rattle.ga_tallies.specs.Tallies.{AbsorbsAll, totals_from};
 
 use crate::Tally;
-use crate::apart::{take_apart, totals_with};
-use crate::moved::{Moved, moves_of};
-use crate::noting::add_line;
+use crate::note_keys::add_line;
 use crate::pairs::PairList;
+use crate::remapped_tally::{RemappedTally, remap_tallies};
+use crate::tally_columns::{into_columns, totals_with};
 use ga_base::{NoMemory, Sums};
-use ga_numbers::{Grown, KeyNumbers, VisitorNumbers};
+use ga_numbers::{Extended, KeyNumbers, VisitorNumbers};
 use std::alloc::Global;
 use std::thread::{self, Threads};
 
@@ -30,7 +30,7 @@ impl Tally {
         ensures absorbed { IfOk result (AbsorbsAll others.items self) }
     {
         let totals = totals_with(self.totals, &others);
-        let others = take_apart(alloc, others)?;
+        let others = into_columns(alloc, others)?;
         let ((keys, pairs), visitors) = note_both(
             rt,
             alloc,
@@ -40,9 +40,9 @@ impl Tally {
             others.keys,
             others.visitors,
         )?;
-        let moves = moves_of(alloc, keys.numbers, visitors.numbers, others.counts)?;
+        let remapped_tallies = remap_tallies(alloc, keys.numbers, visitors.numbers, others.counts)?;
         let many = keys.known.len() as usize;
-        let (sums, pairs) = add_moves(rt, many, self.sums, pairs, moves)?;
+        let (sums, pairs) = add_remapped(rt, many, self.sums, pairs, remapped_tallies)?;
         Ok(Tally {
             totals,
             keys: keys.known,
@@ -63,16 +63,16 @@ fn note_both<R: Threads + Sync>(
     pairs: PairList,
     more_keys: Vec<KeyNumbers>,
     more_visitors: Vec<VisitorNumbers>,
-) -> Result<((Grown<KeyNumbers>, PairList), Grown<VisitorNumbers>), NoMemory>
+) -> Result<((Extended<KeyNumbers>, PairList), Extended<VisitorNumbers>), NoMemory>
     ensures keys { IfOk result (λ both. AreNotedInTurn is_same_key more_keys.items (map (λ l. l.items) both.0.0.numbers.items) keys both.0.0.known) }
     ensures pairs { IfOk result (λ both. HoldTheSame pairs both.0.1) }
     ensures visitors { IfOk result (λ both. AreNotedInTurn is_same_visitor more_visitors.items (map (λ l. l.items) both.1.numbers.items) visitors both.1.known) }
 {
-    let note_keys = move || -> Result<(Grown<KeyNumbers>, PairList), NoMemory>
+    let note_keys = move || -> Result<(Extended<KeyNumbers>, PairList), NoMemory>
         ensures { IfOk result (λ both. AreNotedInTurn is_same_key more_keys.items (map (λ l. l.items) both.0.numbers.items) keys both.0.known × HoldTheSame pairs both.1) }
     { keys_with_rows(rt, alloc, keys, more_keys, pairs) };
-    let note_visitors = move || -> Result<Grown<VisitorNumbers>, NoMemory>
-        ensures { IfOk result (λ grown. AreNotedInTurn is_same_visitor more_visitors.items (map (λ l. l.items) grown.numbers.items) visitors grown.known) }
+    let note_visitors = move || -> Result<Extended<VisitorNumbers>, NoMemory>
+        ensures { IfOk result (λ extended. AreNotedInTurn is_same_visitor more_visitors.items (map (λ l. l.items) extended.numbers.items) visitors extended.known) }
     { visitors.with(rt, alloc, more_visitors) };
     let (keys, visitors) = thread::join(rt, note_keys, note_visitors);
     Ok((keys?, visitors?))
@@ -85,60 +85,60 @@ fn keys_with_rows<R: Threads + Sync>(
     keys: KeyNumbers,
     others: Vec<KeyNumbers>,
     pairs: PairList,
-) -> Result<(Grown<KeyNumbers>, PairList), NoMemory>
+) -> Result<(Extended<KeyNumbers>, PairList), NoMemory>
     ensures keys { IfOk result (λ both. AreNotedInTurn is_same_key others.items (map (λ l. l.items) both.0.numbers.items) keys both.0.known) }
     ensures pairs { IfOk result (λ both. HoldTheSame pairs both.1) }
 {
-    let grown = keys.with(rt, alloc, others)?;
-    let many = grown.known.len() as usize;
-    Ok((grown, pairs.with_rows(many)?))
+    let extended = keys.with(rt, alloc, others)?;
+    let many = extended.known.len() as usize;
+    Ok((extended, pairs.with_rows(many)?))
 }
 
 /// Adds what others have counted to the sums and pairs of so many keys, one after the other. What one of them has counted is
 /// dropped while the next is added.
-fn add_moves<R: Threads + Sync>(
+fn add_remapped<R: Threads + Sync>(
     rt: &R,
     keys: usize,
     sums: Vec<Sums>,
     pairs: PairList,
-    moves: Vec<Moved>,
+    remapped_tallies: Vec<RemappedTally>,
 ) -> Result<(Vec<Sums>, PairList), NoMemory>
-    requires { (pair : ℕ × ℕ) → IsMoved (map move_of moves.items) pair → pair.0 < keys }
-    ensures sums { IfOk result (λ both. both.0.items ≡ sums_moved (map move_of moves.items) sums.items) }
-    ensures pairs { IfOk result (λ both. AddsSuch (IsMoved (map move_of moves.items)) pairs both.1) }
+    requires { (pair : ℕ × ℕ) → IsRemapped (map remapped_seen remapped_tallies.items) pair → pair.0 < keys }
+    ensures sums { IfOk result (λ both. both.0.items ≡ sums_remapped (map remapped_seen remapped_tallies.items) sums.items) }
+    ensures pairs { IfOk result (λ both. AddsSuch (IsRemapped (map remapped_seen remapped_tallies.items)) pairs both.1) }
 {
     let mut sums = sums;
     let mut pairs = pairs;
     let mut added = None;
-    for moved in moves {
-        (sums, pairs) = add_next(rt, keys, sums, pairs, &moved, added)?;
-        added = Some(moved);
+    for remapped in remapped_tallies {
+        (sums, pairs) = add_next(rt, keys, sums, pairs, &remapped, added)?;
+        added = Some(remapped);
     }
     Ok((sums, pairs))
 }
 
-/// Adds what another has counted to sums and to pairs, and drops beside it what was added before.
+/// Adds what another has counted to sums and to pairs, and meanwhile drops what was added before.
 fn add_next<R: Threads + Sync>(
     rt: &R,
     keys: usize,
     sums: Vec<Sums>,
     pairs: PairList,
-    moved: &Moved,
-    added: Option<Moved>,
+    remapped: &RemappedTally,
+    added: Option<RemappedTally>,
 ) -> Result<(Vec<Sums>, PairList), NoMemory>
-    requires { (pair : ℕ × ℕ) → IsBrought (move_of moved.now) pair → pair.0 < keys }
-    ensures sums { IfOk result (λ both. both.0.items ≡ rows_added moved.now.keys.items moved.now.counts.sums.items sums.items) }
-    ensures pairs { IfOk result (λ both. AddsSuch (IsBrought (move_of moved.now)) pairs both.1) }
+    requires { (pair : ℕ × ℕ) → IsBrought (remapped_seen remapped.now) pair → pair.0 < keys }
+    ensures sums { IfOk result (λ both. both.0.items ≡ rows_added remapped.now.keys.items remapped.now.counts.sums.items sums.items) }
+    ensures pairs { IfOk result (λ both. AddsSuch (IsBrought (remapped_seen remapped.now)) pairs both.1) }
 {
     let Some(added) = added else {
-        return add_both(rt, keys, sums, pairs, moved);
+        return add_both(rt, keys, sums, pairs, remapped);
     };
     let forget = move || drop(added);
     let add = move || -> Result<(Vec<Sums>, PairList), NoMemory>
-        requires { (pair : ℕ × ℕ) → IsBrought (move_of moved.now) pair → pair.0 < keys }
-        ensures { IfOk result (λ both. (both.0.items ≡ rows_added moved.entry.now.keys.items moved.entry.now.counts.sums.items sums.items)
-            × AddsSuch (IsBrought (move_of moved.entry.now)) pairs both.1) }
-    { add_both(rt, keys, sums, pairs, moved) };
+        requires { (pair : ℕ × ℕ) → IsBrought (remapped_seen remapped.now) pair → pair.0 < keys }
+        ensures { IfOk result (λ both. (both.0.items ≡ rows_added remapped.entry.now.keys.items remapped.entry.now.counts.sums.items sums.items)
+            × AddsSuch (IsBrought (remapped_seen remapped.entry.now)) pairs both.1) }
+    { add_both(rt, keys, sums, pairs, remapped) };
     let ((), both) = thread::join(rt, forget, add);
     both
 }
@@ -149,19 +149,19 @@ fn add_both<R: Threads + Sync>(
     keys: usize,
     sums: Vec<Sums>,
     pairs: PairList,
-    moved: &Moved,
+    remapped: &RemappedTally,
 ) -> Result<(Vec<Sums>, PairList), NoMemory>
-    requires { (pair : ℕ × ℕ) → IsBrought (move_of moved.now) pair → pair.0 < keys }
-    ensures sums { IfOk result (λ both. both.0.items ≡ rows_added moved.now.keys.items moved.now.counts.sums.items sums.items) }
-    ensures pairs { IfOk result (λ both. AddsSuch (IsBrought (move_of moved.now)) pairs both.1) }
+    requires { (pair : ℕ × ℕ) → IsBrought (remapped_seen remapped.now) pair → pair.0 < keys }
+    ensures sums { IfOk result (λ both. both.0.items ≡ rows_added remapped.now.keys.items remapped.now.counts.sums.items sums.items) }
+    ensures pairs { IfOk result (λ both. AddsSuch (IsBrought (remapped_seen remapped.now)) pairs both.1) }
 {
     let add_sums = move || -> Result<Vec<Sums>, NoMemory>
-        ensures { IfOk result (λ added. added.items ≡ rows_added moved.entry.now.keys.items moved.entry.now.counts.sums.items sums.items) }
-    { sums_with(sums, &moved.keys, &moved.counts.sums) };
+        ensures { IfOk result (λ added. added.items ≡ rows_added remapped.entry.now.keys.items remapped.entry.now.counts.sums.items sums.items) }
+    { sums_with(sums, &remapped.keys, &remapped.counts.sums) };
     let add_pairs = move || -> Result<PairList, NoMemory>
-        requires { (pair : ℕ × ℕ) → IsBrought (move_of moved.now) pair → pair.0 < keys }
-        ensures { IfOk result (AddsSuch (IsBrought (move_of moved.entry.now)) pairs) }
-    { pairs.with(rt, keys, moved) };
+        requires { (pair : ℕ × ℕ) → IsBrought (remapped_seen remapped.now) pair → pair.0 < keys }
+        ensures { IfOk result (AddsSuch (IsBrought (remapped_seen remapped.entry.now)) pairs) }
+    { pairs.with(rt, keys, remapped) };
     let (sums, pairs) = thread::join(rt, add_sums, add_pairs);
     Ok((sums?, pairs?))
 }

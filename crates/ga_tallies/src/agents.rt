@@ -3,7 +3,7 @@ ghost use Rattle.ga_agents.specs.Classes.{agent_of};
 ghost use Rattle.ga_agents.specs.declared.row.Rule.{Rule};
 ghost use Rattle.ga_tallies.specs.Agents.{AreAgents, IsTold};
 
-use crate::places::{make_places, put_at};
+use crate::place_table::{make_places, put_at};
 use ga_agents::{Agent, Class, Rules};
 use ga_base::{NoMemory, Text};
 use ga_shards::text_hash;
@@ -90,7 +90,7 @@ impl Agents {
         ensures { AreAgents rules.now self.new }
     {
         let hash = came.hash;
-        if self.known(came).is_some() || !self.has_come(hash)? {
+        if self.known_agent(came).is_some() || !self.came_last(hash)? {
             return Ok(());
         }
         let text = Text::of(alloc, came.text)?;
@@ -99,7 +99,7 @@ impl Agents {
     }
 
     /// Whether the last agent that came to its place unknown had this hash. Now one has that has it.
-    fn has_come(&mut self, hash: u64) -> Result<bool, NoMemory>
+    fn came_last(&mut self, hash: u64) -> Result<bool, NoMemory>
         ensures { self.new ≡ self.old }
     {
         if self.came.is_empty() {
@@ -116,20 +116,20 @@ impl Agents {
         requires { AreAgents rules.now self.now }
         ensures { IsTold rules.now agent.entry.text.now (agent_of result) }
     {
-        match self.known(agent) {
+        match self.known_agent(agent) {
             Some(known) => class_in(known),
             None => rules.class_of(agent.text),
         }
     }
 
     /// What is kept of an agent.
-    pub(crate) fn known(&self, agent: AgentRef<'_>) -> Option<&Agent>
+    pub(crate) fn known_agent(&self, agent: AgentRef<'_>) -> Option<&Agent>
         ensures { (rules : List Rule) → AreAgents rules self.now →
             IfSome result (λ known. IsTold rules agent.entry.text.now known.now) }
     {
         let place = place_of(agent.hash);
         if place < self.places.len() {
-            kept_at(&self.places[place], agent)
+            agent_at(&self.places[place], agent)
         } else {
             None
         }
@@ -148,7 +148,7 @@ impl Agents {
 }
 
 /// What the agent at a place is, where it is this one.
-fn kept_at<'a>(place: &'a Option<KnownAgent>, agent: AgentRef<'_>) -> Option<&'a Agent>
+fn agent_at<'a>(place: &'a Option<KnownAgent>, agent: AgentRef<'_>) -> Option<&'a Agent>
     ensures { (rules : List Rule) → IfSome place.now (λ known. IsTold rules known.text known.agent) →
         IfSome result (λ kept. IsTold rules agent.entry.text.now kept.now) }
 {

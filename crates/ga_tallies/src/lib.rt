@@ -7,24 +7,21 @@
 
 mod absorbing;
 mod agents;
-mod apart;
-mod counting;
+mod count_line;
 mod fault;
-mod moved;
-mod noting;
+mod note_keys;
 mod pairs;
-mod parts;
-mod places;
+mod place_table;
+mod remapped_tally;
 mod tally;
+mod tally_columns;
+mod tally_parts;
 mod visiting;
 mod weighing;
 
 pub use agents::Agents;
 pub use fault::TallyFault;
-pub use pairs::{Pair, Row, pairs_of};
-pub use parts::TallyParts;
+pub use pairs::{Pair, VisitorRow, pairs_of};
 pub use tally::Tally;
+pub use tally_parts::TallyParts;
 pub use weighing::part_of;
-
-#[cfg(test)]
-mod tests;

@@ -1,11 +1,11 @@
 ghost use Rattle.std.specs.Prelude.{◌≡◌, ◌<◌, ◌≤◌, ◌++◌, [], ℕ, IfOk, IsTrue, OnOk, Some, map, vec_len};
 ghost use Rattle.std.specs.List.{Contains};
-ghost use Rattle.ga_tallies.specs.Adding.{AddsOne, HoldTheSame, KeepsAll};
-ghost use Rattle.ga_tallies.specs.Steps.Absorbing.{AddsSuch, IsBrought, move_of};
+ghost use Rattle.ga_tallies.specs.Steps.Adding.{AddsOne, HoldTheSame, KeepsAll};
+ghost use Rattle.ga_tallies.specs.Steps.Absorbing.{AddsSuch, IsBrought, remapped_seen};
 ghost use Rattle.ga_tallies.specs.Tallies.{lists_in, pair_of, pairs_in, row_pairs};
 
-use crate::moved::Moved;
-use crate::places::{make_places, put_at};
+use crate::place_table::{make_places, put_at};
+use crate::remapped_tally::RemappedTally;
 use crate::visiting::add_in_parts;
 use crate::weighing::weights_of;
 use ga_base::NoMemory;
@@ -28,13 +28,10 @@ const IN_PLACE: usize = 4;
 
 /// The visitors of a key, by their numbers. One may stand there more than once. Most keys have few visitors, for which a row
 /// takes no memory of its own.
-pub type Row = SmallVec<u32, IN_PLACE>;
+pub type VisitorRow = SmallVec<u32, IN_PLACE>;
 
 /// From so many visitors on a row is looked over for those that stand there twice, each time before it grows.
-const FEW: usize = 64;
-
-/// In so many parts the pairs of another are added to rows.
-const PARTS: u32 = 4;
+const FEW_VISITORS: usize = 64;
 
 /// So many places there are for pairs that came lately, once the first came.
 const PLACES: usize = 1 << PLACE_BITS;
@@ -49,7 +46,7 @@ const SPREAD: u64 = 0x9e37_79b9_7f4a_7c15;
 #[derive(Drop)]
 pub(crate) struct PairList {
     /// The visitors of each key, at its number. Keys behind the last row have none.
-    rows: Vec<Row>,
+    rows: Vec<VisitorRow>,
     /// Pairs that came lately, all of which stand in their rows: none before the first came, and then `PLACES` places. What
     /// stands there isn't added again.
     recent: Vec<Option<Pair>>,
@@ -57,7 +54,7 @@ pub(crate) struct PairList {
 
 impl Model for PairList {
     ghost use Rattle.std.specs.Prelude.{ℕ, List};
-    ghost use Rattle.ga_tallies.specs.Adding.{AreThere};
+    ghost use Rattle.ga_tallies.specs.Steps.Adding.{AreThere};
     ghost use Rattle.ga_tallies.specs.Tallies.{lists_in, pairs_in};
 
     ghost Value = { List (ℕ × ℕ) };
@@ -125,16 +122,16 @@ impl PairList {
         self,
         rt: &R,
         keys: usize,
-        moved: &Moved,
+        remapped: &RemappedTally,
     ) -> Result<PairList, NoMemory>
-        requires { (pair : ℕ × ℕ) → IsBrought (move_of moved.now) pair → pair.0 < keys }
-        ensures { IfOk result (AddsSuch (IsBrought (move_of moved.now)) self) }
+        requires { (pair : ℕ × ℕ) → IsBrought (remapped_seen remapped.now) pair → pair.0 < keys }
+        ensures { IfOk result (AddsSuch (IsBrought (remapped_seen remapped.now)) self) }
     {
         let mut rows = self.rows;
         let alloc = *rows.allocator();
         make_rows(&mut rows, keys)?;
-        let weights = weights_of(moved)?;
-        add_in_parts(rt, PARTS, moved, &weights, 0, &mut rows)?;
+        let weights = weights_of(remapped)?;
+        add_in_parts(rt, remapped, &weights, &mut rows)?;
         Ok(PairList {
             rows,
             recent: Vec::new(alloc),
@@ -142,7 +139,7 @@ impl PairList {
     }
 
     /// Gives the visitors of each key back, at its number.
-    pub(crate) fn into_rows(self) -> Vec<Row>
+    pub(crate) fn into_rows(self) -> Vec<VisitorRow>
         ensures { pairs_in (lists_in result.items) ≡ self }
     {
         self.rows
@@ -150,7 +147,7 @@ impl PairList {
 }
 
 /// Puts a pair into the row of its key.
-fn put_pair(rows: &mut Vec<Row>, pair: Pair) -> Result<(), NoMemory>
+fn put_pair(rows: &mut Vec<VisitorRow>, pair: Pair) -> Result<(), NoMemory>
     ensures kept { KeepsAll (pairs_in (lists_in rows.old.items)) (pairs_in (lists_in rows.new.items)) }
     ensures added { OnOk result (AddsOne (pair_of pair) (pairs_in (lists_in rows.old.items)) (pairs_in (lists_in rows.new.items))) }
 {
@@ -160,19 +157,19 @@ fn put_pair(rows: &mut Vec<Row>, pair: Pair) -> Result<(), NoMemory>
 }
 
 /// Makes rows with nothing in them, until there are so many.
-fn make_rows(rows: &mut Vec<Row>, many: usize) -> Result<(), NoMemory>
+fn make_rows(rows: &mut Vec<VisitorRow>, many: usize) -> Result<(), NoMemory>
     ensures there { OnOk result (many ≤ vec_len rows.new) }
     ensures same { HoldTheSame (pairs_in (lists_in rows.old.items)) (pairs_in (lists_in rows.new.items)) }
 {
     let alloc = *rows.allocator();
     while rows.len() < many {
-        rows.push(Row::new(alloc))?;
+        rows.push(VisitorRow::new(alloc))?;
     }
     Ok(())
 }
 
 /// Adds a visitor to a row.
-fn add_visitor(row: &mut Row, visitor: u32) -> Result<(), NoMemory>
+fn add_visitor(row: &mut VisitorRow, visitor: u32) -> Result<(), NoMemory>
     ensures kept { KeepsAll row.old.items row.new.items }
     ensures added { OnOk result (AddsOne visitor row.old.items row.new.items) }
 {
@@ -181,7 +178,7 @@ fn add_visitor(row: &mut Row, visitor: u32) -> Result<(), NoMemory>
 }
 
 /// Puts a visitor behind a row.
-fn push_visitor(row: &mut Row, visitor: u32) -> Result<(), NoMemory>
+fn push_visitor(row: &mut VisitorRow, visitor: u32) -> Result<(), NoMemory>
     ensures kept { KeepsAll row.old.items row.new.items }
     ensures added { OnOk result (AddsOne visitor row.old.items row.new.items) }
 {
@@ -190,7 +187,7 @@ fn push_visitor(row: &mut Row, visitor: u32) -> Result<(), NoMemory>
 
 /// Makes room in a row that is full: drops the visitors that stand there again, and grows the row where that leaves more than
 /// half of it taken.
-fn make_room(row: &mut Row) -> Result<(), NoMemory>
+fn make_room(row: &mut VisitorRow) -> Result<(), NoMemory>
     ensures { HoldTheSame row.old.items row.new.items }
 {
     if row.len() < row.capacity() {
@@ -201,17 +198,17 @@ fn make_room(row: &mut Row) -> Result<(), NoMemory>
 }
 
 /// Drops the visitors that stand there again, where there are more than few.
-fn thin_out(row: &mut Row)
+fn thin_out(row: &mut VisitorRow)
     ensures { HoldTheSame row.old.items row.new.items }
 {
-    if row.len() >= FEW {
+    if row.len() >= FEW_VISITORS {
         row.sort_unstable();
         row.dedup();
     }
 }
 
 /// The pairs of rows of visitors, each of which stands at its key's number.
-pub fn pairs_of(alloc: Global, rows: &[Row]) -> Result<Vec<Pair>, NoMemory>
+pub fn pairs_of(alloc: Global, rows: &[VisitorRow]) -> Result<Vec<Pair>, NoMemory>
     ensures { IfOk result (λ pairs. map pair_of pairs.items ≡ pairs_in (lists_in rows.now)) }
 {
     let mut pairs = Vec::new(alloc);

@@ -1,7 +1,6 @@
 ghost use Rattle.std.specs.Prelude.{◌≡◌, [], true, OnOk, IsErrOf};
 ghost use Rattle.ga_line.specs.Lines.{lines};
-ghost use Rattle.ga_summary.specs.Limits.{LinesAdd};
-ghost use Rattle.ga_summary.specs.Sound.{TotalsFit};
+ghost use Rattle.ga_base.specs.Totals.{LinesAdd, TotalsFit};
 ghost use Rattle.ga_tallies.specs.Agents.{AreAgents};
 ghost use Rattle.ga_tallies.specs.Tallies.{IsTallyOf, Overfills, TakesIn, seen_in};
 
@@ -32,8 +31,7 @@ pub struct Tally {
 }
 
 impl Model for Tally {
-    ghost use Rattle.ga_summary.specs.Limits.{LinesAdd};
-    ghost use Rattle.ga_summary.specs.Sound.{TotalsFit};
+    ghost use Rattle.ga_base.specs.Totals.{LinesAdd, TotalsFit};
     ghost use Rattle.ga_tallies.specs.Tallies.{TallySeen};
 
     ghost Value = { TallySeen };
@@ -49,14 +47,7 @@ impl Tally {
         ensures { IsTallyOf [] result }
     {
         Tally {
-            totals: Totals {
-                lines: 0,
-                failed: 0,
-                excluded: 0,
-                hits: 0,
-                bytes: 0,
-                micros: 0,
-            },
+            totals: Totals::ZERO,
             keys: KeyNumbers::new(alloc, keyed),
             visitors: VisitorNumbers::new(alloc, keyed),
             sums: Vec::new(alloc),

@@ -1,7 +1,7 @@
 ghost use Rattle.std.specs.Prelude.{◌<◌, ◌≤◌, ◌+◌, ◌^◌, length};
 
-use crate::Row;
-use crate::moved::Moved;
+use crate::VisitorRow;
+use crate::remapped_tally::RemappedTally;
 use ga_base::NoMemory;
 
 /// So many of the first rows are weighed, and about as many of those behind them, as far from one another as they can be.
@@ -17,13 +17,13 @@ pub(crate) struct Weight {
 }
 
 /// What keys of another weigh, by their numbers here, which rise.
-pub(crate) fn weights_of(moved: &Moved) -> Result<Vec<Weight>, NoMemory> {
-    let keys = moved.keys.len();
+pub(crate) fn weights_of(remapped: &RemappedTally) -> Result<Vec<Weight>, NoMemory> {
+    let keys = remapped.keys.len();
     let front = keys.min(WEIGHED);
     let step = (keys - front) / WEIGHED + 1;
-    let mut weights = Vec::new(*moved.keys.allocator());
-    weigh(&mut weights, moved, 0, front, 1)?;
-    weigh(&mut weights, moved, front, keys, step)?;
+    let mut weights = Vec::new(*remapped.keys.allocator());
+    weigh(&mut weights, remapped, 0, front, 1)?;
+    weigh(&mut weights, remapped, front, keys, step)?;
     weights.sort_unstable();
     Ok(weights)
 }
@@ -31,7 +31,7 @@ pub(crate) fn weights_of(moved: &Moved) -> Result<Vec<Weight>, NoMemory> {
 /// Weighs the keys of another from one place to a second, each that stands a step behind the last for as many.
 fn weigh(
     weights: &mut Vec<Weight>,
-    moved: &Moved,
+    remapped: &RemappedTally,
     from: usize,
     to: usize,
     step: usize,
@@ -39,7 +39,10 @@ fn weigh(
     requires { 0 < step }
 {
     for place in (from..to).step_by(step) {
-        if let (Some(number), Some(row)) = (moved.keys.get(place), moved.counts.visits.get(place)) {
+        if let (Some(number), Some(row)) = (
+            remapped.keys.get(place),
+            remapped.counts.visits.get(place),
+        ) {
             let weight = with_row(0, row).saturating_mul(step);
             weights.push(Weight {
                 number: *number,
@@ -50,14 +53,29 @@ fn weigh(
     Ok(())
 }
 
-/// How many of so many keys, from the one with the number `first` on, are in the first of so many parts, which weighs about as much
-/// as each of the others. Nothing but the time that the parts take depends on it.
-pub(crate) fn part_by(weights: &[Weight], first: usize, many: usize, parts: u32) -> usize
+/// So many parts are made of keys.
+const PARTS: usize = 4;
+
+/// How many of so many keys are in each of the parts, which weigh about as much as one another. Nothing but the time that the
+/// parts take depends on it.
+pub(crate) fn parts_by(weights: &[Weight], many: usize) -> [usize; PARTS] {
+    let mut lengths = [0; PARTS];
+    let mut first = 0;
+    for part in 0..PARTS {
+        let length = part_by(weights, first, many - first, PARTS - part);
+        lengths[part] = length;
+        first += length;
+    }
+    lengths
+}
+
+/// How many of so many keys, from the one with the number `first` on, are in the first of so many parts.
+fn part_by(weights: &[Weight], first: usize, many: usize, parts: usize) -> usize
     requires numbers { first + many < 2 ^ 64 }
     requires some { 0 < parts }
     ensures { result ≤ many }
 {
-    let part = weight_within(weights, first, first + many) / parts as usize;
+    let part = weight_within(weights, first, first + many) / parts;
     let mut before = 0usize;
     for own in weights {
         let number = own.number as usize;
@@ -86,7 +104,7 @@ fn weight_within(weights: &[Weight], first: usize, stop: usize) -> usize {
 /// How many of these rows are in the first of so many parts, which weighs about as much as each of the others. A row weighs what
 /// it has visitors, and one more: keys that came first have far more visitors than others. Nothing but the time that the parts take
 /// depends on it.
-pub fn part_of(rows: &[Row], parts: u32) -> usize
+pub fn part_of(rows: &[VisitorRow], parts: usize) -> usize
     requires { 0 < parts }
     ensures { result ≤ length rows.now }
 {
@@ -94,7 +112,7 @@ pub fn part_of(rows: &[Row], parts: u32) -> usize
     let step = back.len() / WEIGHED + 1;
     let first = weight_of(front, 1);
     let all = first.saturating_add(weight_of(back, step).saturating_mul(step));
-    let part = all / parts as usize;
+    let part = all / parts;
     if part <= first {
         return reach_of(front, 1, part);
     }
@@ -102,7 +120,7 @@ pub fn part_of(rows: &[Row], parts: u32) -> usize
 }
 
 /// What the first row and each that stands a step behind another weigh together.
-fn weight_of(rows: &[Row], step: usize) -> usize
+fn weight_of(rows: &[VisitorRow], step: usize) -> usize
     requires { 0 < step }
 {
     let mut weight = 0;
@@ -113,7 +131,7 @@ fn weight_of(rows: &[Row], step: usize) -> usize
 }
 
 /// Up to where these rows weigh so much together.
-fn reach_of(rows: &[Row], step: usize, weight: usize) -> usize
+fn reach_of(rows: &[VisitorRow], step: usize, weight: usize) -> usize
     requires { 0 < step }
     ensures { result ≤ length rows.now }
 {
@@ -128,6 +146,6 @@ fn reach_of(rows: &[Row], step: usize, weight: usize) -> usize
 }
 
 /// A weight and that of a row.
-fn with_row(weight: usize, row: &Row) -> usize {
+fn with_row(weight: usize, row: &VisitorRow) -> usize {
     weight.saturating_add(row.len()).saturating_add(1)
 }

@@ -13,7 +13,7 @@ use Rattle.ga_base.specs.declared.key.Key.{Key}
 use Rattle.ga_base.specs.Orders.{is_same_key, key_cmp}
 use Rattle.ga_base.proofs.OrderLemmas.{key_cmp_total}
 use Rattle.ga_numbers.proofs.Same.{key-laws}
-use Rattle.ga_totals.specs.Steps.Rows.{AreByKey, NumberedKey}
+use Rattle.ga_totals.specs.Steps.KeyRows.{AreByKey, NumberedKey}
 
 pub less-by : (o p : Ordering) → p ≡ ordering_reverse o → is_lt p ≡ false → is_eq o ≡ false → o ≡ Less
 less-by Less p back low apart = refl

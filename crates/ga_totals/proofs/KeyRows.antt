@@ -7,12 +7,12 @@ use Rattle.std.proofs.lemmas.List.Elements.{All-head, All-push, All-tail}
 use Rattle.ga_base.specs.declared.counts.Sums.{Sums}
 use Rattle.ga_base.specs.declared.key.Key.{Key}
 use Rattle.ga_base.specs.declared.key.Visitor.{Visitor}
-use Rattle.ga_summary.specs.Parts.{row_of_part, rows_in}
-use Rattle.ga_summary.specs.Rows.{Row}
-use Rattle.ga_summary.specs.declared.parts.PartRow.{PartRow}
+use Rattle.ga_summary.specs.SummaryParts.{row_of_part, rows_in}
+use Rattle.ga_summary.specs.SummaryRows.{SummaryRow}
+use Rattle.ga_summary.specs.declared.summary_parts.PartRow.{PartRow}
 use Rattle.ga_tallies.specs.Tallies.{pairs_in}
 use Rattle.ga_tallies.proofs.PairRows.{pair-of-row, row-of-pair}
-use Rattle.ga_totals.specs.Steps.Rows.{AreByKey, AreNamesOf, AreRowsOf, AreWithin, IsRowOf, NumberedKey, visitors_at}
+use Rattle.ga_totals.specs.Steps.KeyRows.{AreByKey, AreNamesOf, AreRowsOf, AreWithin, IsRowOf, NumberedKey, visitors_at}
 
 pub same_key : (a b : Key) → (a.panel ≡ b.panel) × ((a.date ≡ b.date) × ((a.parent ≡ b.parent) × ((a.label ≡ b.label) × ((a.method ≡ b.method) × (a.protocol ≡ b.protocol))))) → a ≡ b
 same_key a b (panel, (date, (parent, (label, (method, protocol))))) =
@@ -25,7 +25,7 @@ within-at visitors (row ∷ rows) zero within = All-head (All (λ v. v < visitor
 within-at visitors (row ∷ rows) (suc number) within = within-at visitors rows number (All-tail (All (λ v. v < visitors)) row rows within)
 
 -- a key's row is made of its sums and of the names in the row of its number
-pub row-is : (entry : NumberedKey) (sums : List Sums) (visitors : List Visitor) (visits : List (List ℕ)) (row : Row) → row.key ≡ entry.key
+pub row-is : (entry : NumberedKey) (sums : List Sums) (visitors : List Visitor) (visits : List (List ℕ)) (row : SummaryRow) → row.key ≡ entry.key
     → slice_get sums entry.number ≡ Some row.sums → AreNamesOf visitors (visitors_at visits entry.number) row.names → IsRowOf entry sums visitors (pairs_in visits) row
 row-is entry sums visitors visits row key at names = record {
   key_is = key;
@@ -36,7 +36,7 @@ row-is entry sums visitors visits row key at names = record {
 }
 
 module _ (keys : List Key) (sums : List Sums) (visitors : List Visitor) (pairs : List (ℕ × ℕ)) where
-  abbrev pub IsSomeRow : Row → Type 0
+  abbrev pub IsSomeRow : SummaryRow → Type 0
   IsSomeRow row = (n : NumberedKey) × (slice_get keys n.number ≡ Some n.key) × IsRowOf n sums visitors pairs row
 
   -- the first of the keys have their rows
@@ -48,7 +48,7 @@ module _ (keys : List Key) (sums : List Sums) (visitors : List Visitor) (pairs :
       → slice_get keys n.number ≡ Some n.key → IsRowOf n sums visitors pairs (row_of_part part) → HaveRows order i rows → HaveRows order (i + 1) (rows ++ part ∷ [])
   rows-more order i rows n part within at stands is so_far = record {
     keys_are =
-        ap (map (λ (row : Row). row.key)) more ∙ map_push (λ (row : Row). row.key) (rows_in rows) (row_of_part part)
+        ap (map (λ (row : SummaryRow). row.key)) more ∙ map_push (λ (row : SummaryRow). row.key) (rows_in rows) (row_of_part part)
         ∙ (λ j. so_far.keys_are j ++ is.key_is j ∷ []) ∙ ap (λ (k : NumberedKey). map (λ (m : NumberedKey). m.key) (take i order) ++ k.key ∷ []) at
         ∙ sym (map_more (λ (m : NumberedKey). m.key) order i n within);
     each = subst (All IsSomeRow) (sym more) (All-push IsSomeRow (rows_in rows) (row_of_part part) so_far.each (n, stands, is));

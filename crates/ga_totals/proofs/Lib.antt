@@ -10,5 +10,5 @@ pub mod Visiting
 pub mod Parts
 pub mod AnyOrder
 pub mod Sizes
-pub mod ToldRows
-pub mod Told
+pub mod SourceRows
+pub mod Sources

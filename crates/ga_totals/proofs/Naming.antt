@@ -15,7 +15,7 @@ use Rattle.ga_base.specs.Orders.{name_cmp}
 use Rattle.ga_base.proofs.OrderLemmas.{name_cmp_total}
 use Rattle.ga_tallies.proofs.PairRows.{contains-map, from-map}
 use Rattle.ga_totals.specs.Steps.Ranks.{AreRanks, name_ranked, names_at}
-use Rattle.ga_totals.specs.Steps.Rows.{AreNamesOf, name_at}
+use Rattle.ga_totals.specs.Steps.KeyRows.{AreNamesOf, name_at}
 
 module _ (visitors : List Visitor) (firsts ranks : List ℕ) (are : AreRanks visitors firsts ranks) where
   abbrev rank_at : ℕ → ℕ

@@ -13,7 +13,7 @@ use Rattle.std.proofs.lemmas.Simd.{map-map}
 use Rattle.ga_base.specs.declared.key.Key.{Key}
 use Rattle.ga_base.proofs.OrderLemmas.{key_cmp_total}
 use Rattle.ga_report.proofs.Sorting.{in-order, in-order-same, in-order-sorted}
-use Rattle.ga_totals.specs.Steps.Rows.{AreByKey, NumberedKey, number_cmp}
+use Rattle.ga_totals.specs.Steps.KeyRows.{AreByKey, NumberedKey, number_cmp}
 
 abbrev key_of : NumberedKey → Key
 key_of n = n.key

@@ -8,7 +8,7 @@ use Rattle.ga_base.specs.declared.counts.Sums.{Sums}
 use Rattle.ga_base.specs.declared.key.Key.{Key}
 use Rattle.ga_summary.specs.Outcomes.{Outcome, sums_of}
 use Rattle.ga_tallies.specs.Tallies.{IsTallyOf, TallySeen, pairs_in}
-use Rattle.ga_totals.specs.Steps.Rows.{AreWithin}
+use Rattle.ga_totals.specs.Steps.KeyRows.{AreWithin}
 use Rattle.ga_tallies.proofs.PairRows.{pair-of-row}
 
 -- each key has its sums

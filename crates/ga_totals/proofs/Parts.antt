@@ -1,9 +1,15 @@
 -- The parts in which the keys are counted, one behind the other.
-use Rattle.std.proofs.Common.{◌≡◌, ℕ, zero, suc, ◌+◌, ◌<◌, eqb, List, [], ◌∷◌, ◌++◌, length, get_or, Result, Ok, Err, OnOk, refl, sym, ap, ◌∙◌, subst, arith}
+use Rattle.std.proofs.Common.{◌≡◌, ℕ, zero, suc, ◌+◌, ◌<◌, eqb, List, [], ◌∷◌, ◌++◌, length, get_or, Ok, length-append, refl, sym, ap, ◌∙◌, subst, arith}
+use Rattle.std.specs.Prelude.{Result}
+use Rattle.std.specs.Borrow.{MutBor}
+use Rattle.std.specs.Fn.{Shared}
 use Rattle.std.specs.Set.{distinct_count}
+use Rattle.ga_base.specs.declared.no_memory.NoMemory.{NoMemory}
+use Rattle.ga_base.specs.Parts.{ChangesPart, ChangesParts}
+use Rattle.ga_base.proofs.InParts.{whole-parts}
 use Rattle.ga_tallies.specs.Tallies.{pairs_in}
-use Rattle.ga_totals.specs.Steps.Rows.{visitors_at}
-use Rattle.ga_totals.specs.Steps.Telling.{AreVisits}
+use Rattle.ga_totals.specs.Steps.KeyRows.{visitors_at}
+use Rattle.ga_totals.specs.Steps.Sources.{AreVisits}
 use Rattle.ga_totals.specs.Steps.Visits.{counts_of}
 use Rattle.ga_totals.proofs.Visiting.{visitors-of-rows}
 
@@ -22,11 +28,13 @@ pub counts-more : (rows : List (List ℕ)) (first many : ℕ)
     → counts_of rows first (many + 1) ≡ counts_of rows first many ++ distinct_count eqb (visitors_at rows (first + many)) ∷ []
 counts-more rows first many = counts-behind rows first many 1 (many + 1) refl
 
--- the counts of two parts, which are there where both succeeded
-pub counts-both : {E : Type 0} (result : Result Unit E) (rows : List (List ℕ)) (first many more all : ℕ) (low high : List ℕ) → all ≡ many + more
-    → OnOk result (low ≡ counts_of rows first many) → OnOk result (high ≡ counts_of rows (first + many) more) → OnOk result (low ++ high ≡ counts_of rows first all)
-counts-both (Ok value) rows first many more all low high e one two = (λ i. one i ++ two i) ∙ sym (counts-behind rows first many more all e)
-counts-both (Err fault) rows first many more all low high e one two = tt
+-- the counts of parts, each of which has those of its keys
+pub counts-parts : {F : Type 0} (g : Shared F (ℕ × (MutBor (List ℕ) × Unit {0})) (Result (Unit {0}) NoMemory × (MutBor (List ℕ) × Unit {0}))) (f : F) (rows : List (List ℕ))
+    → ((first : ℕ) (xs ys : List ℕ) → ChangesPart g f first xs (Ok tt) ys → ys ≡ counts_of rows first (length xs)) → {first : ℕ} {xs ys : List ℕ} → ChangesParts g f first xs ys
+    → ys ≡ counts_of rows first (length xs)
+counts-parts g f rows each changes =
+    whole-parts g f (λ first xs ys. ys ≡ counts_of rows first (length xs)) each
+    (λ first low high front back same one two. (λ i. one i ++ two i) ∙ sym (counts-behind rows first (length low) (length high) (length (low ++ high)) (length-append low high))) changes
 
 length-counts : (rows : List (List ℕ)) (first many : ℕ) → length (counts_of rows first many) ≡ many
 length-counts rows first zero = refl

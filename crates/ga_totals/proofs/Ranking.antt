@@ -19,7 +19,7 @@ use Rattle.ga_base.specs.Orders.{name_cmp, name_of}
 use Rattle.ga_base.proofs.OrderLemmas.{name_cmp_exact, name_cmp_total}
 use Rattle.ga_numbers.proofs.Noted.{get-append}
 use Rattle.ga_totals.specs.Steps.Ranks.{AreByName, AreNumbered, AreRanks, EndsIn, HasName, IsNextRank, NumberedVisitor, names_at}
-use Rattle.ga_totals.specs.Steps.Rows.{name_at}
+use Rattle.ga_totals.specs.Steps.KeyRows.{name_at}
 use Rattle.ga_totals.proofs.KeyOrder.{less-by}
 
 ends-in-pushed : (names : List Name) (name : Name) → EndsIn (names ++ name ∷ []) name

@@ -9,11 +9,12 @@ use Rattle.std.proofs.lemmas.Grind.{get_or-set_at}
 use Rattle.ga_base.specs.declared.counts.Sums.{Sums}
 use Rattle.ga_base.specs.declared.key.Key.{Key}
 use Rattle.ga_base.specs.declared.panel.Panel.{Panel}
+use Rattle.ga_base.specs.declared.panel.TheConstants.Panel.{COUNT}
 use Rattle.ga_base.specs.Panels.{is_same_panel, panel_number}
-use Rattle.ga_report.specs.Told.{ToldRow}
-use Rattle.ga_totals.specs.Steps.Telling.{AreSizes, told_rows}
+use Rattle.ga_report.specs.Source.{SourceRow}
+use Rattle.ga_totals.specs.Steps.Sources.{AreSizes, source_rows}
 
-pub number-below : (panel : Panel) → panel_number panel < 17
+pub number-below : (panel : Panel) → panel_number panel < COUNT
 number-below panel = search rules
 
 number-same : (own panel : Panel) → is_same_panel own panel ≡ true → panel_number panel ≡ panel_number own
@@ -44,15 +45,15 @@ module _ (panels : List Panel) (sizes : List ℕ) (n : ℕ) (d : Panel) (less : 
 
 -- no panel has more rows than keys
 pub rows-of-panel : (panel : Panel) (keys : List Key) (sums : List Sums) (visits : List ℕ)
-    → count_by (λ row. is_same_panel row.key.panel panel) (told_rows keys sums visits) ≤ count_by (λ own. is_same_panel own panel) (map (λ (key : Key). key.panel) keys)
+    → count_by (λ row. is_same_panel row.key.panel panel) (source_rows keys sums visits) ≤ count_by (λ own. is_same_panel own panel) (map (λ (key : Key). key.panel) keys)
 rows-of-panel panel [] sums visits = omega arith
 rows-of-panel panel (key ∷ keys) [] visits = omega arith
 rows-of-panel panel (key ∷ keys) (own ∷ sums) [] = omega arith
 rows-of-panel panel (key ∷ keys) (own ∷ sums) (visitors ∷ visits) =
-    let row : ToldRow = record { key = key; sums = own; visitors = visitors } in
+    let row : SourceRow = record { key = key; sums = own; visitors = visitors } in
     omega (
       arith,
-      sum_by-cons (λ (r : ToldRow). cond (is_same_panel r.key.panel panel) 1 0) row (told_rows keys sums visits),
+      sum_by-cons (λ (r : SourceRow). cond (is_same_panel r.key.panel panel) 1 0) row (source_rows keys sums visits),
       sum_by-cons (λ (p : Panel). cond (is_same_panel p panel) 1 0) key.panel (map (λ (k : Key). k.panel) keys),
       rows-of-panel panel keys sums visits,
     )

@@ -20,8 +20,9 @@ use Rattle.ga_base.specs.Orders.{is_same_key, is_same_name, key_cmp, name_cmp, n
 use Rattle.ga_base.proofs.OrderLemmas.{key_cmp_total, name_cmp_exact, name_cmp_total}
 use Rattle.std.specs.Ordering.{is_eq}
 use Rattle.ga_summary.specs.Outcomes.{Outcome, sums_of, has_visit}
-use Rattle.ga_summary.specs.Rows.{IsInOrder, Row, has_name, has_pair, no_sums, row_at, sums_at}
-use Rattle.ga_summary.specs.Sound.{AllCountable, IsSummary, TotalsFit}
+use Rattle.ga_summary.specs.SummaryRows.{IsInOrder, SummaryRow, has_name, has_pair, no_sums, row_at, sums_at}
+use Rattle.ga_summary.specs.Sound.{AllCountable, IsSummary}
+use Rattle.ga_base.specs.Totals.{TotalsFit}
 use Rattle.ga_summary.specs.Sums.{IsSumOf}
 use Rattle.ga_summary.proofs.Merging.{all-row_at}
 use Rattle.ga_summary.proofs.NameLists.{any-find}
@@ -31,7 +32,7 @@ use Rattle.ga_summary.proofs.Unique.{find_is}
 use Rattle.ga_tallies.specs.Tallies.{IsTallyOf, TallySeen}
 use Rattle.ga_tallies.proofs.OneKey.{sums-none}
 use Rattle.ga_numbers.proofs.Same.{key-itself, same-key, same-visitor}
-use Rattle.ga_totals.specs.Steps.Rows.{AreRowsOf, name_at}
+use Rattle.ga_totals.specs.Steps.KeyRows.{AreRowsOf, name_at}
 use Rattle.ga_totals.proofs.Dates.{visit-dated}
 use Rattle.ga_totals.proofs.KeyOrder.{keys-rise, one-place}
 use Rattle.ga_totals.proofs.KeyRows.{IsSomeRow}
@@ -59,33 +60,33 @@ same-one a b date name = λ i. record { host = (name i).host; date = date i; age
 pub name-there : (visitors : List Visitor) (v : ℕ) (visitor : Visitor) → slice_get visitors v ≡ Some visitor → name_at visitors v ≡ name_of visitor
 name-there visitors v visitor at = ap (λ (w : Visitor). name_of w) (get_or_from_slice_get visitors v visitor _ at)
 
-module _ (outcomes : List Outcome) (t : TallySeen) (rows : List Row) (is : IsTallyOf outcomes t) (can : AllCountable outcomes) (are : AreRowsOf t.keys t.sums t.visitors t.pairs rows) where
+module _ (outcomes : List Outcome) (t : TallySeen) (rows : List SummaryRow) (is : IsTallyOf outcomes t) (can : AllCountable outcomes) (are : AreRowsOf t.keys t.sums t.visitors t.pairs rows) where
   ordered : IsInOrder rows
   ordered = record {
     keys = subst (IsStrictlySortedBy key_cmp) (sym are.keys_are) (keys-rise t.keys are.order is.different_keys are.by_key);
-    names = All-weaker (IsSomeRow t.keys t.sums t.visitors t.pairs) (λ (row : Row). IsStrictlySortedBy name_cmp row.names) (λ row some. some.2.rising) rows are.each;
+    names = All-weaker (IsSomeRow t.keys t.sums t.visitors t.pairs) (λ (row : SummaryRow). IsStrictlySortedBy name_cmp row.names) (λ row some. some.2.rising) rows are.each;
   }
 
   any-key : (key : Key) → is_some (row_at rows key) ≡ list_any (is_same_key key) t.keys
   any-key key =
-      sym (any-find (λ (row : Row). is_same_key key row.key) rows)
-      ∙ any-map (λ (row : Row). row.key) (is_same_key key) rows
+      sym (any-find (λ (row : SummaryRow). is_same_key key row.key) rows)
+      ∙ any-map (λ (row : SummaryRow). row.key) (is_same_key key) rows
       ∙ ap (list_any (is_same_key key)) are.keys_are
       ∙ sym (list_any-IsPermutation (is_same_key key) t.keys (map (λ n. n.key) are.order) are.by_key.same)
 
   -- what a row that is found says
-  record Found (key : Key) (row : Row) : Type 0 where
+  record Found (key : Key) (row : SummaryRow) : Type 0 where
     number : ℕ
     stands : slice_get t.keys number ≡ Some key
     sums_are : row.sums ≡ sums_of key outcomes
     only : (name : Name) → Contains row.names name → (v : ℕ) × Contains t.pairs (number, v) × (name_at t.visitors v ≡ name)
     all : (v : ℕ) → Contains t.pairs (number, v) → Contains row.names (name_at t.visitors v)
 
-  found : (key : Key) (row : Row) → row_at rows key ≡ Some row → Found key row
+  found : (key : Key) (row : SummaryRow) → row_at rows key ≡ Some row → Found key row
   found key row at =
       let some = all-row_at (IsSomeRow t.keys t.sums t.visitors t.pairs) rows key row are.each at in
       let n = some.0 in
-      let own : n.key ≡ key = sym (some.2.key_is) ∙ sym (same-key key row.key (ap is_eq (find_is key_cmp key_cmp_total (λ (r : Row). r.key) key rows row at))) in
+      let own : n.key ≡ key = sym (some.2.key_is) ∙ sym (same-key key row.key (ap is_eq (find_is key_cmp key_cmp_total (λ (r : SummaryRow). r.key) key rows row at))) in
       let stands : slice_get t.keys n.number ≡ Some key = some.1 ∙ ap Some own in
       let sums : Some row.sums ≡ Some (sums_of key outcomes) =
       sym some.2.sums_are ∙ ap (λ (l : List Sums). slice_get l n.number) is.sums ∙ slice_get-map (λ (k : Key). sums_of k outcomes) t.keys n.number
@@ -95,7 +96,7 @@ module _ (outcomes : List Outcome) (t : TallySeen) (rows : List Row) (is : IsTal
   sums : (key : Key) → sums_at rows key ≡ sums_of key outcomes
   sums key = go (row_at rows key) refl
     where
-      go : (o : Option Row) → row_at rows key ≡ o → option_map_or (λ (row : Row). row.sums) o no_sums ≡ sums_of key outcomes
+      go : (o : Option SummaryRow) → row_at rows key ≡ o → option_map_or (λ (row : SummaryRow). row.sums) o no_sums ≡ sums_of key outcomes
       go (Some row) at = (found key row at).sums_are
       go None at = sym (sums-none key outcomes (no-hits _ (sym (any-key key ∙ is.counted key) ∙ ap is_some at)))
 
@@ -110,7 +111,7 @@ module _ (outcomes : List Outcome) (t : TallySeen) (rows : List Row) (is : IsTal
   pairs : (key : Key) (visitor : Visitor) → has_pair rows key visitor ≡ has_visit key visitor outcomes
   pairs key visitor = go (row_at rows key) refl
     where
-      go : (o : Option Row) → row_at rows key ≡ o → ((visitor.date == key.date) && has_name (option_map_or (λ (row : Row). row.names) o []) (name_of visitor)) ≡ has_visit key visitor outcomes
+      go : (o : Option SummaryRow) → row_at rows key ≡ o → ((visitor.date == key.date) && has_name (option_map_or (λ (row : SummaryRow). row.names) o []) (name_of visitor)) ≡ has_visit key visitor outcomes
       go None at = both_ways ((visitor.date == key.date) && false) (has_visit key visitor outcomes)
           (λ e. absurd (false≢true (and_parts (visitor.date == key.date) false e).1))
           (λ has.

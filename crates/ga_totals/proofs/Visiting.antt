@@ -10,8 +10,8 @@ use Rattle.std.proofs.lemmas.List.Elements.{All-set}
 use Rattle.std.proofs.lemmas.List.Folds.{list_any-append}
 use Rattle.std.proofs.lemmas.Map.Steps.{list_any_congr}
 use Rattle.ga_tallies.specs.Tallies.{pairs_from, pairs_in, row_pairs}
-use Rattle.ga_totals.specs.Steps.Rows.{visitors_at}
-use Rattle.ga_totals.specs.Steps.Telling.{visitors_of}
+use Rattle.ga_totals.specs.Steps.KeyRows.{visitors_at}
+use Rattle.ga_totals.specs.Steps.Sources.{visitors_of}
 
 -- the pairs of a key's row have its visitors, and those of another's have none of them
 own-row : (key : ℕ) (row : List ℕ) (rest : List (ℕ × ℕ)) → visitors_of key (row_pairs key row ++ rest) ≡ row ++ visitors_of key rest

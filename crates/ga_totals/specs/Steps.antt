@@ -1,5 +1,5 @@
 -- What only the contracts of private functions and their proofs say.
-pub mod Rows
+pub mod KeyRows
 pub mod Ranks
-pub mod Telling
+pub mod Sources
 pub mod Visits

@@ -49,7 +49,7 @@ pub(crate) fn by_name<'a>(
     requires { length visitors.now < 2 ^ 32 }
     ensures { IfOk result (λ all. AreByName visitors.now all.items) }
 {
-    Ok(sorted(number_visitors(alloc, visitors)?))
+    Ok(sort_by_name(number_visitors(alloc, visitors)?))
 }
 
 /// The visitors with their numbers.
@@ -71,7 +71,7 @@ fn number_visitors<'a>(
 }
 
 /// In the order of the names.
-fn sorted(all: Vec<NumberedVisitor<'_>>) -> Vec<NumberedVisitor<'_>>
+fn sort_by_name(all: Vec<NumberedVisitor<'_>>) -> Vec<NumberedVisitor<'_>>
     ensures same { IsPermutation all.entry.items result.items }
     ensures sorted { IsSorted named_cmp result.items }
 {

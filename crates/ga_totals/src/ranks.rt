@@ -1,10 +1,10 @@
 ghost use Rattle.std.specs.Prelude.{◌≡◌, ◌<◌, ◌-◌, ◌^◌, All, IfOk, IsTrue, false, length};
 ghost use Rattle.ga_base.specs.Orders.{name_of};
 ghost use Rattle.ga_totals.specs.Steps.Ranks.{AreByName, EndsIn, IsNextRank, names_at};
-ghost use Rattle.ga_totals.specs.Steps.Rows.{AreNamesOf};
+ghost use Rattle.ga_totals.specs.Steps.KeyRows.{AreNamesOf};
 
 use crate::by_name::{NumberedVisitor, by_name, compare_names};
-use crate::names::{names_of_ranks, ranks_of};
+use crate::rank_names::{names_of_ranks, ranks_of};
 use ga_base::{Name, NoMemory, Visitor};
 use std::alloc::Global;
 use std::marker::Model;

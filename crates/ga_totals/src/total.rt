@@ -1,27 +1,28 @@
 ghost use Rattle.std.specs.Prelude.{◌≡◌, [], IfOk, List, length, map};
 ghost use Rattle.ga_summary.specs.Outcomes.{Outcome};
-ghost use Rattle.ga_summary.specs.Sound.{AllCountable, TotalsFit};
+ghost use Rattle.ga_summary.specs.Sound.{AllCountable};
+ghost use Rattle.ga_base.specs.Totals.{TotalsFit};
 ghost use Rattle.ga_summary.specs.Sums.{IsSumOf};
 ghost use Rattle.ga_tallies.specs.Tallies.{IsTallyOf, lists_in, pairs_in};
-ghost use Rattle.ga_totals.specs.Steps.Rows.{AreWithin};
-ghost use Rattle.ga_totals.specs.Steps.Telling.{AreVisits};
-ghost use Rattle.ga_totals.specs.Totals.{IsOfCountable, TellsSumOf};
+ghost use Rattle.ga_totals.specs.Steps.KeyRows.{AreWithin};
+ghost use Rattle.ga_totals.specs.Steps.Sources.{AreVisits};
+ghost use Rattle.ga_totals.specs.Totals.{IsOfCountable, IsSourceOfSum};
 
-use crate::panels::panels_of;
-use crate::rows::rows_of;
-use crate::telling::TotalTold;
+use crate::key_panels::panels_of;
+use crate::part_rows::rows_of;
+use crate::total_source::TotalSource;
 use crate::visits::{visits_in_parts, visits_of};
 use ga_base::{NoMemory, Panel, Totals};
 use ga_numbers::KeyNumbers;
 use ga_shards::Keyed;
 use ga_summary::{PartRows, Summary, SummaryParts};
-use ga_tallies::{Row, Tally, TallyParts};
+use ga_tallies::{Tally, TallyParts, VisitorRow};
 use std::alloc::Global;
 use std::marker::Model;
 use std::thread::{self, Threads};
 
 /// Of fewer keys than these no parts are made, and no thread is started.
-const MANY: u32 = 4096;
+const MANY_KEYS: u32 = 4096;
 
 /// What a run has counted, in numbers: each different key and each different visitor has one. Contracts see the parts as
 /// lists, as those of a tally.
@@ -31,7 +32,7 @@ pub struct Total {
 }
 
 impl Model for Total {
-    ghost use Rattle.ga_summary.specs.Sound.{TotalsFit};
+    ghost use Rattle.ga_base.specs.Totals.{TotalsFit};
     ghost use Rattle.ga_tallies.specs.Tallies.{TallySeen, seen_in};
 
     ghost Value = { TallySeen };
@@ -96,19 +97,19 @@ impl Total {
         })
     }
 
-    /// What the total tells to a report: what the summary would tell, without its names, and of the keys as they stand. It
+    /// The total as a source of rows for a report: those of the summary, without its names, and of the keys as they stand. It
     /// takes the time of a few looks at each visitor of each row, which with more jobs than one threads share; and the memory
     /// of two numbers and a panel for each key, and, for each of four parts of the keys that has a long row, of a mark for each
     /// visitor.
-    pub fn told<R: Threads + Sync>(
+    pub fn source<R: Threads + Sync>(
         &self,
         rt: &R,
         alloc: Global,
         jobs: u32,
-    ) -> Result<TotalTold<'_>, NoMemory>
+    ) -> Result<TotalSource<'_>, NoMemory>
         requires { IsOfCountable self.now }
-        ensures { IfOk result (λ told. (xs : List Outcome) → IsTallyOf xs self.now → AllCountable xs
-            → TellsSumOf xs told) }
+        ensures { IfOk result (λ source. (xs : List Outcome) → IsTallyOf xs self.now → AllCountable xs
+            → IsSourceOfSum xs source) }
     {
         let TallyParts {
             totals,
@@ -119,7 +120,7 @@ impl Total {
         } = &self.parts;
         let many = visitors.len() as usize;
         let (visits, panels) = visits_and_panels(rt, alloc, jobs, keys, many, visits)?;
-        Ok(TotalTold::of(*totals, keys, panels, sums, visits))
+        Ok(TotalSource::of(*totals, keys, panels, sums, visits))
     }
 }
 
@@ -130,14 +131,14 @@ fn visits_and_panels<R: Threads + Sync>(
     jobs: u32,
     keys: &KeyNumbers,
     visitors: usize,
-    rows: &[Row],
+    rows: &[VisitorRow],
 ) -> Result<(Vec<u64>, Vec<Panel>), NoMemory>
     requires { AreWithin visitors (lists_in rows.now) }
     ensures visits { IfOk result (λ found. AreVisits (length keys.now) (pairs_in (lists_in rows.now)) found.0.items) }
     ensures panels { IfOk result (λ found. found.1.items ≡ map (λ key. key.panel) keys.now) }
 {
     let many = keys.len();
-    if jobs <= 1 || many < MANY {
+    if jobs <= 1 || many < MANY_KEYS {
         let visits = visits_of(alloc, many, visitors, rows)?;
         return Ok((visits, panels_of(alloc, keys)?));
     }

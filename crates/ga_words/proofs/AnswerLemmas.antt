@@ -1,9 +1,9 @@
--- What all words come to where their units are read, with `--` and logs behind them or not.
+-- What all words mean where their units are read, with `--` and logs behind them or not.
 use Rattle.std.proofs.Common.{◌≡◌, ◌+◌, ◌-◌, ℕ, Some, None, List, [], ◌∷◌, ◌++◌, length, codes, refl, sym, ap, ◌∙◌, subst, inl, inr, ◌⊎◌, arith, append-nil, length-append, Result, Ok, Err, IfOk, IfErr}
 use Rattle.ga_words.specs.declared.settings.Settings.{Settings}
 use Rattle.ga_words.specs.declared.fault.WordFault.{WordFault}
 use Rattle.ga_words.specs.declared.fault.WordFault.TheVariants.{NoMemory}
-use Rattle.ga_words.specs.declared.reading.Reading.{Reading}
+use Rattle.ga_words.specs.declared.words_reading.Reading.{Reading}
 use Rattle.ga_words.specs.Units.{spelled, AddsLogs, AreNamed}
 use Rattle.ga_words.specs.WordsOf.{AreUnits, BeginsWithFault, HasFault, IsBadTail, WordsOf, IsSame}
 use Rattle.ga_words.specs.Steps.Words.{HasRead, HasReadAll, IsTail, IsWholly, IsNameless}
@@ -45,15 +45,14 @@ module _ (words rest : List (List ℕ)) (reading : Reading) (read : HasRead word
   tail-place : (logs : List (List ℕ)) (k : ℕ) → rest ≡ codes "--" ∷ logs → length words - length logs + k ≡ length (spelled read.units) + 1 + k
   tail-place logs k is = omega (arith, ap length read.spells, ap length is, length-append (spelled read.units) rest)
 
-  pub tail-fault : (first : List ℕ) (logs : List (List ℕ)) (fault : WordFault) → IsTail rest → rest ≡ first ∷ logs
-      → (fault ≡ NoMemory) ⊎ IsNameless (length words - length logs) logs fault → (fault ≡ NoMemory) ⊎ HasFault words fault
-  tail-fault first logs fault tail split (inl memory) = inl memory
-  tail-fault first logs fault tail split (inr nameless) =
+  pub nameless-fault : (first : List ℕ) (logs : List (List ℕ)) (fault : WordFault) → IsTail rest → rest ≡ first ∷ logs
+      → IsNameless (length words - length logs) logs fault → HasFault words fault
+  nameless-fault first logs fault tail split nameless =
       let is = tail-of rest first logs tail split in
       let at = length (spelled read.units) in
       let bad : IsBadTail (codes "--" ∷ logs) (length nameless.named) =
       record { named = nameless.named; more = nameless.more; words_are = ap (λ (x : List (List ℕ)). codes "--" ∷ x) nameless.logs_are; are_named = nameless.are_named; count = refl } in
-      inr record {
+      record {
         units = read.units;
         rest = codes "--" ∷ logs;
         spells = read.spells ∙ ap (λ (x : List (List ℕ)). spelled read.units ++ x) is;
@@ -64,13 +63,21 @@ module _ (words rest : List (List ℕ)) (reading : Reading) (read : HasRead word
             (inr (inr (inr (length nameless.named, tail-place logs (length nameless.named) is, bad))));
       }
 
+  pub tail-fault : (first : List ℕ) (logs : List (List ℕ)) (fault : WordFault) → IsTail rest → rest ≡ first ∷ logs
+      → (fault ≡ NoMemory) ⊎ IsNameless (length words - length logs) logs fault → (fault ≡ NoMemory) ⊎ HasFault words fault
+  tail-fault first logs fault tail split (inl memory) = inl memory
+  tail-fault first logs fault tail split (inr nameless) = inr (nameless-fault first logs fault tail split nameless)
+
 module _ (words : List (List ℕ)) (reading : Reading) (read : HasReadAll words reading) where
   pub accepted : IsWholly read.units reading.settings None → WordsOf words (Ok reading.settings)
   accepted none = record { units = read.units; are_units = read.are_units; faultless = none }
 
+  pub refusal : (fault : WordFault) → IsWholly read.units reading.settings (Some fault) → WordsOf words (Err fault)
+  refusal fault amiss =
+      inr record { units = read.units; settings = reading.settings; are_units = read.are_units; stands = amiss.stands; first = amiss.first }
+
   pub refused : (fault : WordFault) → IsWholly read.units reading.settings (Some fault) → (fault ≡ NoMemory) ⊎ WordsOf words (Err fault)
-  refused fault amiss =
-      inr (inr record { units = read.units; settings = reading.settings; are_units = read.are_units; stands = amiss.stands; first = amiss.first })
+  refused fault amiss = inr (refusal fault amiss)
 
 -- where words have one answer, what is answered is it, unless memory runs out
 pub only-answer : (words : List (List ℕ)) (result : Result Settings WordFault)

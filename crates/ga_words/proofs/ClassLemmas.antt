@@ -1,5 +1,5 @@
 -- What a word is by itself: one of six things, of which it is always one alone.
-use Rattle.std.proofs.Common.{◌≡◌, ◌≢◌, ◌==◌, cond, ℕ, zero, suc, Bool, true, false, Option, Some, None, option_map, List, [], ◌∷◌, ◌++◌, codes, refl, sym, ap, ◌∙◌, subst, arith, append_assoc}
+use Rattle.std.proofs.Common.{◌≡◌, ◌≢◌, ◌==◌, cond, ℕ, Bool, true, false, Option, Some, None, option_map, List, [], ◌∷◌, ◌++◌, codes, refl, sym, ap, ◌∙◌, subst, arith, append_assoc}
 use Rattle.std.proofs.lemmas.Bool.Decides.{nat_tests}
 use Rattle.std.proofs.lemmas.Slice.Eq.{bytes_eq-Decides}
 use Rattle.std.specs.Str.{bytes_eq}
@@ -7,8 +7,8 @@ use Rattle.ga_words.specs.Options.{Takes, takes_of, IsLong}
 use Rattle.ga_words.specs.Units.{BeginsWithDash}
 use Rattle.ga_words.specs.WordsOf.{NamesNoOption}
 use Rattle.ga_words.specs.Steps.Words.{IsPlain}
-use Rattle.ga_words.proofs.CutLemmas.{plain-head, plain-tail, not-plain}
-use Rattle.ga_words.proofs.NameLemmas.{name-dash, name-no_tail, name-plain, is-none}
+use Rattle.ga_words.proofs.CutLemmas.{plain-head, plain-tail}
+use Rattle.ga_words.proofs.NameLemmas.{name-dash, name-no_tail, name-plain, plain-is, is-none}
 
 pub data Class : Type 0 where
   Nameless : Class
@@ -104,18 +104,13 @@ is-option word takes e =
 dash-more : (name more : List ℕ) → BeginsWithDash name → BeginsWithDash (name ++ more)
 dash-more name more dash = (dash.0 ++ more, ap (λ (x : List ℕ). x ++ more) dash.1)
 
-tail-plain : IsPlain (codes "--")
-tail-plain zero within e = absurd (omega (arith, e))
-tail-plain (suc zero) within e = absurd (omega (arith, e))
-tail-plain (suc (suc i)) within e = absurd (omega (arith, within))
-
 pub is-joined : (name value : List ℕ) (takes : Takes) → takes_of name ≡ Some takes → IsLong name → class_of (name ++ codes "=" ++ value) ≡ WithValue name takes value
 is-joined name value takes e long =
     let plain = name-plain name takes e in
     let whole = equals name value in
     let dash = subst BeginsWithDash (sym whole) (dash-more name (61 ∷ value) (name-dash name takes e)) in
-    let no_tail : name ++ codes "=" ++ value ≢ codes "--" = λ same. not-plain name value (subst IsPlain (sym same ∙ whole) tail-plain) in
-    let no_option = is-none (takes_of (name ++ codes "=" ++ value)) (λ t k. not-plain name value (subst IsPlain whole (name-plain (name ++ codes "=" ++ value) t k))) in
+    let no_tail : name ++ codes "=" ++ value ≢ codes "--" = λ same. plain-is (codes "--") refl name value (sym same) in
+    let no_option = is-none (takes_of (name ++ codes "=" ++ value)) (λ t k. name-plain (name ++ codes "=" ++ value) t k name value refl) in
     let is_cut = ap cut whole ∙ cut-plain name value plain in
     dashed-is (name ++ codes "=" ++ value) dash no_tail
     ∙ ap (λ (o : Option Takes). optional o OptionName (joined_class (cut (name ++ codes "=" ++ value)))) no_option

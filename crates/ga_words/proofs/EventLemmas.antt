@@ -6,7 +6,7 @@ use Rattle.ga_words.specs.declared.fault.WordFault.TheVariants.{UnknownOption, M
 use Rattle.ga_words.specs.Options.{Takes, Sets, IsOutside, TakesValue}
 use Rattle.ga_words.specs.Options.Takes.{Flag, Format, Name, Number, Status, Target, Addresses, OfPanel}
 use Rattle.ga_words.specs.Units.{WordUnit, written, Makes, AreNamed}
-use Rattle.ga_words.specs.Units.WordUnit.{Alone, Joined, Apart, Log}
+use Rattle.ga_words.specs.Units.WordUnit.{Alone, Joined, Separate, Log}
 use Rattle.ga_words.specs.WordsOf.{BeginsWithFault, IsBadTail}
 use Rattle.ga_words.proofs.ClassLemmas.{Class, class_of, is-log, is-option, is-joined, is-no_option}
 use Rattle.ga_words.proofs.ClassLemmas.Class.{Nameless, Tail, LogName, OptionName, WithValue, NoOption}
@@ -48,7 +48,7 @@ HasValue unit rest at takes value old event =
 abbrev pub HasOption : Option (Settings → Settings) → Takes → List ℕ → List (List ℕ) → ℕ → Settings → Event → Type 0
 HasOption (Some set) takes word after at old event = event ≡ Reads (Alone word) after (set old)
 HasOption None takes word [] at old event = event ≡ Faults (MissingValue at)
-HasOption None takes word (value ∷ more) at old event = HasValue (Apart word value) more (at + 1) takes value old event
+HasOption None takes word (value ∷ more) at old event = HasValue (Separate word value) more (at + 1) takes value old event
 
 abbrev pub HasTail : List (List ℕ) → ℕ → Event → Type 0
 HasTail after at event = ((event ≡ Ends after) × AreNamed after) ⊎ ((k : ℕ) × (event ≡ Faults (BadValue (at + 1 + k))) × IsBadTail (codes "--" ∷ after) k)
@@ -74,9 +74,9 @@ unit-event at (Alone name) rest old new h =
     of-class name rest at old (Reads (Alone name) rest new) (OptionName (Flag h.0)) (is-option name (Flag h.0) h.1) (ap (Reads (Alone name) rest) h.2)
 unit-event at (Joined name value) rest old new h =
     of-class (name ++ codes "=" ++ value) rest at old (Reads (Joined name value) rest new) (WithValue name h.0 value) (is-joined name value h.0 h.1 h.2) (inl (new, h.3, refl))
-unit-event at (Apart name value) rest old new h =
-    of-class name (value ∷ rest) at old (Reads (Apart name value) rest new) (OptionName h.0) (is-option name h.0 h.1)
-    (subst (λ (o : Option (Settings → Settings)). HasOption o h.0 name (value ∷ rest) at old (Reads (Apart name value) rest new)) (sym (sets-no_flag h.0 value old new h.2)) (inl (new, h.2, refl)))
+unit-event at (Separate name value) rest old new h =
+    of-class name (value ∷ rest) at old (Reads (Separate name value) rest new) (OptionName h.0) (is-option name h.0 h.1)
+    (subst (λ (o : Option (Settings → Settings)). HasOption o h.0 name (value ∷ rest) at old (Reads (Separate name value) rest new)) (sym (sets-no_flag h.0 value old new h.2)) (inl (new, h.2, refl)))
 unit-event at (Log name) rest old new h =
     of-class name rest at old (Reads (Log name) rest new) LogName (is-log name h.0 h.1) (ap (Reads (Log name) rest) h.2)
 

@@ -10,3 +10,8 @@ mod ClassLemmas
 mod EventLemmas
 mod OneEvent
 mod OneReading
+mod Decided
+mod SomeRange
+mod SomeValue
+mod FirstUnit
+mod SomeAnswer

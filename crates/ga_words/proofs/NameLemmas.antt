@@ -1,5 +1,5 @@
 -- The names of options begin with a dash, are not `--`, and have no `=`, so that a word with one is cut in one way.
-use Rattle.std.proofs.Common.{◌≡◌, ◌≢◌, ◌==◌, ◌&&◌, cond, ℕ, zero, suc, Bool, true, false, Option, Some, None, List, [], ◌∷◌, ◌++◌, codes, refl, sym, ap, ◌∙◌, subst, arith, append_assoc}
+use Rattle.std.proofs.Common.{◌≡◌, ◌≢◌, ◌==◌, ◌&&◌, cond, ℕ, Bool, true, false, Option, Some, None, List, [], ◌∷◌, ◌++◌, codes, refl, sym, ap, ◌∙◌, arith, append_assoc}
 use Rattle.std.proofs.lemmas.Bool.Decides.{nat_tests}
 use Rattle.std.proofs.lemmas.Slice.Eq.{bytes_eq-Decides}
 use Rattle.std.specs.List.{list_all}
@@ -8,9 +8,9 @@ use Rattle.std.specs.Str.{bytes_eq}
 use Rattle.ga_words.specs.Options.{Takes, options, takes_of, IsLong}
 use Rattle.ga_words.specs.Units.{BeginsWithDash}
 use Rattle.ga_words.specs.Steps.Words.{IsPlain, IsCut, HasNoJoined}
-use Rattle.ga_words.proofs.CutLemmas.{not-plain, one-cut}
+use Rattle.ga_words.proofs.CutLemmas.{one-cut}
 
-abbrev plain : List ℕ → Bool
+abbrev pub plain : List ℕ → Bool
 plain [] = true
 plain (b ∷ bs) = cond (b == 61) false (plain bs)
 
@@ -42,10 +42,11 @@ plain-step : (b : ℕ) (bs : List ℕ) (is : Bool) → (b == 61) ≡ is → cond
 plain-step b bs true is e = cc
 plain-step b bs false is e = (grind (arith, nat_tests), e)
 
-plain-is : (name : List ℕ) → plain name ≡ true → IsPlain name
-plain-is [] e i within = absurd (omega arith)
-plain-is (b ∷ bs) e zero within = (plain-step b bs (b == 61) refl e).0
-plain-is (b ∷ bs) e (suc i) within = plain-is bs (plain-step b bs (b == 61) refl e).1 i (omega arith)
+pub plain-is : (name : List ℕ) → plain name ≡ true → IsPlain name
+plain-is [] e [] back split = cc
+plain-is [] e (x ∷ front) back split = cc
+plain-is (b ∷ bs) e [] back split = let first : b ≡ 61 = cc in (plain-step b bs (b == 61) refl e).0 first
+plain-is (b ∷ bs) e (x ∷ front) back split = let more : bs ≡ front ++ codes "=" ++ back = cc in plain-is bs (plain-step b bs (b == 61) refl e).1 front back more
 
 -- what a test of `like_name` says
 like-step : (d t p : Bool) → cond d (cond t false p) false ≡ true → (d ≡ true) × (t ≡ false) × (p ≡ true)
@@ -80,11 +81,11 @@ equals : (name value : List ℕ) → name ++ codes "=" ++ value ≡ name ++ 61 �
 equals name value = append_assoc name (codes "=") value
 
 pub no-joined-plain : (word : List ℕ) → IsPlain word → HasNoJoined word
-no-joined-plain word free name value split long = absurd (not-plain name value (subst IsPlain (split ∙ equals name value) free))
+no-joined-plain word free name value split long = absurd (free name value split)
 
 pub no-joined-cut : (word front back : List ℕ) → IsCut word front back → (IsLong front → takes_of front ≡ None) → HasNoJoined word
 no-joined-cut word front back cut none name value split long =
     is-none (takes_of name) (λ takes e.
-    let same = (one-cut front name back value cut.plain (name-plain name takes e) (sym cut.split ∙ split ∙ equals name value)).0 in
+    let same = (one-cut front name back value cut.plain (name-plain name takes e) (sym (equals front back) ∙ sym cut.split ∙ split ∙ equals name value)).0 in
     let nothing = none (λ short. long (sym same ∙ short)) in
     let something : takes_of front ≡ Some takes = ap takes_of same ∙ e in cc)

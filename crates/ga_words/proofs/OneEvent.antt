@@ -10,7 +10,7 @@ use Rattle.ga_words.specs.Values.{NamesOutput, panel_named}
 use Rattle.ga_words.specs.Options.{Takes, Sets}
 use Rattle.ga_words.specs.Options.Takes.{Flag, Format, Name, Number, Status, Target, Addresses, OfPanel}
 use Rattle.ga_words.specs.Units.{WordUnit, AreNamed}
-use Rattle.ga_words.specs.Units.WordUnit.{Apart, Joined}
+use Rattle.ga_words.specs.Units.WordUnit.{Separate, Joined}
 use Rattle.ga_words.proofs.ClassLemmas.{Class, class_of}
 use Rattle.ga_words.proofs.ClassLemmas.Class.{Nameless, Tail, LogName, OptionName, WithValue, NoOption}
 use Rattle.ga_words.proofs.EventLemmas.{Event, flag_of, HasValue, HasOption, HasTail, Has, HasEvent}
@@ -106,7 +106,7 @@ module _ (one_range : OneRange) where
   one-option : (flag : Option (Settings → Settings)) (takes : Takes) (word : List ℕ) (after : List (List ℕ)) (at : ℕ) (old : Settings) (a b : Event) → HasOption flag takes word after at old a → HasOption flag takes word after at old b → a ≡ b
   one-option (Some set) takes word after at old a b h k = h ∙ sym k
   one-option None takes word [] at old a b h k = h ∙ sym k
-  one-option None takes word (value ∷ more) at old a b h k = one-value (Apart word value) more (at + 1) takes value old a b h k
+  one-option None takes word (value ∷ more) at old a b h k = one-value (Separate word value) more (at + 1) takes value old a b h k
 
   one-has : (class : Class) (word : List ℕ) (after : List (List ℕ)) (at : ℕ) (old : Settings) (a b : Event) → Has class word after at old a → Has class word after at old b → a ≡ b
   one-has Nameless word after at old a b h k = h ∙ sym k

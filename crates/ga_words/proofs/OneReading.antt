@@ -5,7 +5,7 @@ use Rattle.ga_words.specs.declared.fault.WordFault.{WordFault}
 use Rattle.ga_words.specs.declared.fault.WordFault.TheVariants.{UnknownOption, MissingValue, BadValue, NoFormat, NoInput, Conflict, NoMemory}
 use Rattle.ga_words.specs.Defaults.{defaults}
 use Rattle.ga_words.specs.Units.{WordUnit, written, spelled, Makes, RowMakes, AreNamed, tail_words, tail_logs}
-use Rattle.ga_words.specs.WordsOf.{AreUnits, BeginsWithFault, HasFault, IsAmiss, rank_of, AreAccepted, AreRefused, WordsOf, IsSame}
+use Rattle.ga_words.specs.WordsOf.{AreUnits, BeginsWithFault, HasFault, IsSettingsFault, rank_of, AreAccepted, AreRefused, WordsOf, IsSame}
 use Rattle.ga_words.proofs.EventLemmas.{Event, HasEvent, unit-event, fault-event, tail-event}
 use Rattle.ga_words.proofs.EventLemmas.Event.{Reads, Faults, Ends}
 use Rattle.ga_words.proofs.OneEvent.{OneRange, one-event, same-last}
@@ -53,7 +53,7 @@ fault-trace : (words : List (List ℕ)) (fault : WordFault) (h : HasFault words 
 fault-trace words fault h =
     row-trace h.units 0 words h.rest defaults h.before (Broken fault) h.row h.spells (subst (λ (n : ℕ). BeginsWithFault n h.rest fault) (omega arith) h.stands)
 
-one-amiss : (units : List WordUnit) (s : Settings) (fault other : WordFault) → IsAmiss units s fault → IsAmiss units s other → ¬ (rank_of other < rank_of fault) → ¬ (rank_of fault < rank_of other) → fault ≡ other
+one-amiss : (units : List WordUnit) (s : Settings) (fault other : WordFault) → IsSettingsFault units s fault → IsSettingsFault units s other → ¬ (rank_of other < rank_of fault) → ¬ (rank_of fault < rank_of other) → fault ≡ other
 one-amiss units s (UnknownOption at) other h k low high = absurd h
 one-amiss units s (MissingValue at) other h k low high = absurd h
 one-amiss units s (BadValue at) other h k low high = absurd h
@@ -141,13 +141,13 @@ module _ (one_range : OneRange) where
   not-amiss : (words : List (List ℕ)) (s : Settings) (fault : WordFault) → AreAccepted words s → AreRefused words fault → ⊥
   not-amiss words s fault h k =
       let same = same-units words h.units k.units s k.settings h.are_units k.are_units in
-      h.faultless fault (subst (λ (u : List WordUnit). IsAmiss u s fault) (sym same.0) (subst (λ (x : Settings). IsAmiss k.units x fault) (sym same.1) k.stands))
+      h.faultless fault (subst (λ (u : List WordUnit). IsSettingsFault u s fault) (sym same.0) (subst (λ (x : Settings). IsSettingsFault k.units x fault) (sym same.1) k.stands))
 
   same-refused : (words : List (List ℕ)) (fault other : WordFault) → AreRefused words fault → AreRefused words other → fault ≡ other
   same-refused words fault other h k =
       let same = same-units words h.units k.units h.settings k.settings h.are_units k.are_units in
-      let here : IsAmiss h.units h.settings other = subst (λ (u : List WordUnit). IsAmiss u h.settings other) (sym same.0) (subst (λ (x : Settings). IsAmiss k.units x other) (sym same.1) k.stands) in
-      let there : IsAmiss k.units k.settings fault = subst (λ (u : List WordUnit). IsAmiss u k.settings fault) same.0 (subst (λ (x : Settings). IsAmiss h.units x fault) same.1 h.stands) in
+      let here : IsSettingsFault h.units h.settings other = subst (λ (u : List WordUnit). IsSettingsFault u h.settings other) (sym same.0) (subst (λ (x : Settings). IsSettingsFault k.units x other) (sym same.1) k.stands) in
+      let there : IsSettingsFault k.units k.settings fault = subst (λ (u : List WordUnit). IsSettingsFault u k.settings fault) same.0 (subst (λ (x : Settings). IsSettingsFault h.units x fault) same.1 h.stands) in
       one-amiss h.units h.settings fault other h.stands here (h.first other here) (k.first fault there)
 
   pub one-reading : (words : List (List ℕ)) (answer other : Result Settings WordFault) → WordsOf words answer → WordsOf words other → IsSame answer other

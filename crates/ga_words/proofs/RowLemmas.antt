@@ -3,7 +3,7 @@ use Rattle.std.proofs.Common.{◌≡◌, ◌+◌, ◌-◌, ℕ, Bool, true, fals
 use Rattle.ga_words.specs.declared.settings.Settings.{Settings}
 use Rattle.ga_words.specs.declared.fault.WordFault.{WordFault}
 use Rattle.ga_words.specs.declared.fault.WordFault.TheVariants.{NoMemory}
-use Rattle.ga_words.specs.declared.reading.Reading.{Reading}
+use Rattle.ga_words.specs.declared.words_reading.Reading.{Reading}
 use Rattle.ga_words.specs.Defaults.{defaults}
 use Rattle.ga_words.specs.Units.{WordUnit, written, spelled, Makes, RowMakes, names_generate, generate_places}
 use Rattle.ga_words.specs.WordsOf.{BeginsWithFault, HasFault}
@@ -54,10 +54,9 @@ module _ (words rest : List (List ℕ)) (first : List ℕ) (after : List (List �
             (omega (arith, here)) takes.place);
       }
 
-  pub read-fault : (fault : WordFault) → IsUnitFault (length words - length rest) (first ∷ after) fault → (fault ≡ NoMemory) ⊎ HasFault words fault
-  read-fault fault (inl memory) = inl memory
-  read-fault fault (inr begins) =
-      inr record {
+  pub fault-next : (fault : WordFault) → BeginsWithFault (length words - length rest) (first ∷ after) fault → HasFault words fault
+  fault-next fault begins =
+      record {
         units = read.units;
         rest = first ∷ after;
         spells = read.spells ∙ ap (λ (x : List (List ℕ)). spelled read.units ++ x) split;
@@ -65,6 +64,10 @@ module _ (words rest : List (List ℕ)) (first : List ℕ) (after : List (List �
         row = read.row;
         stands = subst (λ (n : ℕ). BeginsWithFault n (first ∷ after) fault) (place-is words rest (spelled read.units) read.spells) begins;
       }
+
+  pub read-fault : (fault : WordFault) → IsUnitFault (length words - length rest) (first ∷ after) fault → (fault ≡ NoMemory) ⊎ HasFault words fault
+  read-fault fault (inl memory) = inl memory
+  read-fault fault (inr begins) = inr (fault-next fault begins)
 
 pub no-words : (words : List (List ℕ)) → length words ≡ 0 → words ≡ []
 no-words [] e = refl

@@ -1,4 +1,4 @@
--- What reading a word, or an option with its value, comes to: a unit, or a fault.
+-- What reading a word, or an option with its value, gives: a unit, or a fault.
 use Rattle.std.proofs.Common.{◌≡◌, ◌≢◌, ◌+◌, ◌==◌, ℕ, Bool, true, false, length, if◌then◌else◌, Option, Some, None, List, [], ◌∷◌, codes, refl, sym, ap, ◌∙◌, subst, inl, inr}
 use Rattle.std.specs.Str.{bytes_eq}
 use Rattle.ga_words.specs.declared.settings.Settings.{Settings}
@@ -7,10 +7,10 @@ use Rattle.ga_words.specs.declared.fault.WordFault.TheVariants.{UnknownOption, M
 use Rattle.ga_words.specs.declared.options.Takes.{Takes as CodeTakes}
 use Rattle.ga_words.specs.declared.options.Takes.TheVariants as C
 use Rattle.ga_words.specs.declared.options.Flag.{Flag as CodeFlag}
-use Rattle.ga_words.specs.declared.reading.Reading.{Reading}
+use Rattle.ga_words.specs.declared.words_reading.Reading.{Reading}
 use Rattle.ga_words.specs.Options.{takes_of, Sets, TakesValue}
 use Rattle.ga_words.specs.Units.{BeginsWithDash, AddsLogs}
-use Rattle.ga_words.specs.Units.WordUnit.{Alone, Joined, Apart, Log}
+use Rattle.ga_words.specs.Units.WordUnit.{Alone, Joined, Separate, Log}
 use Rattle.ga_words.specs.WordsOf.{BeginsWithFault}
 use Rattle.ga_words.specs.Steps.Settings.{meaning, with_flag, IsValueFault}
 use Rattle.ga_words.specs.Steps.Words.{IsJoined, HasNoJoined, TakesUnit, IsUnitFault}
@@ -33,7 +33,7 @@ module _ (word : List ℕ) (after : List (List ℕ)) (at : ℕ) (old : Reading) 
   pub unit-apart : (takes : CodeTakes) (value : List ℕ) (more : List (List ℕ)) (place : Option ℕ) → takes_of word ≡ Some (meaning takes) → after ≡ value ∷ more
       → Sets (meaning takes) value old.settings s → place ≡ noted word at old.generate_at → TakesUnit (word ∷ after) more at old (reading_of s place)
   unit-apart takes value more place option split sets is =
-      record { unit = Apart word value; spells = ap (λ (x : List (List ℕ)). word ∷ x) split; makes = (meaning takes, option, sets); place = is }
+      record { unit = Separate word value; spells = ap (λ (x : List (List ℕ)). word ∷ x) split; makes = (meaning takes, option, sets); place = is }
 
   pub unit-joined : (name value : List ℕ) (takes : CodeTakes) (place : Option ℕ) → IsJoined word name takes value
       → Sets (meaning takes) value old.settings s → place ≡ noted name at old.generate_at → TakesUnit (word ∷ after) after at old (reading_of s place)

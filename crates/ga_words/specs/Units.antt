@@ -10,14 +10,14 @@ use Rattle.ga_words.specs.Options.Takes.{Flag}
 pub data WordUnit : Type 0 where
   Alone : List ℕ → WordUnit  -- a flag of this name
   Joined : List ℕ → List ℕ → WordUnit  -- an option of this name, `=` and its value, in one word
-  Apart : List ℕ → List ℕ → WordUnit  -- an option of this name and its value, in two words
+  Separate : List ℕ → List ℕ → WordUnit  -- an option of this name and its value, in two words
   Log : List ℕ → WordUnit  -- a log of this name
 
 -- the words of a unit, and of a row of them
 abbrev pub written : WordUnit → List (List ℕ)
 written (Alone name) = name ∷ []
 written (Joined name value) = (name ++ codes "=" ++ value) ∷ []
-written (Apart name value) = name ∷ value ∷ []
+written (Separate name value) = name ∷ value ∷ []
 written (Log name) = name ∷ []
 
 abbrev pub spelled : List WordUnit → List (List ℕ)
@@ -35,7 +35,7 @@ AddsLogs names old new = new ≡ record old { logs = old.logs ++ names }
 abbrev pub Makes : WordUnit → Settings → Settings → Type 0
 Makes (Alone name) old new = (set : Settings → Settings) × (takes_of name ≡ Some (Flag set)) × (new ≡ set old)
 Makes (Joined name value) old new = (takes : Takes) × (takes_of name ≡ Some takes) × IsLong name × Sets takes value old new
-Makes (Apart name value) old new = (takes : Takes) × (takes_of name ≡ Some takes) × Sets takes value old new
+Makes (Separate name value) old new = (takes : Takes) × (takes_of name ≡ Some takes) × Sets takes value old new
 Makes (Log name) old new = (name ≢ []) × ¬ BeginsWithDash name × AddsLogs (name ∷ []) old new
 
 -- what a row of units makes of them, one behind the other
@@ -59,7 +59,7 @@ AreNamed logs = AllByRecursion (λ log. log ≢ []) logs
 abbrev pub names_generate : WordUnit → Bool
 names_generate (Alone name) = false
 names_generate (Joined name value) = bytes_eq name (codes "--generate")
-names_generate (Apart name value) = bytes_eq name (codes "--generate")
+names_generate (Separate name value) = bytes_eq name (codes "--generate")
 names_generate (Log name) = false
 
 -- the places of the words that name it, where the row begins at this place

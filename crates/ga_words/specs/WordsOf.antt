@@ -47,7 +47,7 @@ pub record IsBadJoined (words : List (List ℕ)) : Type 0 where
   pub outside : IsOutside takes value
 
 -- the first of these words is an option, and the second a value that it doesn't take
-pub record IsBadApart (words : List (List ℕ)) : Type 0 where
+pub record IsBadSeparate (words : List (List ℕ)) : Type 0 where
   pub name : List ℕ
   pub value : List ℕ
   pub more : List (List ℕ)
@@ -74,7 +74,7 @@ abbrev pub BeginsWithFault : ℕ → List (List ℕ) → WordFault → Type 0
 BeginsWithFault at words (UnknownOption place) = (place ≡ at) × IsUnknown words
 BeginsWithFault at words (MissingValue place) = (place ≡ at) × LacksValue words
 BeginsWithFault at words (BadValue place) =
-    ((place ≡ at) × IsBadJoined words) ⊎ ((place ≡ at + 1) × IsBadApart words)
+    ((place ≡ at) × IsBadJoined words) ⊎ ((place ≡ at + 1) × IsBadSeparate words)
     ⊎ ((place ≡ at) × IsBadLog words) ⊎ ((logs : ℕ) × (place ≡ at + 1 + logs) × IsBadTail words logs)
 BeginsWithFault at words NoFormat = ⊥
 BeginsWithFault at words NoInput = ⊥
@@ -99,14 +99,14 @@ abbrev pub IsLastOf : List ℕ → ℕ → Type 0
 IsLastOf places at = (earlier : List ℕ) × (places ≡ earlier ++ at ∷ [])
 
 -- what is wrong with the settings of these units as a whole
-abbrev pub IsAmiss : List WordUnit → Settings → WordFault → Type 0
-IsAmiss units s (UnknownOption at) = ⊥
-IsAmiss units s (MissingValue at) = ⊥
-IsAmiss units s (BadValue at) = ⊥
-IsAmiss units s NoFormat = (s.logs ≢ []) × (s.log_format ≡ None)
-IsAmiss units s NoInput = (s.logs ≡ []) × (s.restore ≡ false) × (s.generate ≡ None)
-IsAmiss units s (Conflict at) = IsLastOf (generate_places 0 units) at × HasOther s
-IsAmiss units s NoMemory = ⊥
+abbrev pub IsSettingsFault : List WordUnit → Settings → WordFault → Type 0
+IsSettingsFault units s (UnknownOption at) = ⊥
+IsSettingsFault units s (MissingValue at) = ⊥
+IsSettingsFault units s (BadValue at) = ⊥
+IsSettingsFault units s NoFormat = (s.logs ≢ []) × (s.log_format ≡ None)
+IsSettingsFault units s NoInput = (s.logs ≡ []) × (s.restore ≡ false) × (s.generate ≡ None)
+IsSettingsFault units s (Conflict at) = IsLastOf (generate_places 0 units) at × HasOther s
+IsSettingsFault units s NoMemory = ⊥
 
 -- the order of what may be wrong with the settings as a whole
 abbrev pub rank_of : WordFault → ℕ
@@ -119,15 +119,15 @@ rank_of _ = 3
 pub record AreAccepted (words : List (List ℕ)) (s : Settings) : Type 0 where
   pub units : List WordUnit
   pub are_units : AreUnits words units s
-  pub faultless : (fault : WordFault) → ¬ IsAmiss units s fault
+  pub faultless : (fault : WordFault) → ¬ IsSettingsFault units s fault
 
 -- the words make settings with which this is wrong, and nothing before it
 pub record AreRefused (words : List (List ℕ)) (fault : WordFault) : Type 0 where
   pub units : List WordUnit
   pub settings : Settings
   pub are_units : AreUnits words units settings
-  pub stands : IsAmiss units settings fault
-  pub first : (other : WordFault) → IsAmiss units settings other → ¬ (rank_of other < rank_of fault)
+  pub stands : IsSettingsFault units settings fault
+  pub first : (other : WordFault) → IsSettingsFault units settings other → ¬ (rank_of other < rank_of fault)
 
 -- The settings that words mean, or the fault for which they mean none: the first that has a place among them, and where
 -- there is none, the first of what is wrong with their settings as a whole.

@@ -2,7 +2,7 @@ ghost use Rattle.std.specs.Prelude.{◌≡◌, option_map};
 ghost use Rattle.ga_words.specs.Options.{takes_of};
 ghost use Rattle.ga_words.specs.Steps.Settings.{meaning};
 
-use crate::table::{Row, beside};
+use crate::table_row::{TableRow, lookup};
 
 /// What an option takes, with the setting that it makes.
 #[derive(Clone, Copy)]
@@ -66,41 +66,41 @@ pub(crate) enum Number {
 }
 
 /// The options (own profile: the greatest numbers, and `--double-decode-url` and `--generate`).
-const OPTIONS: [Row<Takes>; 26] = [
-    Row("--log-format", Takes::Format(Format::Log)),
-    Row("--date-format", Takes::Format(Format::Date)),
-    Row("--time-format", Takes::Format(Format::Time)),
-    Row("-o", Takes::Target),
-    Row("--output", Takes::Target),
-    Row("--browsers-file", Takes::Name(Name::BrowsersFile)),
-    Row("--static-file", Takes::Name(Name::StaticFile)),
-    Row("--all-static-files", Takes::Flag(Flag::AllStatic)),
-    Row("--exclude-ip", Takes::Addresses),
-    Row("--no-query-string", Takes::Flag(Flag::NoQuery)),
-    Row("--ignore-crawlers", Takes::Flag(Flag::IgnoreCrawlers)),
-    Row("--ignore-status", Takes::Status),
-    Row("--ignore-panel", Takes::OfPanel(false)),
-    Row("--enable-panel", Takes::OfPanel(true)),
-    Row("--no-ip-validation", Takes::Flag(Flag::NoIpValidation)),
-    Row("--no-strict-status", Takes::Flag(Flag::NoStrictStatus)),
-    Row("--4xx-to-unique-count", Takes::Flag(Flag::Count4xx)),
-    Row("--444-as-404", Takes::Flag(Flag::As404)),
-    Row("--double-decode-url", Takes::Flag(Flag::DoubleDecode)),
-    Row(
+const OPTIONS: [TableRow<Takes>; 26] = [
+    TableRow("--log-format", Takes::Format(Format::Log)),
+    TableRow("--date-format", Takes::Format(Format::Date)),
+    TableRow("--time-format", Takes::Format(Format::Time)),
+    TableRow("-o", Takes::Target),
+    TableRow("--output", Takes::Target),
+    TableRow("--browsers-file", Takes::Name(Name::BrowsersFile)),
+    TableRow("--static-file", Takes::Name(Name::StaticFile)),
+    TableRow("--all-static-files", Takes::Flag(Flag::AllStatic)),
+    TableRow("--exclude-ip", Takes::Addresses),
+    TableRow("--no-query-string", Takes::Flag(Flag::NoQuery)),
+    TableRow("--ignore-crawlers", Takes::Flag(Flag::IgnoreCrawlers)),
+    TableRow("--ignore-status", Takes::Status),
+    TableRow("--ignore-panel", Takes::OfPanel(false)),
+    TableRow("--enable-panel", Takes::OfPanel(true)),
+    TableRow("--no-ip-validation", Takes::Flag(Flag::NoIpValidation)),
+    TableRow("--no-strict-status", Takes::Flag(Flag::NoStrictStatus)),
+    TableRow("--4xx-to-unique-count", Takes::Flag(Flag::Count4xx)),
+    TableRow("--444-as-404", Takes::Flag(Flag::As404)),
+    TableRow("--double-decode-url", Takes::Flag(Flag::DoubleDecode)),
+    TableRow(
         "--max-items",
         Takes::Number(Number::MaxItems, 1, 4_294_967_295),
     ),
-    Row("--jobs", Takes::Number(Number::Jobs, 1, 16)),
-    Row("--chunk-size", Takes::Number(Number::Chunk, 1, 32_768)),
-    Row("--persist", Takes::Flag(Flag::Persist)),
-    Row("--restore", Takes::Flag(Flag::Restore)),
-    Row("--db-path", Takes::Name(Name::DbPath)),
-    Row("--generate", Takes::Number(Number::Generate, 1, 1_000_000)),
+    TableRow("--jobs", Takes::Number(Number::Jobs, 1, 16)),
+    TableRow("--chunk-size", Takes::Number(Number::Chunk, 1, 32_768)),
+    TableRow("--persist", Takes::Flag(Flag::Persist)),
+    TableRow("--restore", Takes::Flag(Flag::Restore)),
+    TableRow("--db-path", Takes::Name(Name::DbPath)),
+    TableRow("--generate", Takes::Number(Number::Generate, 1, 1_000_000)),
 ];
 
 /// What the option of this name takes, byte for byte.
 pub(crate) fn option_named(name: &str) -> Option<Takes>
     ensures { option_map meaning result ≡ takes_of name.now }
 {
-    beside(&OPTIONS, name)
+    lookup(&OPTIONS, name)
 }

@@ -5,7 +5,7 @@ ghost use Rattle.ga_words.specs.Steps.Settings.{IsValueFault, meaning, with_flag
 ghost use Rattle.ga_words.specs.Units.{AddsLogs};
 
 use crate::options::{Flag, Format, Name, Number, Takes};
-use crate::panels::panel_named;
+use crate::panel_names::panel_named;
 use crate::values::{number_of, range_of, target_of};
 use crate::{Output, Settings, WordFault};
 use ga_base::{NoMemory, Panel, Text};

@@ -39,18 +39,18 @@ pub(crate) fn word_of(word: &str) -> Word<'_>
     if let Some(takes) = option_named(word) {
         return Word::Alone(takes);
     }
-    match joined_in(word) {
+    match option_with_value(word) {
         Some((name, takes, value)) => Word::Joined { name, takes, value },
         None => Word::Unknown,
     }
 }
 
 /// The option, what it takes, and its value, where the word has all three.
-fn joined_in(word: &str) -> Option<(&str, Takes, &str)>
+fn option_with_value(word: &str) -> Option<(&str, Takes, &str)>
     ensures { MatchOption result (HasNoJoined word.now)
         (λ joined. IsJoined word.now joined.0.now joined.1 joined.2.now) }
 {
-    let (name, value) = cut(word)?;
+    let (name, value) = cut_at_equals(word)?;
     if name == SHORT {
         return None;
     }
@@ -58,7 +58,7 @@ fn joined_in(word: &str) -> Option<(&str, Takes, &str)>
 }
 
 /// What stands before the first `=` of a word, and what stands behind it.
-fn cut(word: &str) -> Option<(&str, &str)>
+fn cut_at_equals(word: &str) -> Option<(&str, &str)>
     ensures { MatchOption result (IsPlain word.now) (λ parts. IsCut word.now parts.0.now parts.1.now) }
 {
     word.split_once(EQUALS)

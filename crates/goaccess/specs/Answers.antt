@@ -1,7 +1,7 @@
 -- What the program answers of itself, to one word.
 use Rattle.std.specs.Prelude.{◌≡◌, ◌≢◌, ℕ, List, [], ◌∷◌, codes, Option, Some, None, if◌then◌else◌}
 use Rattle.std.specs.Str.{bytes_eq}
-use Rattle.ga_ports.specs.Counts.{raised}
+use Rattle.ga_counters.specs.Counts.{raised}
 use Rattle.ga_ports.specs.Outs.{OutsView, takes}
 use Rattle.ga_ports.specs.declared.outs.To.TheVariants.{Stdout}
 use Rattle.ga_run.specs.Printing.{ChangesOnly, TakesOrStops}

@@ -51,7 +51,7 @@ fn a_real_disk_is_two_files(rt: HostRuntime) -> Result<(), Fail> {
     let mut disk = RealDisk::new(&rt, alloc);
     assert_eq!(rt; write_both(&mut disk, &folder), Ok(()));
     drop(disk);
-    for (name, bytes) in [("goaccess-0.db", "abXY"), ("goaccess-1.db", "other")] {
+    for (name, bytes) in [("goaccess.side0", "abXY"), ("goaccess.side1", "other")] {
         let name = format!(in alloc; "{path}/{name}")?;
         assert_eq!(rt; fs::read(&rt, name.as_str())?.as_slice(), bytes.as_bytes());
     }
@@ -92,7 +92,7 @@ fn only_a_folder_with_regular_files_opens(rt: HostRuntime) -> Result<(), Fail> {
     let parent = env::temp_dir(&rt)?;
     let id = process::id(rt.process());
     let path = format!(in alloc; "{}/goaccess-shut-{id}", parent.as_str())?;
-    let side = format!(in alloc; "{path}/goaccess-1.db")?;
+    let side = format!(in alloc; "{path}/goaccess.side1")?;
     let nothing = format!(in alloc; "{path}/nothing")?;
     fs::create_dir_all(&rt, side.as_str())?;
     for name in ["", "/dev/null", nothing.as_str(), path.as_str()] {

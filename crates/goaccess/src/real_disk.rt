@@ -3,7 +3,7 @@ ghost use Rattle.std.specs.Fs.{IsFile, IsDir, file_type};
 ghost use Rattle.ga_disk.specs.Disk.{calls_once, fails_once, max_size};
 ghost use Rattle.goaccess.specs.FreshDisk.{any_images, no_disk_open, reads-as-any};
 
-use crate::real_files::regular;
+use crate::real_files::only_regular;
 use ga_base::Text;
 use ga_disk::{Disk, DiskCounts, MAX_SIZE};
 use ga_ports::Failed;
@@ -14,7 +14,7 @@ use std::marker::Model;
 use std::os::unix::fs::FileExt;
 use std::rt;
 
-/// The disk of the system: the files `goaccess-0.db` and `goaccess-1.db` of a folder. It tells no content, and nothing
+/// The disk of the system: the files `goaccess.side0` and `goaccess.side1` of a folder. It tells no content, and nothing
 /// of what a crash may leave; each failure is counted.
 ///
 /// While it is open it holds an advisory lock on the file of side 0, so that a second program can't open the same
@@ -146,8 +146,8 @@ fn settle<T: Drop>(counts: &mut DiskCounts, tried: io::Result<T>) -> Result<T, F
 /// The names of the files of both sides in a folder.
 fn names_in(alloc: Global, folder: &str) -> Result<[String; 2], AllocError> {
     Ok([
-        format!(in alloc; "{folder}/goaccess-0.db")?,
-        format!(in alloc; "{folder}/goaccess-1.db")?,
+        format!(in alloc; "{folder}/goaccess.side0")?,
+        format!(in alloc; "{folder}/goaccess.side1")?,
     ])
 }
 
@@ -188,7 +188,7 @@ fn open_side<R: rt::Files<File = File>>(rt: &R, path: &str) -> io::Result<(File,
         .write(true)
         .create(true)
         .open(rt, path)?;
-    let metadata = regular(file.metadata()?)?;
+    let metadata = only_regular(file.metadata()?)?;
     Ok((file, metadata))
 }
 

@@ -115,14 +115,14 @@ impl<'a, R: rt::Files<File = File>> Files for RealFiles<'a, R> {
 fn open_regular<R: rt::Files<File = File>>(rt: &R, path: &str) -> io::Result<(File, Metadata)>
     ensures { IfOk result (λ opened. IsFile (file_type opened.1)) }
 {
-    regular(fs::metadata(rt, path)?)?;
+    only_regular(fs::metadata(rt, path)?)?;
     let file = fs::open(rt, path)?;
-    let metadata = regular(file.metadata()?)?;
+    let metadata = only_regular(file.metadata()?)?;
     Ok((file, metadata))
 }
 
 /// What the system says of a file, where that is a regular one: a folder, a pipe or a device is none.
-pub fn regular(metadata: Metadata) -> io::Result<Metadata>
+pub fn only_regular(metadata: Metadata) -> io::Result<Metadata>
     ensures regular { IfOk result (λ same. (same ≡ metadata) × IsFile (file_type same)) }
     ensures other { IsErr result ↔ ¬ IsFile (file_type metadata) }
 {

@@ -1,5 +1,5 @@
 ghost use Rattle.std.specs.Prelude.{◌≡◌, ◌≤◌, ◌<◌, ℕ, length, IfOk, OnErr};
-ghost use Rattle.ga_ports.specs.Counts.{raised};
+ghost use Rattle.ga_counters.specs.Counts.{raised};
 ghost use Rattle.goaccess.specs.Fresh.{nothing_taken};
 
 use ga_base::Text;

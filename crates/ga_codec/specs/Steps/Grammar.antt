@@ -8,7 +8,7 @@ use Rattle.ga_base.specs.declared.counts.Totals.{Totals}
 use Rattle.ga_base.specs.declared.key.Key.{Key}
 use Rattle.ga_base.specs.declared.name.Name.{Name}
 use Rattle.ga_base.specs.declared.panel.Panel.{Panel}
-use Rattle.ga_summary.specs.Rows.{Row, SummaryValue}
+use Rattle.ga_summary.specs.SummaryRows.{SummaryRow, SummaryValue}
 use Rattle.ga_codec.specs.Values.{EntryValue, SnapshotValue, DeltaValue}
 use Rattle.ga_codec.specs.Spelling.{eight_bytes, text_bytes, totals_bytes, panel_bytes, key_bytes, sums_bytes, name_bytes, row_bytes, summary_bytes, entry_bytes, version_bytes, snapshot_bytes, delta_bytes}
 use Rattle.ga_codec.specs.Shapes.{FitsText, FitsTotals, FitsKey, FitsSums, FitsName, FitsRow, FitsSummary, FitsEntry, IsGeneration, FitsSnapshot, FitsDelta}
@@ -49,7 +49,7 @@ sums = record { spell = sums_bytes; fits = λ s. FitsSums s }
 abbrev pub name : Part Name
 name = record { spell = name_bytes; fits = λ n. FitsName n }
 
-abbrev pub row : Part Row
+abbrev pub row : Part SummaryRow
 row = record { spell = row_bytes; fits = λ r. FitsRow r }
 
 abbrev pub summary : Part SummaryValue

@@ -2,11 +2,11 @@
 use Rattle.std.specs.Prelude.{ℕ, map}
 use Rattle.std.specs.List.{AllByRecursion}
 use Rattle.ga_summary.specs.declared.row_view.RowView.{RowView}
-use Rattle.ga_summary.specs.Rows.{Row}
-use Rattle.ga_summary.specs.Parts.{value_of}
+use Rattle.ga_summary.specs.SummaryRows.{SummaryRow}
+use Rattle.ga_summary.specs.SummaryParts.{value_of}
 use Rattle.ga_summary.specs.Sound.{IsSummary}
 use Rattle.ga_codec.specs.declared.entry_shape.EntryShape.{EntryShape}
-use Rattle.ga_codec.specs.declared.reading.Body.{Body}
+use Rattle.ga_codec.specs.declared.snapshot_reading.Body.{Body}
 use Rattle.ga_codec.specs.Values.{EntryValue, SnapshotValue, DeltaValue}
 use Rattle.ga_codec.specs.Shapes.{IsEntry}
 
@@ -25,5 +25,5 @@ pub record AreGood (body : Body) : Type 0 where
   pub entries : AllByRecursion IsEntry (map shape_value body.entries.items)
 
 -- a row as it is lent
-abbrev pub viewed_row : RowView → Row
+abbrev pub viewed_row : RowView → SummaryRow
 viewed_row row = record { key = row.key.now; sums = row.sums; names = row.names.now }

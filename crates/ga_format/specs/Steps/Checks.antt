@@ -8,7 +8,7 @@ use Rattle.ga_base.specs.declared.formats.FormatFault.TheVariants.{UnknownSpecif
 use Rattle.ga_base.specs.declared.formats.Needed.{Needed}
 use Rattle.ga_base.specs.declared.formats.Needed.TheVariants.{Host, Date, Request}
 use Rattle.ga_format.specs.Units.{FormatUnit, Begins, IsRow, item_of, items_of}
-use Rattle.ga_format.specs.Parts.{repeats, gives}
+use Rattle.ga_format.specs.FieldKinds.{repeats, gives}
 use Rattle.ga_format.specs.FormatOf.{HasUnknown, HasRepeated, HasUndelimited}
 
 -- the unit at the front of the text gives this item, and these bytes come after it

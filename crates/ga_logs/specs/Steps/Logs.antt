@@ -6,10 +6,10 @@ use Rattle.ga_outcomes.specs.declared.setup.Setup.{Setup}
 use Rattle.ga_ports.specs.Files.{FilesView}
 use Rattle.ga_resume.specs.declared.fault.PlaceFault.{PlaceFault}
 use Rattle.ga_resume.specs.declared.fault.PlaceFault.TheVariants.{FileFault, FileShort, NoMemory}
-use Rattle.ga_streams.specs.Counting.{CountingSeen, HasCounted}
-use Rattle.ga_streams.specs.declared.full.CountingFault.{CountingFault}
-use Rattle.ga_streams.specs.declared.full.CountingFault.TheVariants.{Full as CounterFull, NoMemory as CountingNoMemory}
-use Rattle.ga_streams.specs.declared.full.Full.{Full as TheFull}
+use Rattle.ga_logs.specs.Counting.{CountingSeen, HasCounted}
+use Rattle.ga_logs.specs.declared.full.CountingFault.{CountingFault}
+use Rattle.ga_logs.specs.declared.full.CountingFault.TheVariants.{Full as CounterFull, NoMemory as CountingNoMemory}
+use Rattle.ga_logs.specs.declared.full.Full.{Full as TheFull}
 use Rattle.ga_logs.specs.Following.{MissesLog, ReadsAll, ReadsPortion}
 use Rattle.ga_logs.specs.Portions.{Follows, counted_lines, keeps}
 use Rattle.ga_logs.specs.Steps.Streaming.{Adds}

@@ -1,17 +1,17 @@
 -- A part of a log on its way to the counters, slice by slice.
-use Rattle.std.specs.Prelude.{◌≡◌, ◌≢◌, ℕ, ◌+◌, ◌-◌, ◌<◌, ◌≤◌, ◌^◌, Bool, false, IfErr, IfOk, IfSome, IsSome, IsTrue, List, Result, ◌++◌, length}
+use Rattle.std.specs.Prelude.{◌≡◌, ◌≢◌, ℕ, ◌+◌, ◌-◌, ◌<◌, ◌≤◌, ◌^◌, Bool, false, IfErr, IfOk, IfSome, IsSome, IsTrue, List, Result, ◌++◌, length, take}
 use Rattle.ga_batches.specs.Batches.{BatcherSeen, Holds, held}
 use Rattle.ga_line.specs.Lines.{lines}
 use Rattle.ga_outcomes.specs.declared.setup.Setup.{Setup}
-use Rattle.ga_ports.specs.Counts.{NoneDue}
+use Rattle.ga_counters.specs.Counts.{NoneDue}
 use Rattle.ga_ports.specs.Files.{FilesView}
-use Rattle.ga_ports.specs.Stretch.{FilesWent}
-use Rattle.ga_resume.specs.Reading.{ReadsPart, StopsWithin}
+use Rattle.ga_ports.specs.Trace.{FilesTrace}
+use Rattle.ga_resume.specs.ReadPart.{ReadsPart, StopsWithin}
 use Rattle.ga_resume.specs.declared.fault.PlaceFault.{PlaceFault}
 use Rattle.ga_resume.specs.declared.fault.PlaceFault.TheVariants.{FileFault}
-use Rattle.ga_streams.specs.Counting.{CountingSeen, HasCounted}
-use Rattle.ga_streams.specs.Streams.{IsBehind, IsWithin}
-use Rattle.ga_logs.specs.Portions.{AreEnded}
+use Rattle.ga_logs.specs.Counting.{CountingSeen, HasCounted}
+use Rattle.ga_logs.specs.Streams.{IsBehind, IsWithin}
+use Rattle.ga_base.specs.Lines.{AreEnded}
 
 -- these lines are counted besides
 pub record Adds (setup : Setup) (more : List (List ℕ)) (old new : CountingSeen) : Type 0 where
@@ -59,11 +59,26 @@ pub record FillsTo (from to end : ℕ) (files files' : FilesView) (batcher batch
   pub within : end ≤ to
   pub fills : FillsPart from end files files' batcher batcher'
 
+-- bytes of a text can be fed to a batcher that has room
+pub record CanFeed (text : List ℕ) (batcher : BatcherSeen) : Type 0 where
+  pub some : 0 < length text
+  pub going : batcher.is_over ≡ false
+  pub countable : batcher.fed + length text < 2 ^ 64
+  pub room : length (held batcher) < batcher.limit
+
+-- so many bytes of a text were fed, from its front
+pub record FeedsFront (count : ℕ) (text : List ℕ) (batcher batcher' : BatcherSeen) : Type 0 where
+  pub some : 0 < count
+  pub within : count ≤ length text
+  pub going : batcher'.is_over ≡ false
+  pub fed : batcher'.fed ≡ batcher.fed + count
+  pub holds : (stream taken : List ℕ) → Holds stream taken batcher → Holds (stream ++ take count text) taken batcher'
+
 -- it was, or reading stopped
 pub record FillsOrStops (from to : ℕ) (files files' : FilesView) (batcher batcher' : BatcherSeen) (end : Result ℕ PlaceFault) : Type 0 where
   pub ok : IfOk end (λ end. FillsTo from to end files files' batcher batcher')
   pub failed : IfErr end (λ fault. StopsWithin (to - from) files files' fault)
-  pub calls : FilesWent files files'
+  pub calls : FilesTrace files files'
   pub sure : NoneDue files.listed files.counts.calls → IfErr end (λ fault. fault ≢ FileFault)
 
 -- a batch that was taken before is counted

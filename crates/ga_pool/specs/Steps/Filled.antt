@@ -7,14 +7,14 @@ use Rattle.ga_pairs.specs.Pairs.{IsClosed, SetSeen, given}
 use Rattle.ga_pairs.specs.declared.view.Claims.{Claims}
 use Rattle.ga_pairs.specs.declared.view.Pair.{Pair as Claim}
 use Rattle.ga_pool.specs.Steps.Filling.{CanPut, Gains, adds, claims_of, raises, weight_of_rows}
-use Rattle.ga_pool.specs.declared.filling.Load.{Load}
-use Rattle.ga_pool.specs.declared.filling.Put.{Put}
-use Rattle.ga_pool.specs.declared.parts.Rows.{Rows}
+use Rattle.ga_pool.specs.declared.filling.FillTask.{FillTask}
+use Rattle.ga_pool.specs.declared.filling.TableSeats.{TableSeats}
+use Rattle.ga_pool.specs.declared.table_inputs.TableRows.{TableRows}
 use Rattle.ga_shards.specs.Numbers.{NumberingSeen}
 
 -- the rows of each worker can be put in
-abbrev pub CanPutAll : NumberingSeen Key → NumberingSeen Visitor → List Rows → Type 0
-CanPutAll keys visitors rows = (worker : ℕ) (d : Rows) → worker < length rows
+abbrev pub CanPutAll : NumberingSeen Key → NumberingSeen Visitor → List TableRows → Type 0
+CanPutAll keys visitors rows = (worker : ℕ) (d : TableRows) → worker < length rows
     → CanPut (length keys.items) (length visitors.items) keys.numbers visitors.numbers worker (slice_index_or rows worker d)
 
 -- the tables are of these numbers
@@ -25,20 +25,20 @@ pub record AreTablesOf (keys : NumberingSeen Key) (visitors : NumberingSeen Visi
   pub visitors_fit : length visitors.items < 4294967296
 
 -- a worker's seats are of these tables, have one share and have put in nothing; they are allowed what the worker's rows weigh
-pub record IsSeated (counts : TableSeen) (pairs : SetSeen) (load : Load) : Type 0 where
+pub record IsSeated (counts : TableSeen) (pairs : SetSeen) (load : FillTask) : Type 0 where
   pub counts_table : load.counts.table ≡ counts.table
   pub pairs_table : load.pairs.table ≡ pairs.table
   pub counts_view : load.counts.view ≡ blank counts.opening.words counts.opening.maxima 1 (weight_of_rows load.rows)
   pub pairs_view : load.pairs.claims ≡ given 1 (length load.rows.pairs.items)
 
 -- a load can be put into the tables
-pub record CanBePut (counts : TableSeen) (pairs : SetSeen) (keys : NumberingSeen Key) (visitors : NumberingSeen Visitor) (load : Load) : Type 0 where
+pub record CanBePut (counts : TableSeen) (pairs : SetSeen) (keys : NumberingSeen Key) (visitors : NumberingSeen Visitor) (load : FillTask) : Type 0 where
   pub tables : AreTablesOf keys visitors counts
   pub seated : IsSeated counts pairs load
   pub rows : CanPut (length keys.items) (length visitors.items) keys.numbers visitors.numbers load.worker load.rows
 
 -- it was put in, by a worker that gives its seats back
-pub record HasPut (counts : TableSeen) (pairs : SetSeen) (keys : NumberingSeen Key) (visitors : NumberingSeen Visitor) (load : Load) (put : Put) : Type 0 where
+pub record HasPut (counts : TableSeen) (pairs : SetSeen) (keys : NumberingSeen Key) (visitors : NumberingSeen Visitor) (load : FillTask) (put : TableSeats) : Type 0 where
   pub counts_table : put.counts.table ≡ counts.table
   pub pairs_table : put.pairs.table ≡ pairs.table
   pub counts_share : put.counts.view.share ≡ 1

@@ -4,7 +4,7 @@ use Rattle.ga_base.specs.declared.counts.Sums.{Sums}
 use Rattle.ga_counts.specs.Counts.{maximum_at, tally_at}
 use Rattle.ga_counts.specs.declared.view.CountView.{CountView}
 use Rattle.ga_pairs.specs.declared.view.Pair.{Pair as Claim}
-use Rattle.ga_pool.specs.declared.parts.Rows.{Rows}
+use Rattle.ga_pool.specs.declared.table_inputs.TableRows.{TableRows}
 use Rattle.ga_tallies.specs.declared.pairs.Pair.{Pair}
 
 -- what a number's sums add to a word
@@ -68,7 +68,7 @@ abbrev pub CanClaim : ℕ → ℕ → List ℕ → List ℕ → List Pair → Ty
 CanClaim keys visitors numbers names pairs = All (IsNumbered keys visitors numbers names) pairs
 
 -- what rows weigh: the most that they add to one word
-abbrev pub weight_of_rows : Rows → ℕ
+abbrev pub weight_of_rows : TableRows → ℕ
 weight_of_rows rows = rows.totals.lines + rows.totals.bytes + rows.totals.micros
 
 -- the numbers of a worker's items
@@ -76,29 +76,29 @@ abbrev pub numbers_at : List (List ℕ) → ℕ → List ℕ
 numbers_at numbers worker = slice_index_or numbers worker []
 
 -- the rows of a worker can be put in
-pub record CanPut (keys visitors : ℕ) (numbers names : List (List ℕ)) (worker : ℕ) (rows : Rows) : Type 0 where
+pub record CanPut (keys visitors : ℕ) (numbers names : List (List ℕ)) (worker : ℕ) (rows : TableRows) : Type 0 where
   pub sums : CanAdd keys (weight_of_rows rows) (numbers_at numbers worker) rows.sums.items
   pub pairs : CanClaim keys visitors (numbers_at numbers worker) (numbers_at names worker) rows.pairs.items
 
 -- numbers of each worker's rows, from this one on, added up; the greatest of them; and lists, one behind the other
-abbrev pub sum_from : (ℕ → Rows → ℕ) → ℕ → List Rows → ℕ
+abbrev pub sum_from : (ℕ → TableRows → ℕ) → ℕ → List TableRows → ℕ
 sum_from f worker [] = 0
 sum_from f worker (rows ∷ more) = f worker rows + sum_from f (worker + 1) more
 
-abbrev pub max_from : (ℕ → Rows → ℕ) → ℕ → List Rows → ℕ
+abbrev pub max_from : (ℕ → TableRows → ℕ) → ℕ → List TableRows → ℕ
 max_from f worker [] = 0
 max_from f worker (rows ∷ more) = max (f worker rows) (max_from f (worker + 1) more)
 
-abbrev pub lists_from : {X : Type 0} → (ℕ → Rows → List X) → ℕ → List Rows → List X
+abbrev pub lists_from : {X : Type 0} → (ℕ → TableRows → List X) → ℕ → List TableRows → List X
 lists_from f worker [] = []
 lists_from f worker (rows ∷ more) = f worker rows ++ lists_from f (worker + 1) more
 
 -- what a worker's rows add to a word, to how much they raise a place, and the pairs that they claim
-abbrev pub adds : List (List ℕ) → ℕ → ℕ → Rows → ℕ
+abbrev pub adds : List (List ℕ) → ℕ → ℕ → TableRows → ℕ
 adds numbers word worker rows = added_at word (numbers_at numbers worker) rows.sums.items
 
-abbrev pub raises : List (List ℕ) → ℕ → ℕ → Rows → ℕ
+abbrev pub raises : List (List ℕ) → ℕ → ℕ → TableRows → ℕ
 raises numbers place worker rows = raised_to place (numbers_at numbers worker) rows.sums.items
 
-abbrev pub claims_of : List (List ℕ) → List (List ℕ) → ℕ → Rows → List Claim
+abbrev pub claims_of : List (List ℕ) → List (List ℕ) → ℕ → TableRows → List Claim
 claims_of numbers names worker rows = map (claim_of (numbers_at numbers worker) (numbers_at names worker)) rows.pairs.items

@@ -6,33 +6,34 @@ use Rattle.ga_base.specs.declared.counts.TheConstants.{LIMIT}
 use Rattle.ga_base.specs.declared.entry.Entry.{Entry}
 use Rattle.ga_disk.specs.Disk.{DiskView}
 use Rattle.ga_disk.specs.Images.{Images}
-use Rattle.ga_disk.specs.Stretch.{DiskWent}
-use Rattle.ga_keep.specs.Database.{AreBase, FailsKeeping, Finds, IsUntouched, KeptIf, LooksAtMost, follow_of, mode_of, start_of}
-use Rattle.ga_keep.specs.Steps.{Misses}
+use Rattle.ga_disk.specs.Trace.{DiskTrace}
+use Rattle.ga_keep.specs.RunDatabase.{AreBase, FailsKeeping, Finds, IsUntouched, KeptIf, LooksAtMost, follow_of, mode_of, start_of}
+use Rattle.ga_keep.specs.Faults.{Misses}
 use Rattle.ga_line.specs.declared.setup.LineSetup.{LineSetup}
-use Rattle.ga_outcomes.specs.Counting.{FillsAmong}
+use Rattle.ga_outcomes.specs.LineOutcomes.{FillsAmong}
 use Rattle.ga_logs.specs.Following.{CanServe, ReadsSome}
-use Rattle.ga_logs.specs.Logs.{CountsLogs, MissesLogs, StopsLogs}
+use Rattle.ga_logs.specs.Logs.{CountsLogs, StopsLogs}
+use Rattle.ga_logs.specs.Missing.{MissesLogs}
 use Rattle.ga_logs.specs.Portions.{counted_lines}
 use Rattle.ga_logs.specs.declared.fault.CountFault.{CountFault}
 use Rattle.ga_logs.specs.declared.fault.CountFault.TheVariants.{Failed as LogFailed, Short as LogShort, Full, NoMemory as CountNoMemory}
 use Rattle.ga_logs.specs.declared.portion.Portion.{Portion}
 use Rattle.ga_outcomes.specs.declared.setup.Setup.{Setup}
-use Rattle.ga_ports.specs.Counts.{Rose}
+use Rattle.ga_counters.specs.Counts.{Rose}
 use Rattle.ga_ports.specs.Files.{FilesView}
 use Rattle.ga_ports.specs.Outs.{OutsView}
-use Rattle.ga_ports.specs.Stretch.{FilesWent, OutsWent}
+use Rattle.ga_ports.specs.Trace.{FilesTrace, OutsTrace}
 use Rattle.ga_ports.specs.declared.outs.To.{To}
 use Rattle.ga_resume.specs.declared.fault.PlaceFault.{PlaceFault}
 use Rattle.ga_resume.specs.declared.fault.PlaceFault.TheVariants.{FileFault as PlaceFailed, FileShort as PlaceShort, NoMemory as PlaceNoMemory}
 use Rattle.ga_store.specs.Commit.{passes_generations}
 use Rattle.ga_store.specs.Database.{DbValue, empty_db}
 use Rattle.ga_store.specs.Holding.{Holds}
-use Rattle.ga_store.specs.Reading.{db_value}
+use Rattle.ga_store.specs.Store.{db_value}
 use Rattle.ga_store.specs.declared.db.Db.{Db}
 use Rattle.ga_store.specs.declared.fault.StoreFault.{StoreFault}
 use Rattle.ga_store.specs.declared.fault.StoreFault.TheVariants.{CounterFull as StoreFull, Damaged, DiskFault as StoreFailed, NoMemory as StoreNoMemory}
-use Rattle.ga_streams.specs.declared.workers.Workers.{Workers}
+use Rattle.ga_workers.specs.declared.workers.Workers.{Workers}
 use Rattle.ga_tallies.specs.Tallies.{TallySeen}
 use Rattle.ga_words.specs.declared.fault.WordFault.{WordFault}
 use Rattle.ga_words.specs.declared.fault.WordFault.TheVariants.{NoMemory as WordNoMemory}
@@ -48,7 +49,7 @@ use Rattle.ga_run.specs.Statuses.{target_name}
 use Rattle.ga_run.specs.World.{World}
 use Rattle.ga_run.specs.declared.rules.RulesFault.{RulesFault}
 use Rattle.ga_run.specs.declared.rules.RulesFault.TheVariants.{Unread, Bad}
-use Rattle.ga_run.specs.declared.run.Counted.{Counted}
+use Rattle.ga_run.specs.declared.run.RunCounts.{RunCounts}
 use Rattle.ga_run.specs.declared.status.Input.{Input}
 use Rattle.ga_run.specs.declared.status.Input.TheVariants.{Rules, Log}
 use Rattle.ga_run.specs.declared.status.Status.{Status}
@@ -105,7 +106,7 @@ pub record HasFound (s : Settings) (disk disk' : DiskView) (images images' : Ima
   pub begin : AreBase s stored entries
 
 -- what was counted, and what the run began with
-pub record CountedValue (setup : Setup) (s : Settings) (counted : Counted) (files files' : FilesView) (disk disk' : DiskView)
+pub record CountsRun (setup : Setup) (s : Settings) (counted : RunCounts) (files files' : FilesView) (disk disk' : DiskView)
     (images images' : Images) : Type 0 where
   pub finds : Finds s disk disk' images images' (db_value counted.stored)
   pub has : HasCounted setup s (db_value counted.stored) files files'
@@ -205,14 +206,14 @@ pub record IsReady (disk : DiskView) (images : Images) (stored : Db) : Type 0 wh
   pub is_open : IsTrue disk.is_open
   pub holds : Holds disk images (db_value stored)
 
-pub record Delivers (s : Settings) (counted : Counted) (disk disk' : DiskView) (images images' : Images) (outs outs' : OutsView)
+pub record Delivers (s : Settings) (counted : RunCounts) (disk disk' : DiskView) (images images' : Images) (outs outs' : OutsView)
     (status : Status) : Type 0 where
   pub text : List ℕ
   pub is_text : IsTextOf s counted.whole text
   pub kept : KeptIf s (db_value counted.stored) counted.whole counted.entries disk disk' images images'
   pub report : EndsReport s text outs outs' status
 
-abbrev pub EndsKeeping : Settings → Counted → DiskView → DiskView → Images → Images → OutsView → OutsView → Status → Type 0
+abbrev pub EndsKeeping : Settings → RunCounts → DiskView → DiskView → Images → Images → OutsView → OutsView → Status → Type 0
 EndsKeeping s counted disk disk' images images' outs outs' Done = Delivers s counted disk disk' images images' outs outs' Done
 EndsKeeping s counted disk disk' images images' outs outs' (OutFault to at) = Delivers s counted disk disk' images images' outs outs' (OutFault to at)
 EndsKeeping s counted disk disk' images images' outs outs' DiskFault =
@@ -223,12 +224,12 @@ EndsKeeping s counted disk disk' images images' outs outs' (CounterFull which to
 EndsKeeping s counted disk disk' images images' outs outs' NoMemory = IsUntouched disk disk' images images' × (outs' ≡ outs)
 EndsKeeping s counted disk disk' images images' outs outs' _ = ⊥
 
-pub record EndsLast (s : Settings) (counted : Counted) (disk disk' : DiskView) (images images' : Images) (outs outs' : OutsView)
+pub record EndsLast (s : Settings) (counted : RunCounts) (disk disk' : DiskView) (images images' : Images) (outs outs' : OutsView)
     (status : Status) : Type 0 where
   pub ends : EndsKeeping s counted disk disk' images images' outs outs' status
   pub errors : outs'.stderr ≡ outs.stderr
-  pub disk_went : DiskWent disk disk'
-  pub outs_went : OutsWent outs outs'
+  pub disk_trace : DiskTrace disk disk'
+  pub outs_trace : OutsTrace outs outs'
 
 -- ---- a run that uses no database, behind its setup
 
@@ -238,7 +239,7 @@ pub record EndsTold (setup : Setup) (s : Settings) (stored : DbValue) (files fil
   pub is_text : IsTextAlone setup s stored files files' text
   pub ends : EndsReport s text outs outs' status
   pub errors : outs'.stderr ≡ outs.stderr
-  pub outs_went : OutsWent outs outs'
+  pub outs_trace : OutsTrace outs outs'
 
 -- there is none
 pub record EndsUntold (setup : Setup) (s : Settings) (stored : DbValue) (files files' : FilesView) (outs outs' : OutsView) (status : Status) : Type 0 where
@@ -250,7 +251,7 @@ pub record EndsAlone (setup : Setup) (s : Settings) (files files' : FilesView) (
   pub stored : Db
   pub empty : db_value stored ≡ empty_db
   pub ends : EndsTold setup s (db_value stored) files files' outs outs' status ⊎ EndsUntold setup s (db_value stored) files files' outs outs' status
-  pub files_went : FilesWent files files'
+  pub files_trace : FilesTrace files files'
 
 -- ---- the run over its inputs
 
@@ -259,9 +260,9 @@ pub record EndsInputs (line : LineSetup) (s : Settings) (old new : World) (statu
   pub ends : Ends line s old new status
   pub faults : SameFaults (faults_after status old.files.counts) new.files.counts
   pub errors : new.outs.stderr ≡ old.outs.stderr
-  pub files_went : FilesWent old.files new.files
-  pub disk_went : DiskWent old.disk new.disk
-  pub outs_went : OutsWent old.outs new.outs
+  pub files_trace : FilesTrace old.files new.files
+  pub disk_trace : DiskTrace old.disk new.disk
+  pub outs_trace : OutsTrace old.outs new.outs
 
 -- how a run ended that read nothing
 abbrev pub EndsEarly : Settings → Status → Type 0

@@ -18,7 +18,7 @@ abbrev pub IsRefusal : Which → (FormatFault → Type 0) → SetupFault → Typ
 IsRefusal which fails (Refused other fault) = (other ≡ which) × fails fault
 IsRefusal which fails NoMemory = Unit {0}
 
--- what the formats of the settings come to, where memory is at hand: how lines are read, or one refusal
-abbrev pub ComeTo : Settings → Result LineSetup SetupFault → Type 0
-ComeTo s (Ok line) = IsLineSetup s line
-ComeTo s (Err fault) = IsSetupFault s fault × (fault ≢ NoMemory)
+-- what the formats of the settings mean, where memory is at hand: how lines are read, or one refusal
+abbrev pub GivesLineSetup : Settings → Result LineSetup SetupFault → Type 0
+GivesLineSetup s (Ok line) = IsLineSetup s line
+GivesLineSetup s (Err fault) = IsSetupFault s fault × (fault ≢ NoMemory)

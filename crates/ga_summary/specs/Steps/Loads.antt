@@ -4,7 +4,7 @@ use Rattle.ga_base.specs.declared.counts.Sums.{Sums}
 use Rattle.ga_base.specs.declared.counts.TheConstants.{BIG}
 use Rattle.ga_base.specs.declared.counts.Totals.{Totals}
 use Rattle.ga_summary.specs.declared.load.Load.{Load}
-use Rattle.ga_summary.specs.Rows.{Row}
+use Rattle.ga_summary.specs.SummaryRows.{SummaryRow}
 
 abbrev pub sums_load : Sums → Load
 sums_load sums = record { hits = sums.hits; bytes = sums.bytes; micros = sums.micros }
@@ -18,7 +18,7 @@ no_load = record { hits = 0; bytes = 0; micros = 0 }
 abbrev pub load_plus : Load → Load → Load
 load_plus a b = record { hits = a.hits + b.hits; bytes = a.bytes + b.bytes; micros = a.micros + b.micros }
 
-abbrev pub load_of : List Row → Load
+abbrev pub load_of : List SummaryRow → Load
 load_of rows = record { hits = sum_by (λ row. row.sums.hits) rows; bytes = sum_by (λ row. row.sums.bytes) rows; micros = sum_by (λ row. row.sums.micros) rows }
 
 pub record LoadWithin (load most : Load) : Type 0 where

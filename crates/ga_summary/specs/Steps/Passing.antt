@@ -12,14 +12,14 @@ use Rattle.ga_base.specs.Orders.{key_cmp, name_cmp}
 use Rattle.ga_base.specs.Panels.{is_same_panel, panel_number}
 use Rattle.ga_summary.specs.declared.layer_sums.LayerSums.{LayerSums}
 use Rattle.ga_summary.specs.declared.load.Load.{Load}
-use Rattle.ga_summary.specs.declared.parts.PartRow.{PartRow}
-use Rattle.ga_summary.specs.Parts.{RowsAreGood, rows_in}
-use Rattle.ga_summary.specs.Rows.{Row, has_name}
+use Rattle.ga_summary.specs.declared.summary_parts.PartRow.{PartRow}
+use Rattle.ga_summary.specs.SummaryParts.{RowsAreGood, rows_in}
+use Rattle.ga_summary.specs.SummaryRows.{SummaryRow, has_name}
 use Rattle.ga_summary.specs.Sound.{layer_rows}
 use Rattle.ga_summary.specs.Steps.Loads.{load_of, load_plus, no_load}
 
 -- what is tested of a row by itself
-pub record StandsAlone (row : Row) : Type 0 where
+pub record StandsAlone (row : SummaryRow) : Type 0 where
   pub form : HasForm row.key
   pub names : IsStrictlySortedBy name_cmp row.names
   pub hit : 1 ≤ row.sums.hits
@@ -63,7 +63,7 @@ with_load sums key more = let at_key = reached sums key in
     cond (is_empty key.label) (record at_key { groups = load_plus at_key.groups more }) (record at_key { entries = load_plus at_key.entries more })
 
 -- the sums are those of the rows; and a key that is above all rows, of another panel or day, is the first of them
-pub record AreSumsOf (rows : List Row) (sums : LayerSums) : Type 0 where
+pub record AreSumsOf (rows : List SummaryRow) (sums : LayerSums) : Type 0 where
   pub here : (groups : Bool) → layer_load sums groups ≡ load_of (layer_rows (record { panel = sums.panel; groups = groups }) sums.date rows)
   pub ahead : (key : Key) (groups : Bool) → All (λ row. key_cmp row.key key ≡ Less) rows → is_at sums key ≡ false
       → layer_rows (record { panel = key.panel; groups = groups }) key.date rows ≡ []

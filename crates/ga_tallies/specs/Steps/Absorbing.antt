@@ -2,10 +2,10 @@
 use Rattle.std.specs.Prelude.{◌≡◌, ◌≤◌, ◌<◌, ◌+◌, ℕ, ◌⊎◌, List, [], ◌∷◌, Some, slice_get}
 use Rattle.std.specs.List.{Contains}
 use Rattle.ga_base.specs.declared.counts.Sums.{Sums}
-use Rattle.ga_tallies.specs.Adding.{KeepsAll, added_at}
+use Rattle.ga_tallies.specs.Steps.Adding.{KeepsAll, added_at}
 use Rattle.ga_tallies.specs.Tallies.{TallySeen, lists_in, pairs_in}
-use Rattle.ga_tallies.specs.declared.apart.Counts.{Counts}
-use Rattle.ga_tallies.specs.declared.moved.Moved.{Moved}
+use Rattle.ga_tallies.specs.declared.tally_columns.Counts.{Counts}
+use Rattle.ga_tallies.specs.declared.remapped_tally.RemappedTally.{RemappedTally}
 
 -- ---- what moves
 
@@ -21,17 +21,17 @@ abbrev pub counts_in : Counts → CountsSeen
 counts_in counts = record { sums = counts.sums.items; pairs = pairs_in (lists_in counts.visits.items) }
 
 -- the same, and the new numbers of its keys and visitors
-pub record MoveSeen : Type 0 where
+pub record RemappedSeen : Type 0 where
   pub keys : List ℕ
   pub visitors : List ℕ
   pub counts : CountsSeen
 
-abbrev pub move_of : Moved → MoveSeen
-move_of moved = record { keys = moved.keys.items; visitors = moved.visitors.items; counts = counts_in moved.counts }
+abbrev pub remapped_seen : RemappedTally → RemappedSeen
+remapped_seen remapped = record { keys = remapped.keys.items; visitors = remapped.visitors.items; counts = counts_in remapped.counts }
 
-abbrev pub moves_with : List (List ℕ) → List (List ℕ) → List CountsSeen → List MoveSeen
-moves_with (numbers ∷ keys) (places ∷ visitors) (counts ∷ more) = record { keys = numbers; visitors = places; counts = counts } ∷ moves_with keys visitors more
-moves_with keys visitors counts = []
+abbrev pub remapped_with : List (List ℕ) → List (List ℕ) → List CountsSeen → List RemappedSeen
+remapped_with (numbers ∷ keys) (places ∷ visitors) (counts ∷ more) = record { keys = numbers; visitors = places; counts = counts } ∷ remapped_with keys visitors more
+remapped_with keys visitors counts = []
 
 -- ---- sums
 
@@ -41,9 +41,9 @@ rows_added [] more rows = rows
 rows_added (number ∷ numbers) [] rows = rows
 rows_added (number ∷ numbers) (line ∷ more) rows = rows_added numbers more (added_at number line rows)
 
-abbrev pub sums_moved : List MoveSeen → List Sums → List Sums
-sums_moved [] rows = rows
-sums_moved (moved ∷ moves) rows = sums_moved moves (rows_added moved.keys moved.counts.sums rows)
+abbrev pub sums_remapped : List RemappedSeen → List Sums → List Sums
+sums_remapped [] rows = rows
+sums_remapped (remapped ∷ remapped_tallies) rows = sums_remapped remapped_tallies (rows_added remapped.keys remapped.counts.sums rows)
 
 -- ---- pairs
 
@@ -62,13 +62,13 @@ abbrev pub IsMapped : List ℕ → List ℕ → List (ℕ × ℕ) → ℕ × ℕ
 IsMapped keys visitors pairs pair = (k : ℕ) × (v : ℕ) × (key : ℕ) × (visitor : ℕ) × Contains pairs (k, v)
     × (slice_get keys k ≡ Some key) × (slice_get visitors v ≡ Some visitor) × (pair ≡ (key, visitor))
 
--- a pair that comes by a move, and one that comes by one of these moves
-abbrev pub IsBrought : MoveSeen → ℕ × ℕ → Type 0
-IsBrought moved pair = IsMapped moved.keys moved.visitors moved.counts.pairs pair
+-- a pair that comes from a remapped tally, and from one of several
+abbrev pub IsBrought : RemappedSeen → ℕ × ℕ → Type 0
+IsBrought remapped pair = IsMapped remapped.keys remapped.visitors remapped.counts.pairs pair
 
-abbrev pub IsMoved : List MoveSeen → ℕ × ℕ → Type 0
-IsMoved [] pair = ⊥
-IsMoved (moved ∷ moves) pair = IsBrought moved pair ⊎ IsMoved moves pair
+abbrev pub IsRemapped : List RemappedSeen → ℕ × ℕ → Type 0
+IsRemapped [] pair = ⊥
+IsRemapped (remapped ∷ remapped_tallies) pair = IsBrought remapped pair ⊎ IsRemapped remapped_tallies pair
 
 -- of those pairs one with a key of so many, of which the first has this number
 abbrev pub IsAmong : ℕ → ℕ → (ℕ × ℕ → Type 0) → ℕ × ℕ → Type 0

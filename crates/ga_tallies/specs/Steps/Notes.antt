@@ -9,9 +9,9 @@ use Rattle.ga_panels.specs.Known.{facts_of, record_of, setup_of}
 use Rattle.ga_panels.specs.Table.{table_keys}
 use Rattle.ga_panels.specs.declared.record_facts.RecordFacts.{RecordFacts}
 use Rattle.ga_shards.specs.Numbers.{noted, place_of}
-use Rattle.ga_tallies.specs.Adding.{AddsOne, added_at}
+use Rattle.ga_tallies.specs.Steps.Adding.{AddsOne, added_at}
 use Rattle.ga_tallies.specs.Tallies.{TallySeen}
-use Rattle.ga_tallies.specs.declared.noting.Visit.{Visit}
+use Rattle.ga_tallies.specs.declared.note_keys.Visit.{Visit}
 
 -- a key's number was put down with a visitor's, where there is a visitor
 abbrev pub AddsVisit : ℕ → Option ℕ → List (ℕ × ℕ) → List (ℕ × ℕ) → Type 0
@@ -35,7 +35,7 @@ abbrev pub NotesKeys : List Key → Option ℕ → Sums → TallySeen → TallyS
 NotesKeys [] visitor line old new = new ≡ old
 NotesKeys (key ∷ keys) visitor line old new = (mid : TallySeen) × NotesKey key visitor line old mid × NotesKeys keys visitor line mid new
 
--- the keys of a record that these facts tell
+-- the keys of a record by these facts
 abbrev pub keys_told : RecordFacts → List Key
 keys_told facts = table_keys (setup_of facts) (record_of facts) (facts_of facts)
 

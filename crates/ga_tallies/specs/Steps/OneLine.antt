@@ -7,8 +7,9 @@ use Rattle.ga_panels.specs.Visitors.{visitor_in}
 use Rattle.ga_panels.specs.declared.record_facts.RecordFacts.{RecordFacts}
 use Rattle.ga_panels.specs.declared.setup.PanelSetup.{PanelSetup}
 use Rattle.ga_summary.specs.Outcomes.{Hit, Outcome, hit_of, totals_of}
-use Rattle.ga_summary.specs.Sound.{AllCountable, TotalsFit}
-use Rattle.ga_outcomes.specs.Counting.{OutcomeIs, listed}
+use Rattle.ga_summary.specs.Sound.{AllCountable}
+use Rattle.ga_base.specs.Totals.{TotalsFit}
+use Rattle.ga_outcomes.specs.LineOutcomes.{IsOutcomeOf, listed}
 use Rattle.ga_tallies.specs.Steps.Notes.{keys_told}
 use Rattle.ga_tallies.specs.Tallies.{IsTallyOf, TallySeen}
 use Rattle.ga_outcomes.specs.declared.setup.Setup.{Setup}
@@ -28,14 +29,14 @@ hit_told facts = hit_of (keys_told facts) (visitor_in (setup_of facts) (record_o
 -- what a line says was counted
 pub record TakesSaid (panels : PanelSetup) (said : Line) (old new : TallySeen) : Type 0 where
   pub outcome : Option Outcome
-  pub is : OutcomeIs panels said outcome
+  pub is : IsOutcomeOf panels said outcome
   pub countable : AllCountable (listed outcome [])
   pub adds : Adds (listed outcome []) old new
 
 -- what a line says is too much
 pub record OverfillsSaid (panels : PanelSetup) (said : Line) (old : TallySeen) : Type 0 where
   pub outcome : Outcome
-  pub is : OutcomeIs panels said (Some outcome)
+  pub is : IsOutcomeOf panels said (Some outcome)
   pub full : IsTooMuch outcome old
 
 -- one line more was counted, or is too much

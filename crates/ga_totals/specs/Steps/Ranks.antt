@@ -7,7 +7,7 @@ use Rattle.std.specs.declared.cmp.Ordering.TheVariants.{Less}
 use Rattle.ga_base.specs.declared.key.Visitor.{Visitor}
 use Rattle.ga_base.specs.declared.name.Name.{Name}
 use Rattle.ga_base.specs.Orders.{name_cmp, name_of}
-use Rattle.ga_totals.specs.Steps.Rows.{name_at}
+use Rattle.ga_totals.specs.Steps.KeyRows.{name_at}
 
 -- a visitor with its number
 pub record NumberedVisitor : Type 0 where

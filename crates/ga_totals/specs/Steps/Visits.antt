@@ -1,7 +1,7 @@
 -- How many different visitors stand in the rows of keys.
 use Rattle.std.specs.Prelude.{◌≡◌, ◌+◌, ◌<◌, ℕ, zero, suc, List, [], ◌∷◌, All, eqb, length}
 use Rattle.std.specs.Set.{distinct_count}
-use Rattle.ga_totals.specs.Steps.Rows.{visitors_at}
+use Rattle.ga_totals.specs.Steps.KeyRows.{visitors_at}
 
 -- how many different visitors each of so many keys has, from the one with this number on
 abbrev pub counts_of : List (List ℕ) → ℕ → ℕ → List ℕ

@@ -1,25 +1,25 @@
 -- What a word says by itself, what reading a unit does, and what is known after the units.
-use Rattle.std.specs.Prelude.{◌≡◌, ◌≢◌, ℕ, ◌+◌, ◌<◌, ◌==◌, ◌⊎◌, Bool, if◌then◌else◌, Option, Some, None, List, [], ◌∷◌, ◌++◌, length, codes, slice_index, MatchOption}
+use Rattle.std.specs.Prelude.{◌≡◌, ◌≢◌, ℕ, ◌+◌, ◌<◌, ◌==◌, ◌⊎◌, Bool, if◌then◌else◌, Option, Some, None, List, [], ◌∷◌, ◌++◌, length, codes, MatchOption}
 use Rattle.ga_words.specs.declared.settings.Settings.{Settings}
 use Rattle.ga_words.specs.declared.fault.WordFault.{WordFault}
 use Rattle.ga_words.specs.declared.fault.WordFault.TheVariants.{BadValue, NoMemory}
 use Rattle.ga_words.specs.declared.options.Takes.{Takes as CodeTakes}
 use Rattle.ga_words.specs.declared.word.Word.{Word}
 use Rattle.ga_words.specs.declared.word.Word.TheVariants as W
-use Rattle.ga_words.specs.declared.reading.Reading.{Reading}
+use Rattle.ga_words.specs.declared.words_reading.Reading.{Reading}
 use Rattle.ga_words.specs.Defaults.{defaults}
 use Rattle.ga_words.specs.Options.{takes_of, IsLong}
 use Rattle.ga_words.specs.Units.{WordUnit, written, spelled, BeginsWithDash, Makes, RowMakes, AreNamed, names_generate, generate_places}
-use Rattle.ga_words.specs.WordsOf.{AreUnits, BeginsWithFault, IsLastOf, IsAmiss, rank_of}
+use Rattle.ga_words.specs.WordsOf.{AreUnits, BeginsWithFault, IsLastOf, IsSettingsFault, rank_of}
 use Rattle.ga_words.specs.Steps.Settings.{meaning}
 
--- no byte is `=` (61)
+-- the text has no `=`
 abbrev pub IsPlain : List ℕ → Type 0
-IsPlain text = (i : ℕ) → i < length text → slice_index text i ≢ 61
+IsPlain text = (front back : List ℕ) → text ≢ front ++ codes "=" ++ back
 
 -- the word is cut at its first `=`
 pub record IsCut (word front back : List ℕ) : Type 0 where
-  pub split : word ≡ front ++ 61 ∷ back
+  pub split : word ≡ front ++ codes "=" ++ back
   pub plain : IsPlain front
 
 -- the word is the option of this name, which takes this, `=` and this value
@@ -72,13 +72,13 @@ pub record HasReadAll (words : List (List ℕ)) (reading : Reading) : Type 0 whe
 abbrev pub IsTail : List (List ℕ) → Type 0
 IsTail rest = (rest ≡ []) ⊎ ((logs : List (List ℕ)) × (rest ≡ codes "--" ∷ logs))
 
--- what is amiss with the settings of these units as a whole, or nothing
-pub record IsFirstAmiss (units : List WordUnit) (s : Settings) (fault : WordFault) : Type 0 where
-  pub stands : IsAmiss units s fault
-  pub first : (other : WordFault) → IsAmiss units s other → ¬ (rank_of other < rank_of fault)
+-- what is wrong with the settings of these units as a whole, or nothing
+pub record IsFirstSettingsFault (units : List WordUnit) (s : Settings) (fault : WordFault) : Type 0 where
+  pub stands : IsSettingsFault units s fault
+  pub first : (other : WordFault) → IsSettingsFault units s other → ¬ (rank_of other < rank_of fault)
 
 abbrev pub IsWholly : List WordUnit → Settings → Option WordFault → Type 0
-IsWholly units s found = MatchOption found ((fault : WordFault) → ¬ IsAmiss units s fault) (IsFirstAmiss units s)
+IsWholly units s found = MatchOption found ((fault : WordFault) → ¬ IsSettingsFault units s fault) (IsFirstSettingsFault units s)
 
 -- the log has no name
 abbrev pub is_nameless : List ℕ → Bool

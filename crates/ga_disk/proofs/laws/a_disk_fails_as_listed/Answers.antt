@@ -1,4 +1,4 @@
-use Rattle.ga_disk.proofs.Stretches.{disk-fails-as-listed}
+use Rattle.ga_disk.proofs.Traces.{disk-fails-as-listed}
 use Rattle.ga_disk.proofs.laws.a_disk_fails_as_listed.Goals as goal
 
 pub returns : goal.returns

@@ -1,4 +1,4 @@
-use Rattle.ga_disk.proofs.Stretches.{disk-stays}
+use Rattle.ga_disk.proofs.Traces.{disk-stays}
 use Rattle.ga_disk.proofs.laws.a_disk_stays.Goals as goal
 
 pub returns : goal.returns

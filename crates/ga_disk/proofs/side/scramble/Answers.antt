@@ -10,6 +10,6 @@ overflow_add-next c = omega (arith, c.loop-at.invariant.counted, few-below c.arg
 pub loop-at-preserved : goal.loop-at-preserved
 loop-at-preserved c =
     elim c.if-is_unsure.branch [
-      | then-is_unsure w ↦ come-further _ _ _ _ _ _ _ _ c.loop-at.invariant (omega arith) true _ w.picked.result _ (sym c.is_unsure.ensures ∙ w.if-is_unsure.true) w.next-is w.picked.ensures w.bytes-is
+      | then-is_unsure w ↦ come-further _ _ _ _ _ _ _ _ c.loop-at.invariant (omega arith) true _ w.picked_byte.result _ (sym c.is_unsure.ensures ∙ w.if-is_unsure.true) w.next-is w.picked_byte.ensures w.bytes-is
       | else-is_unsure w ↦ come-further _ _ _ _ _ _ _ _ c.loop-at.invariant (omega arith) false _ _ _ (sym c.is_unsure.ensures ∙ w.if-is_unsure.false) (w.next-is ∙ omega arith) refl (w.bytes-is ∙ sym (set-get_or c.loop-at.bytes c.loop-at.at 0))
     ]

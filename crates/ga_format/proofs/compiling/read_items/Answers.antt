@@ -2,7 +2,7 @@ use Rattle.std.proofs.Common.{ℕ, List, ◌∷◌, [], ◌++◌, ◌-◌, ◌�
 use Rattle.std.specs.Bool.{then_some}
 use Rattle.std.proofs.lemmas.Result.{err_from_is_err_and}
 use Rattle.ga_base.specs.declared.formats.FormatItem.{FormatItem}
-use Rattle.ga_format.specs.Parts.{repeats}
+use Rattle.ga_format.specs.FieldKinds.{repeats}
 use Rattle.ga_format.specs.Steps.Checks.{IsRefused}
 use Rattle.ga_format.proofs.RowLemmas.{begins_shorter}
 use Rattle.ga_format.proofs.Reading.{HasRead, opened, read_more}

@@ -8,4 +8,4 @@ returns-then-not-contains-clause-fault c =
 
 pub returns-clause-unit : goal.returns-clause-unit
 returns-clause-unit c =
-    gives_specifier c.args.text.now c.in-Some.letter.now c.in-Some.after.now c.specified.result c.in-Some.ensures.cases.0 (sym c.if-not-contains.ensures.value) c.specified.ensures
+    gives_specifier c.args.text.now c.in-Some.letter.now c.in-Some.after.now c.specifier_item.result c.in-Some.ensures.cases.0 (sym c.if-not-contains.ensures.value) c.specifier_item.ensures

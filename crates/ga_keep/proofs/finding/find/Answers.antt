@@ -1,5 +1,5 @@
-use Rattle.ga_disk.specs.Stretch.DiskCall.{open_call}
-use Rattle.ga_disk.specs.Stretch.DiskWent.{no_disk_call, one_disk_call, disk_then}
+use Rattle.ga_disk.specs.Trace.DiskCall.{open_call}
+use Rattle.ga_disk.specs.Trace.DiskTrace.{no_disk_call, one_disk_call, disk_then}
 use Rattle.ga_keep.proofs.finding.find.Goals as goal
 
 pub returns-then-not-uses_database-clause-calls : goal.returns-then-not-uses_database-clause-calls

@@ -1,7 +1,7 @@
 use Rattle.std.proofs.Common.{sym}
 use Rattle.ga_store.specs.Commit.{passes_generations}
-use Rattle.ga_store.specs.Reading.{db_value}
-use Rattle.ga_disk.specs.Stretch.DiskWent.{no_disk_call}
+use Rattle.ga_store.specs.Store.{db_value}
+use Rattle.ga_disk.specs.Trace.DiskTrace.{no_disk_call}
 use Rattle.ga_keep.proofs.Kept.{kept, not-full, unkept}
 use Rattle.ga_keep.proofs.keeping.keep.Goals as goal
 

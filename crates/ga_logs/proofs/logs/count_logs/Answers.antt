@@ -1,6 +1,6 @@
 use Rattle.std.proofs.Common.{◌≡◌, ◌+◌, ◌∷◌, ◌++◌, ◌∙◌, [], suc, sym, ap, subst, take, drop, take_all, arith, Err, slice_index_or}
 use Rattle.std.proofs.lemmas.Result.{err_from_is_err_and}
-use Rattle.ga_ports.specs.Stretch.FilesWent.{no_files_call, files_then}
+use Rattle.ga_ports.specs.Trace.FilesTrace.{no_files_call, files_then}
 use Rattle.ga_logs.specs.Steps.Logs.{HasCountedLogs}
 use Rattle.ga_logs.proofs.LogsSteps.{take-more, split-at, split-there, taken-length, counted-none, counted-more, counts-logs, none-failed, none-failed-log, stops-full, stops-more, stops-sum, wants-none}
 use Rattle.ga_logs.proofs.ReadSteps.{serves-one}
@@ -9,8 +9,8 @@ use Rattle.ga_logs.proofs.logs.count_logs.Goals as goal
 pub loop-place-init : goal.loop-place-init
 loop-place-init g c = record {
   within = omega arith;
-  counted = counted-none c.args.setup.now c.args.start c.args.generated c.args.entries.now _ c.new-counting.result c.count_generated.new.counting c.new-counting.ensures.start
-      (c.new-counting.ensures.none c.args.setup.now) c.in_ok-count_generated.ensures;
+  counted = counted-none c.args.crew.now.setup.now c.args.start c.args.generated c.args.entries.now _ c.new-counting.result c.count_generated.new.counting c.new-counting.ensures.start
+      (c.new-counting.ensures.none c.args.crew.now.setup.now) c.in_ok-count_generated.ensures;
   went = no_files_call;
 }
 
@@ -20,13 +20,13 @@ returns-in_err-count_generated-clause-calls g c = no_files_call
 pub returns-in_err-count_generated-clause-stops : goal.returns-in_err-count_generated-clause-stops
 returns-in_err-count_generated-clause-stops g c =
     let p = err_from_is_err_and c.from_residual.result c.from_residual.ensures.1 in
-    rw (p.1, p.2) (wants-none c.args.setup.now c.args.start c.args.generated c.args.names.now c.args.entries.now _)
+    rw (p.1, p.2) (wants-none c.args.crew.now.setup.now c.args.start c.args.generated c.args.names.now c.args.entries.now _)
 
 pub returns-in-Some-clause-stops : goal.returns-in-Some-clause-stops
 returns-in-Some-clause-stops g c =
     let names = c.args.names.now in
     let place = c.loop-place.place in
-    rw (c.from.ensures) (stops-full c.args.setup.now c.args.start c.args.generated names (take place names) (drop place names) (split-there names place) c.args.entries.now _ _ _ c.loop-place.counting
+    rw (c.from.ensures) (stops-full c.args.crew.now.setup.now c.args.start c.args.generated names (take place names) (drop place names) (split-there names place) c.args.entries.now _ _ _ c.loop-place.counting
     c.loop-place.invariant.counted c.in-Some.full (sym c.full.ensures ∙ c.in-Some.is))
 
 pub count_one-requires-clause-counted : goal.count_one-requires-clause-counted
@@ -40,7 +40,7 @@ returns-in-Err-clause-stops g c =
     let split : names ≡ take place names ++ c.index-names-place.result ∷ drop (suc place) names =
     split-at names place c.index-names-place.result c.loop-place-test.true ∙ ap (λ name. take place names ++ name ∷ drop (suc place) names) at in
     rw c.of_log.ensures
-    (stops-more c.args.setup.now c.args.start c.args.generated names (take place names) (drop (suc place) names) c.index-names-place.result split _ _ _ _ _ c.loop-place.counting c.loop-place.invariant.counted
+    (stops-more c.args.crew.now.setup.now c.args.start c.args.generated names (take place names) (drop (suc place) names) c.index-names-place.result split _ _ _ _ _ c.loop-place.counting c.loop-place.invariant.counted
     (sym c.full.ensures ∙ c.in_default.is) place _ (taken-length names place c.loop-place.invariant.within) c.in-Err.ensures.stops)
 
 pub returns-in-Err-clause-sure : goal.returns-in-Err-clause-sure
@@ -67,8 +67,8 @@ loop-place-preserved g c =
     take-more names place c.index-names-place.result c.loop-place-test.true ∙ ap (λ name. take place names ++ name ∷ []) at in
     record {
       within = omega arith;
-      counted = subst (λ front. HasCountedLogs c.args.setup.now c.args.start c.args.generated front c.args.entries.now c.count_one.new.entries (view c.args.files.now) (view c.count_one.new.files) c.count_one.new.counting) (sym next)
-          (counted-more c.args.setup.now c.args.start c.args.generated (take place names) c.index-names-place.result c.args.entries.now c.loop-place.entries c.count_one.new.entries (view c.args.files.now) (view c.loop-place.files) (view c.count_one.new.files) c.loop-place.counting c.count_one.new.counting c.loop-place.invariant.counted c.in-Ok.ensures.ok);
+      counted = subst (λ front. HasCountedLogs c.args.crew.now.setup.now c.args.start c.args.generated front c.args.entries.now c.count_one.new.entries (view c.args.files.now) (view c.count_one.new.files) c.count_one.new.counting) (sym next)
+          (counted-more c.args.crew.now.setup.now c.args.start c.args.generated (take place names) c.index-names-place.result c.args.entries.now c.loop-place.entries c.count_one.new.entries (view c.args.files.now) (view c.loop-place.files) (view c.count_one.new.files) c.loop-place.counting c.count_one.new.counting c.loop-place.invariant.counted c.in-Ok.ensures.ok);
       went = files_then c.loop-place.invariant.went c.count_one.ensures.calls;
     }
 
@@ -77,7 +77,7 @@ returns-in_err-total-clause-stops g c =
     let p = err_from_is_err_and c.from_residual-in_err-total.result c.from_residual-in_err-total.ensures.1 in
     let names = c.args.names.now in
     let place = c.loop-place.place in
-    rw (p.1, p.2) (stops-sum c.args.setup.now c.args.start c.args.generated names (take place names) (drop place names) (split-there names place) c.args.entries.now _ _ _ c.loop-place.counting
+    rw (p.1, p.2) (stops-sum c.args.crew.now.setup.now c.args.start c.args.generated names (take place names) (drop place names) (split-there names place) c.args.entries.now _ _ _ c.loop-place.counting
     c.loop-place.invariant.counted _ (λ full e. c.in_err-total.ensures.full full (ap (λ fault. Err fault) e)))
 
 pub returns-in_err-total-clause-sure : goal.returns-in_err-total-clause-sure
@@ -91,6 +91,6 @@ returns-clause-ok g c =
     let names = c.args.names.now in
     let place = c.loop-place.place in
     let whole : take place names ≡ names = take_all place names (omega arith) in
-    let counted = subst (λ front. HasCountedLogs c.args.setup.now c.args.start c.args.generated front c.args.entries.now c.loop-place.entries (view c.args.files.now) (view c.loop-place.files) c.loop-place.counting) whole
+    let counted = subst (λ front. HasCountedLogs c.args.crew.now.setup.now c.args.start c.args.generated front c.args.entries.now c.loop-place.entries (view c.args.files.now) (view c.loop-place.files) c.loop-place.counting) whole
     c.loop-place.invariant.counted in
-    counts-logs c.args.setup.now c.args.start c.args.generated names c.args.entries.now c.loop-place.entries (view c.args.files.now) (view c.loop-place.files) c.loop-place.counting c.in_ok-total.total counted c.in_ok-total.ensures.ok
+    counts-logs c.args.crew.now.setup.now c.args.start c.args.generated names c.args.entries.now c.loop-place.entries (view c.args.files.now) (view c.loop-place.files) c.loop-place.counting c.in_ok-total.total counted c.in_ok-total.ensures.ok

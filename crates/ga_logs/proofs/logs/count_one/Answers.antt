@@ -1,22 +1,22 @@
 use Rattle.std.proofs.Common.{Bool, inl, inr, refl, subst, arith}
 use Rattle.std.proofs.lemmas.Result.{err_from_is_err_and}
-use Rattle.ga_ports.specs.Stretch.FilesWent.{files_then}
+use Rattle.ga_ports.specs.Trace.FilesTrace.{files_then}
 use Rattle.ga_line.specs.Lines.{lines}
 use Rattle.ga_logs.specs.Steps.Streaming.{Adds}
-use Rattle.ga_logs.proofs.ReadSteps.{misses-rest, opens-by, reads-portion, serves-later, starts-within}
+use Rattle.ga_logs.proofs.ReadSteps.{misses-rest, reads-portion, serves-later, starts-within}
 use Rattle.ga_logs.proofs.logs.count_one.Goals as goal
 
 pub returns-in_err-segment-clause-stops : goal.returns-in_err-segment-clause-stops
 returns-in_err-segment-clause-stops g c =
     let p = err_from_is_err_and c.from_residual.result c.from_residual.ensures.1 in
-    rw (p.1, p.2) (inl (rw c.items.ensures at c.in_err-segment.ensures.failed))
+    rw (p.1, p.2) (inl c.in_err-segment.ensures.failed)
 
 pub returns-in_err-ended-clause-stops : goal.returns-in_err-ended-clause-stops
 returns-in_err-ended-clause-stops g c =
     let view = g.F.Files.view in
     let p = err_from_is_err_and c.from_residual-in_err-ended.result c.from_residual-in_err-ended.ensures.1 in
     rw (p.1, p.2) (inl (misses-rest c.args.follow c.args.entries.now c.args.name.now (view c.args.files.now) (view c.open_log.new.files) (view c.count_part.new.files)
-    c.in_ok-segment.segment (opens-by _ _ _ _ _ _ _ c.items.ensures c.in_ok-segment.ensures.ok) _ c.in_err-ended.ensures.failed))
+    c.in_ok-segment.segment c.in_ok-segment.ensures.ok _ c.in_err-ended.ensures.failed))
 
 pub returns-in_err-ended-clause-calls : goal.returns-in_err-ended-clause-calls
 returns-in_err-ended-clause-calls g c = files_then c.open_log.ensures.calls c.count_part.ensures.calls
@@ -29,12 +29,12 @@ returns-in_err-ended-clause-sure g c =
 
 pub follow_log-requires-clause-begins : goal.follow_log-requires-clause-begins
 follow_log-requires-clause-begins g c =
-    (opens-by _ _ _ _ _ _ _ c.items.ensures c.in_ok-segment.ensures.ok).begins.begins
+    c.in_ok-segment.ensures.ok.begins.begins
 
 pub follow_log-requires-clause-within : goal.follow_log-requires-clause-within
 follow_log-requires-clause-within g c =
     let part = c.in_ok-ended.ensures.ok in
-    omega (arith, part.ended.within, part.read.long, starts-within c.args.follow c.args.entries.now c.in_ok-segment.segment (opens-by _ _ _ _ _ _ _ c.items.ensures c.in_ok-segment.ensures.ok).begins.begins)
+    omega (arith, part.ended.within, part.read.long, starts-within c.args.follow c.args.entries.now c.in_ok-segment.segment c.in_ok-segment.ensures.ok.begins.begins)
 
 pub returns-in_err-follow_log-clause-stops : goal.returns-in_err-follow_log-clause-stops
 returns-in_err-follow_log-clause-stops g c =
@@ -46,7 +46,7 @@ returns-in_err-follow_log-clause-stops g c =
       (
         record { segment = c.in_ok-segment.segment; bytes = part.part },
         reads-portion c.args.follow c.args.entries.now c.args.name.now (view c.args.files.now) (view c.open_log.new.files) (view c.count_part.new.files)
-            c.in_ok-segment.segment (opens-by _ _ _ _ _ _ _ c.items.ensures c.in_ok-segment.ensures.ok) part.part part.read,
+            c.in_ok-segment.segment c.in_ok-segment.ensures.ok part.part part.read,
       ),
     ))
 
@@ -60,9 +60,9 @@ returns-clause-ok g c =
     record {
       portion = record { segment = c.in_ok-segment.segment; bytes = part.part };
       read = reads-portion c.args.follow c.args.entries.now c.args.name.now (view c.args.files.now) (view c.open_log.new.files) (view c.count_part.new.files)
-          c.in_ok-segment.segment (opens-by _ _ _ _ _ _ _ c.items.ensures c.in_ok-segment.ensures.ok) part.part part.read;
+          c.in_ok-segment.segment c.in_ok-segment.ensures.ok part.part part.read;
       follows = c.in_ok-follow_log.ensures.ok part.part part.ended;
-      adds = subst (λ (keep : Bool). Adds c.args.setup.now (lines part.part keep) c.args.counting.now c.count_part.new.counting) c.keeps.ensures part.adds;
+      adds = subst (λ (keep : Bool). Adds c.args.crew.now.setup.now (lines part.part keep) c.args.counting.now c.count_part.new.counting) c.keeps.ensures part.adds;
     }
 
 pub returns-clause-calls : goal.returns-clause-calls

@@ -4,7 +4,7 @@ use Rattle.ga_logs.proofs.streaming.count_text.Goals as goal
 
 pub returns : goal.returns
 returns g c =
-    let fed = c.in_ok-feed.ensures in
+    let fed = c.in_ok-feed_text.ensures in
     let end = c.in_ok-end.ensures in
-    adds c.args.setup.now c.args.text.now true _ c.args.counting.now c.feed.new.counting c.end.new.counting c.in_ok-batcher.batcher c.feed.new.batcher c.in_ok-batcher.ensures.stream fed.within end.ended
+    adds c.args.crew.now.setup.now c.args.text.now true _ c.args.counting.now c.feed_text.new.counting c.end.new.counting c.in_ok-batcher.batcher c.feed_text.new.batcher c.in_ok-batcher.ensures.stream fed.within end.ended
     fed.start end.start

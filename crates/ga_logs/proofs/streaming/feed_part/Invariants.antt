@@ -1,7 +1,7 @@
 use Rattle.std.proofs.Common.{◌-◌, ◌<◌, ◌≤◌, length}
 use Rattle.ga_batches.specs.Batches.{held}
-use Rattle.ga_batches.specs.declared.batcher.TheConstants.{MOST_LIMIT}
-use Rattle.ga_ports.specs.Stretch.{FilesWent}
+use Rattle.ga_base.specs.declared.limits.TheConstants.{MAX_BATCH}
+use Rattle.ga_ports.specs.Trace.{FilesTrace}
 use Rattle.ga_logs.proofs.StreamSteps.{FeedsBehind}
 use Rattle.ga_logs.proofs.streaming.feed_part.Given as goal
 
@@ -9,14 +9,14 @@ abbrev pub invariant-loop-at : goal.invariant-loop-at
 invariant-loop-at g l =
     let view = g.F.Files.view in
     record {
-      within : l.at ≤ l.to;
-      begun : l.from ≤ l.at;
-      went : FilesWent (view l.initial.files) (view l.files);
+      within : l.at ≤ l.part.to;
+      begun : l.part.from ≤ l.at;
+      went : FilesTrace (view l.initial.files) (view l.files);
       some : 0 < length l.buffer;
-      small : length l.taken.items ≤ MOST_LIMIT;
+      small : length l.taken.items ≤ MAX_BATCH;
       room : length (held l.batcher) < l.batcher.limit;
-      feeds : FeedsBehind l.setup l.from l.at (view l.initial.files) (view l.files) l.initial.counting l.counting l.taken.items l.initial.batcher l.batcher;
+      feeds : FeedsBehind l.crew.setup.now l.part.from l.at (view l.initial.files) (view l.files) l.initial.counting l.counting l.taken.items l.initial.batcher l.batcher;
     }
 
 abbrev pub decreases-loop-at : goal.decreases-loop-at
-decreases-loop-at g l = l.to - l.at
+decreases-loop-at g l = l.part.to - l.at

@@ -12,6 +12,6 @@ returns-in_err-counted-clause-failed g c =
     let w = view c.side_by_side-counted.new.files in
     let b = c.args.batcher.now in
     let b' = c.side_by_side-counted.new.batcher in
-    let filled = subst (λ (r : Result ℕ PlaceFault). IfOk r (λ end. FillsTo c.args.from c.args.to end v w b b')) c.in_ok-end.was c.side_by_side-counted.ensures.fills.ok in
+    let filled = subst (λ (r : Result ℕ PlaceFault). IfOk r (λ end. FillsTo c.args.part.from c.args.part.to end v w b b')) c.in_ok-end.was c.side_by_side-counted.ensures.fills.ok in
     let p = err_from_is_err_and c.from_residual-in_err-counted.result c.from_residual-in_err-counted.ensures.1 in
-    rw (p.1, p.2) (wants-after (c.in_ok-end.end - c.args.from) (c.args.to - c.args.from) v w (omega (arith, filled.within, filled.some)) filled.fills.read.files)
+    rw (p.1, p.2) (wants-after (c.in_ok-end.end - c.args.part.from) (c.args.part.to - c.args.part.from) v w (omega (arith, filled.within, filled.some)) filled.fills.read.files)

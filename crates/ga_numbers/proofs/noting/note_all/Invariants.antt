@@ -1,7 +1,7 @@
 use Rattle.std.proofs.Common.{◌≡◌}
 use Rattle.std.specs.List.{IsDistinct}
 use Rattle.ga_shards.specs.Steps.{all_noted}
-use Rattle.ga_numbers.specs.Numbers.{places_of}
+use Rattle.ga_numbers.specs.NotedNumbers.{places_of}
 use Rattle.ga_numbers.proofs.noting.note_all.Given as goal
 
 -- the items so far are noted

@@ -1,6 +1,6 @@
 use Rattle.std.proofs.Common.{◌≡◌, ◌∷◌, ◌++◌, ◌∙◌, [], List, ℕ, Vec, Global, ap, sym, subst, map}
 use Rattle.std.proofs.lemmas.List.{map_push}
-use Rattle.ga_numbers.specs.Numbers.{AreNotedInTurn, places_of}
+use Rattle.ga_numbers.specs.NotedNumbers.{AreNotedInTurn, places_of}
 use Rattle.ga_numbers.proofs.InTurn.{turn-more}
 use Rattle.ga_shards.specs.Steps.{all_noted}
 use Rattle.ga_numbers.proofs.noting.note_each.Goals as goal

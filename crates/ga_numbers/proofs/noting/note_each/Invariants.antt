@@ -1,5 +1,5 @@
 use Rattle.std.proofs.Common.{map}
-use Rattle.ga_numbers.specs.Numbers.{AreNotedInTurn}
+use Rattle.ga_numbers.specs.NotedNumbers.{AreNotedInTurn}
 use Rattle.ga_numbers.proofs.noting.note_each.Given as goal
 
 -- the lists so far are noted

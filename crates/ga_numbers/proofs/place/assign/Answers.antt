@@ -1,10 +1,10 @@
 use Rattle.std.proofs.Common.{◌≡◌, ◌∙◌, ◌++◌, ◌∷◌, [], ℕ, ◌<◌, List, Some, length, get_or, ap, sym, subst, arith}
 use Rattle.std.specs.Prelude.{slice_get}
-use Rattle.ga_numbers.specs.Kept.{AreNamed, rows_in}
-use Rattle.ga_numbers.specs.Numbers.{IsNumbered}
-use Rattle.ga_numbers.specs.Rows.{is_same_row}
+use Rattle.ga_numbers.specs.Steps.Kept.{AreNamed, rows_in}
+use Rattle.ga_numbers.specs.NotedNumbers.{IsNumbered}
+use Rattle.ga_numbers.specs.Steps.ShardRows.{is_same_row}
 use Rattle.ga_numbers.specs.declared.place.Place.{Place}
-use Rattle.ga_numbers.specs.declared.row.Row.{Row}
+use Rattle.ga_numbers.specs.declared.shard_row.ShardRow.{ShardRow}
 use Rattle.ga_numbers.proofs.Keeping.{kept-named, known-row, next-named, next-row}
 use Rattle.ga_numbers.proofs.Setting.{once-long, reads, set-once, twice-here, twice-keeps, twice-long}
 use Rattle.ga_numbers.proofs.place.assign.Goals as goal
@@ -13,7 +13,7 @@ inside : {s len long : ℕ} → s < len → len ≡ long → s < long
 inside within ok = omega (arith, within, ok)
 
 -- a shard knows the number of each place that has one
-none-there : (shards : List (List Row)) (numbers : List (List ℕ)) (places seen : List Place) (p : Place) (known : List ℕ) → AreNamed shards numbers places → get_or numbers p.shard [] ≡ known → seen ≡ places
+none-there : (shards : List (List ShardRow)) (numbers : List (List ℕ)) (places seen : List Place) (p : Place) (known : List ℕ) → AreNamed shards numbers places → get_or numbers p.shard [] ≡ known → seen ≡ places
     → ((n : ℕ) → slice_get known p.local ≡ Some n → slice_get seen n ≡ Some p → ⊥) → (n : ℕ) → slice_get places n ≡ Some p → ⊥
 none-there shards numbers places seen p known named is same none n at =
     none n (subst (λ (l : List ℕ). slice_get l p.local ≡ Some n) is (named.known n p at)) (subst (λ (l : List Place). slice_get l n ≡ Some p) (sym same) at)
@@ -53,7 +53,7 @@ returns-clause-named c = λ shards row are named stands.
     let number : c.len-number.result ≡ length places = omega (arith, c.len-number.ensures, c.args.places.now.ok) in
     subst (AreNamed shards _) (sym c.in_ok-push.ensures.items)
     (next-named shards _ places are named p row _ stands none (twice-long (λ l. l.items) numbers p.shard c.make_room.new.numbers c.set.new.numbers)
-    (omega (arith, number, c.if-len-ge-MOST.false, c.len.ensures, c.args.places.now.ok))
+    (omega (arith, number, c.if-len-ge-PLACES_MAX.false, c.len.ensures, c.args.places.now.ok))
     (twice-here (λ l. l.items) numbers p.shard (inside c.requires c.args.numbers.now.ok.0) c.index_mut.result.now c.make_room.new.numbers c.index_mut-2.result.now c.set.new.numbers p.local (length places) c.index_mut.ensures.value c.index_mut-2.ensures.value
     c.make_room.ensures.kept c.set.ensures.same (c.set.ensures.here ∙ ap Some number))
     (twice-keeps (λ l. l.items) numbers p.shard (inside c.requires c.args.numbers.now.ok.0) c.index_mut.result.now c.make_room.new.numbers c.index_mut-2.result.now c.set.new.numbers p.local (length places) c.index_mut.ensures.value c.index_mut-2.ensures.value

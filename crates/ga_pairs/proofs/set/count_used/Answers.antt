@@ -2,7 +2,7 @@ use Rattle.std.proofs.Common.{ℕ, ◌+◌, Bool, not, eqb, ap, sym, ◌∙◌}
 use Rattle.std.proofs.lemmas.Bool.{ne_eqb}
 use Rattle.std.proofs.Common.{eq-eqb}
 use Rattle.std.proofs.lemmas.List.Sums.{count_by_more_yes, count_by_more_no}
-use Rattle.ga_shares.proofs.Views.{seat-there, seat-is}
+use Rattle.ga_draws.proofs.Views.{seat-there, seat-is}
 use Rattle.ga_pairs.proofs.set.count_used.Goals as goal
 use Rattle.ga_pairs.proofs.set.count_used.Goals.{then-word-ne0, else-word-ne0}
 

@@ -4,15 +4,15 @@ use Rattle.ga_counts.specs.Counts.{maximum_at, tally_at}
 use Rattle.ga_pairs.specs.declared.view.Pair.{Pair as Claim}
 use Rattle.ga_pairs.specs.declared.view.Claims.{Claims}
 use Rattle.ga_pool.specs.Steps.Filling.{adds, claims_of, raises}
-use Rattle.ga_pool.specs.declared.filling.Put.{Put}
-use Rattle.ga_pool.specs.declared.parts.Rows.{Rows}
+use Rattle.ga_pool.specs.declared.filling.TableSeats.{TableSeats}
+use Rattle.ga_pool.specs.declared.table_inputs.TableRows.{TableRows}
 use Rattle.ga_pool.proofs.FillTables.{blank-maximum, blank-tally, lists-each, max-each, sum-each}
 use Rattle.ga_pool.proofs.FilledTables.{PutIs, put-is}
 use Rattle.ga_pool.proofs.filling.fill.Given.{Over}
 use Rattle.ga_pool.proofs.filling.fill.Goals as goal
 
 -- what each worker put in
-each-put : (g : Over) (c : goal.After-close-2 g) (i : ℕ) (p : Put) (r : Rows) → i < length c.args.rows.items
+each-put : (g : Over) (c : goal.After-close-2 g) (i : ℕ) (p : TableSeats) (r : TableRows) → i < length c.args.rows.items
     → PutIs c.args.keys.now c.args.visitors.now i (get_or c.in_ok-puts.puts.items i p) (get_or c.args.rows.items i r)
 each-put g c i p r lt =
     let rows = c.args.rows.items in
@@ -32,7 +32,7 @@ returns-clause-sums g c =
     λ word.
     let read = ap (λ (l : List ℕ). get_or l word 0) c.close.ensures.sums in
     let none = ap (tally_at word) c.in_ok-loads.ensures.count_seat.1 ∙ blank-tally opening.words opening.maxima 1 0 word in
-    let all = sum-each (adds c.args.keys.now.numbers word) (λ (p : Put). tally_at word p.counts.view) 0 puts rows long (λ i p r lt. (each-put g c i p r lt).sums word) in
+    let all = sum-each (adds c.args.keys.now.numbers word) (λ (p : TableSeats). tally_at word p.counts.view) 0 puts rows long (λ i p r lt. (each-put g c i p r lt).sums word) in
     omega (arith, read, c.join_all.ensures.sums word, none, all)
 
 pub returns-clause-maxima : goal.returns-clause-maxima
@@ -44,12 +44,12 @@ returns-clause-maxima g c =
     λ place.
     let read = ap (λ (l : List ℕ). get_or l place 0) c.close.ensures.maxima in
     let none = ap (maximum_at place) c.in_ok-loads.ensures.count_seat.1 ∙ blank-maximum opening.words opening.maxima 1 0 place in
-    let all = max-each (raises c.args.keys.now.numbers place) (λ (p : Put). maximum_at place p.counts.view) 0 puts rows long (λ i p r lt. (each-put g c i p r lt).maxima place) in
+    let all = max-each (raises c.args.keys.now.numbers place) (λ (p : TableSeats). maximum_at place p.counts.view) 0 puts rows long (λ i p r lt. (each-put g c i p r lt).maxima place) in
     omega (arith, read, c.join_all.ensures.maxima place, none, all)
 
 pub returns-clause-pairs : goal.returns-clause-pairs
 returns-clause-pairs g c =
-    let asked : Put → List Claim = λ (p : Put). p.pairs.claims.asked in
+    let asked : TableSeats → List Claim = λ (p : TableSeats). p.pairs.claims.asked in
     record {
       claims = c.join_all.new.pair_seat.claims;
       closed = c.close-2.ensures.pairs;

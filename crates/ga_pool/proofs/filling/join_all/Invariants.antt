@@ -2,7 +2,7 @@ use Rattle.std.proofs.Common.{◌≡◌, ℕ, ◌+◌, ◌++◌, max, length}
 use Rattle.std.specs.List.{flat_map, sum_by}
 use Rattle.std.specs.Vec.Iter.{into_iter_items}
 use Rattle.ga_counts.specs.Counts.{maximum_at, tally_at}
-use Rattle.ga_shares.specs.Views.{greatest_by}
+use Rattle.ga_counts.specs.Greatest.{greatest_by}
 use Rattle.ga_pool.proofs.filling.join_all.Given as goal
 
 abbrev pub invariant-loop-put : goal.invariant-loop-put

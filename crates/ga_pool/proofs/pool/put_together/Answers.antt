@@ -3,16 +3,14 @@ use Rattle.std.specs.List.{AllZip, sum_by}
 use Rattle.ga_base.specs.declared.counts.Totals.{Totals}
 use Rattle.ga_base.specs.declared.key.Key.{Key}
 use Rattle.ga_base.specs.Orders.{is_same_key, is_same_visitor}
-use Rattle.ga_pool.specs.Steps.Parts.{AreRowsOf}
+use Rattle.ga_pool.specs.Steps.TableInputs.{AreRowsOf}
 use Rattle.ga_pool.proofs.AllWorkers.{keys_in, visitors_in}
 use Rattle.ga_pool.proofs.CanPutRows.{weigh-all}
-use Rattle.ga_pool.specs.Together.{totals_in}
-use Rattle.ga_pool.proofs.Standing.{none-plus, stands}
+use Rattle.ga_workers.specs.Together.{totals_in}
+use Rattle.ga_pool.proofs.Standing.{stands}
 use Rattle.ga_pool.proofs.SumExists.{stands-for-sum}
-use Rattle.ga_pool.proofs.Together.{counted-totals}
-use Rattle.ga_outcomes.specs.Counting.{no_totals}
-use Rattle.ga_summary.specs.Rows.{totals_plus}
-use Rattle.ga_summary.specs.Sound.{TotalsFit}
+use Rattle.ga_workers.proofs.Together.{counted-totals, none-plus}
+use Rattle.ga_base.specs.Totals.{no_totals, totals_plus, TotalsFit}
 use Rattle.ga_tallies.specs.Tallies.{TallySeen}
 use Rattle.ga_pool.proofs.Tables.{as-long, can-put-all, key-numbering, keys-numbered, visitor-numbering, visitors-numbered}
 use Rattle.ga_shards.specs.Numbers.{IsNumbering}

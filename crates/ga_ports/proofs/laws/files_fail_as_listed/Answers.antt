@@ -1,4 +1,4 @@
-use Rattle.ga_ports.proofs.FileStretches.{files-fail-as-listed}
+use Rattle.ga_ports.proofs.FileTraces.{files-fail-as-listed}
 use Rattle.ga_ports.proofs.laws.files_fail_as_listed.Goals as goal
 
 pub returns : goal.returns

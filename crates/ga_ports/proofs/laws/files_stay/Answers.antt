@@ -1,4 +1,4 @@
-use Rattle.ga_ports.proofs.FileStretches.{files-stay}
+use Rattle.ga_ports.proofs.FileTraces.{files-stay}
 use Rattle.ga_ports.proofs.laws.files_stay.Goals as goal
 
 pub returns : goal.returns

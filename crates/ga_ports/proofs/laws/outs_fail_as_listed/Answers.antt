@@ -1,4 +1,4 @@
-use Rattle.ga_ports.proofs.OutStretches.{outs-fail-as-listed}
+use Rattle.ga_ports.proofs.OutTraces.{outs-fail-as-listed}
 use Rattle.ga_ports.proofs.laws.outs_fail_as_listed.Goals as goal
 
 pub returns : goal.returns

@@ -1,4 +1,4 @@
-use Rattle.ga_ports.proofs.OutStretches.{outs-stay}
+use Rattle.ga_ports.proofs.OutTraces.{outs-stay}
 use Rattle.ga_ports.proofs.laws.outs_stay.Goals as goal
 
 pub returns : goal.returns

@@ -1,5 +1,5 @@
 use Rattle.std.proofs.Common.{refl}
-use Rattle.ga_ports.proofs.OutStretches.{each}
+use Rattle.ga_ports.proofs.OutTraces.{each}
 use Rattle.ga_ports.proofs.Sure.{no-out-faults}
 use Rattle.ga_ports.proofs.laws.sure_outs_have_no_faults.Goals as goal
 

@@ -3,4 +3,4 @@ use Rattle.ga_report.specs.Reports.{IsPanelList, Pairwise}
 use Rattle.ga_report.proofs.reporting.lists_in_turn.Given as goal
 
 abbrev pub invariant-loop-panel : goal.invariant-loop-panel
-invariant-loop-panel g l = Pairwise (IsPanelList l.general l.max_items (g.T.Tells.view l.told).rows) (take l.panel-index l.panels) l.lists
+invariant-loop-panel g l = Pairwise (IsPanelList l.general l.max_items (g.T.RowSource.view l.source).rows) (take l.panel-index l.panels) l.lists.items

@@ -8,9 +8,9 @@ use Rattle.ga_report.proofs.Pairs.{panel-is}
 use Rattle.ga_report.proofs.reporting.plain_list.Goals as goal
 
 pub returns : goal.returns
-returns c = λ most told items are first.
+returns c = λ most source items are first.
     let panel = c.args.panel in
     let tops = c.args.tops.now in
-    panel-is c.args.general.now most told panel tops tops c.in_ok-rows.rows refl (c.in_ok-rows.ensures most told)
-    (are-top panel (is_row panel) (λ key. refl) (rows-inside panel) most told items items tops
-    (all-rows panel c.requires.plain items (recursion_from_All _ items (are-of-panel panel told items are))) first are)
+    panel-is c.args.general.now most source panel tops tops c.in_ok-rows.rows refl (c.in_ok-rows.ensures most source)
+    (are-top panel (is_row panel) (λ key. refl) (rows-inside panel) most source items items tops
+    (all-rows panel c.requires.plain items (recursion_from_All _ items (are-of-panel panel source items are))) first are)

@@ -1,11 +1,12 @@
 use Rattle.std.proofs.Common.{◌≡◌, ◌∙◌, ◌-◌, ap, sym, subst, arith, min, length, take, drop, List, Option, ℕ}
 use Rattle.std.specs.Option.{IfSome}
-use Rattle.ga_resume.specs.Reading.{after_reads, part_of}
-use Rattle.ga_resume.specs.Segment.{measured_as}
+use Rattle.ga_resume.specs.ReadPart.{after_reads, part_of}
+use Rattle.ga_base.specs.declared.entry.Entry.{Entry}
+use Rattle.ga_resume.specs.Segment.{IsSegment, measured_as}
 use Rattle.ga_resume.proofs.PartReads.{if_some-map, if_some-both}
 use Rattle.ga_resume.proofs.Placements.{sized-and-read, sized-bytes, front-is}
-use Rattle.ga_ports.specs.Stretch.FilesCall.{size_call}
-use Rattle.ga_ports.specs.Stretch.FilesWent.{one_files_call, files_then}
+use Rattle.ga_ports.specs.Trace.FilesCall.{size_call}
+use Rattle.ga_ports.specs.Trace.FilesTrace.{one_files_call, files_then}
 use Rattle.ga_resume.proofs.placing.place.Goals as goal
 
 pub returns-in_err-end-clause-calls : goal.returns-in_err-end-clause-calls
@@ -27,7 +28,7 @@ returns-clause-ok g c =
     let bytes = subst (λ (o : Option (List ℕ)). IfSome o (λ b. c.in_ok-front.front.items ≡ part_of 0 c.min.result b)) same read.bytes in
     let whole : c.min.result - 0 ≡ min c.in_ok-end.end 4096 = omega (arith, c.min.ensures) in
     record {
-      is = c.in_ok-segment.ensures.is;
+      is = subst (λ (entries : List Entry). IsSegment entries segment) c.items.ensures c.in_ok-segment.ensures.is;
       end = if_some-map (λ b. c.in_ok-end.end ≡ length b) (λ b. segment.end ≡ length b) _ (λ b e. c.in_ok-segment.ensures.end ∙ e) sized.1;
       front = if_some-both (λ b. c.in_ok-front.front.items ≡ part_of 0 c.min.result b) (λ b. c.in_ok-end.end ≡ length b) (λ b. segment.front ≡ take 4096 b) _
           (λ b h e. c.in_ok-segment.ensures.front ∙ front-is c.in_ok-end.end b _ (h ∙ ap (λ (n : ℕ). take (n - 0) (drop 0 b)) c.min.ensures) e) bytes sized.1;

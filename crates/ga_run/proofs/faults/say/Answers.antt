@@ -2,7 +2,7 @@ use Rattle.std.proofs.Common.{ap, arith}
 use Rattle.std.proofs.lemmas.Grind.{common_steps}
 use Rattle.ga_ports.specs.Outs.{OutsView}
 use Rattle.ga_ports.specs.declared.outs.To.TheVariants.{Stderr}
-use Rattle.ga_ports.specs.Stretch.OutsWent.{no_outs_call, outs_then}
+use Rattle.ga_ports.specs.Trace.OutsTrace.{no_outs_call, outs_then}
 use Rattle.ga_run.proofs.Takes.{printed-nil, joined-at, stops-in}
 use Rattle.ga_run.proofs.faults.say.Goals as goal
 

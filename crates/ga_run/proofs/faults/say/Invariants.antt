@@ -1,6 +1,6 @@
 use Rattle.std.proofs.Common.{◌≡◌, map, take}
 use Rattle.ga_ports.specs.declared.outs.To.TheVariants.{Stderr}
-use Rattle.ga_ports.specs.Stretch.{OutsWent}
+use Rattle.ga_ports.specs.Trace.{OutsTrace}
 use Rattle.ga_run.specs.Printing.{printed}
 use Rattle.ga_run.specs.Statuses.{joined}
 use Rattle.ga_run.proofs.faults.say.Given as goal
@@ -9,5 +9,5 @@ abbrev pub invariant-loop-piece : goal.invariant-loop-piece
 invariant-loop-piece g l = record {
   taken : g.O.Outs.view l.outs
       ≡ printed Stderr (joined (map (λ piece. piece.now) (take l.piece-index l.pieces))) (g.O.Outs.view l.outs).calls (g.O.Outs.view l.initial.outs);
-  went : OutsWent (g.O.Outs.view l.initial.outs) (g.O.Outs.view l.outs);
+  went : OutsTrace (g.O.Outs.view l.initial.outs) (g.O.Outs.view l.outs);
 }

@@ -1,4 +1,4 @@
-use Rattle.ga_ports.specs.Stretch.{create_call, one_outs_call, outs_then}
+use Rattle.ga_ports.specs.Trace.{create_call, one_outs_call, outs_then}
 use Rattle.ga_run.proofs.printing.deliver.Goals as goal
 
 pub returns-in-Ok-clause-calls : goal.returns-in-Ok-clause-calls

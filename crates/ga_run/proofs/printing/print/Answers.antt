@@ -1,6 +1,6 @@
 use Rattle.std.proofs.Common.{arith, ℕ, length-take, ◌≤◌, ◌+◌, ◌≡◌, length, take, ap, subst, take_all, refl, length-drop}
-use Rattle.ga_ports.specs.Stretch.OutsCall.{write_call}
-use Rattle.ga_ports.specs.Stretch.OutsWent.{no_outs_call, one_outs_call, outs_then}
+use Rattle.ga_ports.specs.Trace.OutsCall.{write_call}
+use Rattle.ga_ports.specs.Trace.OutsTrace.{no_outs_call, one_outs_call, outs_then}
 use Rattle.ga_run.specs.Printing.{printed}
 use Rattle.ga_run.proofs.Takes.{printed-nil, printed-after, fails-after, printed-all, starved-printed, starves, calls-later, to_end, front-more}
 use Rattle.ga_run.proofs.printing.print.Goals as goal

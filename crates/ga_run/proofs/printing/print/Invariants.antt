@@ -1,5 +1,5 @@
 use Rattle.std.proofs.Common.{length, take, ◌-◌, ◌≡◌, ◌≤◌}
-use Rattle.ga_ports.specs.Stretch.{OutsWent}
+use Rattle.ga_ports.specs.Trace.{OutsTrace}
 use Rattle.ga_run.specs.Printing.{printed}
 use Rattle.ga_run.proofs.printing.print.Given as goal
 
@@ -7,7 +7,7 @@ abbrev pub invariant-loop-at : goal.invariant-loop-at
 invariant-loop-at g l = record {
   within : l.at ≤ length l.bytes;
   later : (g.O.Outs.view l.initial.outs).calls ≤ (g.O.Outs.view l.outs).calls;
-  went : OutsWent (g.O.Outs.view l.initial.outs) (g.O.Outs.view l.outs);
+  went : OutsTrace (g.O.Outs.view l.initial.outs) (g.O.Outs.view l.outs);
   taken : g.O.Outs.view l.outs ≡ printed l.to (take l.at l.bytes) (g.O.Outs.view l.outs).calls (g.O.Outs.view l.initial.outs);
 }
 

@@ -1,4 +1,4 @@
-use Rattle.ga_ports.specs.Stretch.{no_files_call}
+use Rattle.ga_ports.specs.Trace.{no_files_call}
 use Rattle.ga_run.proofs.rules.rules_of.Goals as goal
 
 pub returns-in-None-clause-calls : goal.returns-in-None-clause-calls

@@ -2,25 +2,24 @@ use Rattle.std.proofs.Common.{ℕ, List, refl, subst, sym}
 use Rattle.std.proofs.lemmas.Result.{err_from_is_err_and}
 use Rattle.ga_logs.specs.Logs.{CountsLogs, StopsLogs}
 use Rattle.ga_logs.specs.declared.start.Start.{Start}
-use Rattle.ga_ports.specs.Stretch.{no_files_call}
-use Rattle.ga_store.specs.Reading.{db_value}
-use Rattle.ga_summary.specs.Limits.{LinesAdd}
-use Rattle.ga_summary.specs.Sound.{TotalsFit}
-use Rattle.ga_keep.specs.Database.{start_of}
+use Rattle.ga_ports.specs.Trace.{no_files_call}
+use Rattle.ga_store.specs.Store.{db_value}
+use Rattle.ga_base.specs.Totals.{LinesAdd, TotalsFit}
+use Rattle.ga_keep.specs.RunDatabase.{start_of}
 use Rattle.ga_run.proofs.Counting.{base-adds, base-fits, countable-total, hungry-last, sum-lines, stops-as, whole-fits}
 use Rattle.ga_run.proofs.run.count.Goals as goal
 
-pub returns-in_err-stored-clause-files_went : goal.returns-in_err-stored-clause-files_went
-returns-in_err-stored-clause-files_went g c = no_files_call
+pub returns-in_err-stored-clause-files_trace : goal.returns-in_err-stored-clause-files_trace
+returns-in_err-stored-clause-files_trace g c = no_files_call
 
-pub returns-in_err-entries-clause-files_went : goal.returns-in_err-entries-clause-files_went
-returns-in_err-entries-clause-files_went g c = no_files_call
+pub returns-in_err-entries-clause-files_trace : goal.returns-in_err-entries-clause-files_trace
+returns-in_err-entries-clause-files_trace g c = no_files_call
 
 pub count_logs-requires-clause-fit : goal.count_logs-requires-clause-fit
-count_logs-requires-clause-fit g c = λ _ _. subst (λ (start : Start). TotalsFit start.totals) (sym c.start-start.ensures) (base-fits c.args.settings.now (db_value c.in_ok-stored.stored) c.sound.ensures)
+count_logs-requires-clause-fit g c = λ _ _. subst (λ (start : Start). TotalsFit start.totals) (sym c.start-start.ensures) (base-fits c.args.settings.now (db_value c.in_ok-stored.stored) c.summary_is_sound.ensures)
 
 pub count_logs-requires-clause-lines : goal.count_logs-requires-clause-lines
-count_logs-requires-clause-lines g c = λ _ _. subst (λ (start : Start). LinesAdd start.totals) (sym c.start-start.ensures) (base-adds c.args.settings.now (db_value c.in_ok-stored.stored) c.sound.ensures)
+count_logs-requires-clause-lines g c = λ _ _. subst (λ (start : Start). LinesAdd start.totals) (sym c.start-start.ensures) (base-adds c.args.settings.now (db_value c.in_ok-stored.stored) c.summary_is_sound.ensures)
 
 pub returns-in_err-total-clause-stops : goal.returns-in_err-total-clause-stops
 returns-in_err-total-clause-stops g c =
@@ -56,14 +55,14 @@ returns-in_err-run-clause-stops g c =
     let p = err_from_is_err_and c.from_residual-in_err-run.result c.from_residual-in_err-run.ensures.1 in
     rw (p.1, p.2) (hungry-last c.args.setup.now s before after _ _ _ _ (db_value c.in_ok-stored.stored) c.in_ok-stored.ensures.ok entries c.in_ok-entries.ensures c.count_logs.new.entries total counts)
 
-pub whole-requires : goal.whole-requires
-whole-requires g c =
+pub whole_summary-requires : goal.whole_summary-requires
+whole_summary-requires g c =
     let s = c.args.settings.now in
     let stored = db_value c.in_ok-stored.stored in
     let counts =
     subst (λ (start : Start). CountsLogs c.args.setup.now start s.generate c.items-names.result.now c.in_ok-entries.entries c.count_logs.new.entries (g.F.Files.view c.args.files.now) (g.F.Files.view c.count_logs.new.files) c.in_ok-total.total) c.start-start.ensures
     c.in_ok-total.ensures.ok in
-    whole-fits c.args.setup.now s stored _ c.in_ok-run.run' c.sound.ensures (sum-lines c.args.setup.now (start_of s stored).totals _ c.in_ok-total.total c.in_ok-run.run' counts.counts c.in_ok-run.ensures)
+    whole-fits c.args.setup.now s stored _ c.in_ok-run.run' c.summary_is_sound.ensures (sum-lines c.args.setup.now (start_of s stored).totals _ c.in_ok-total.total c.in_ok-run.run' counts.counts c.in_ok-run.ensures)
 
 pub returns-in_err-whole-clause-sure : goal.returns-in_err-whole-clause-sure
 returns-in_err-whole-clause-sure g c = λ _.

@@ -1,6 +1,6 @@
 use Rattle.std.proofs.Common.{ℕ, List, refl, sym, subst, inl, inr}
-use Rattle.ga_disk.specs.Stretch.DiskWent.{no_disk_call}
-use Rattle.ga_ports.specs.Stretch.{no_outs_call}
+use Rattle.ga_disk.specs.Trace.DiskTrace.{no_disk_call}
+use Rattle.ga_ports.specs.Trace.{no_outs_call}
 use Rattle.ga_run.specs.Reports.{IsTextOf}
 use Rattle.ga_run.proofs.Finishing.{reports-last, unkept-last}
 use Rattle.ga_run.proofs.InputsEnds.{untouched}
@@ -8,7 +8,7 @@ use Rattle.ga_run.proofs.run.finish.Goals as goal
 use Rattle.ga_run.proofs.run.finish.Goals.{then-settings+in_default-keep, else-settings}
 
 pub returns-in_default : goal.returns-in_default
-returns-in_default g c = record { ends = (untouched, refl); errors = refl; disk_went = no_disk_call; outs_went = no_outs_call }
+returns-in_default g c = record { ends = (untouched, refl); errors = refl; disk_trace = no_disk_call; outs_trace = no_outs_call }
 
 pub keep-requires-clause-open : goal.keep-requires-clause-open
 keep-requires-clause-open g c = (c.requires.ready c.if-settings.true).is_open

@@ -1,6 +1,6 @@
 use Rattle.std.proofs.Common.{inl, inr, refl, subst, sym}
 use Rattle.ga_run.specs.Steps.Run.{IsTextAlone}
-use Rattle.ga_store.specs.Reading.{db_value}
+use Rattle.ga_store.specs.Store.{db_value}
 use Rattle.ga_run.proofs.run.run_alone.Goals as goal
 
 pub returns-in-Ok : goal.returns-in-Ok
@@ -12,9 +12,9 @@ returns-in-Ok g c = record {
     is_text = subst (IsTextAlone c.args.setup.now c.args.settings.now (db_value c.empty-stored.result) (g.F.Files.view c.args.files.now) (g.F.Files.view c.text_alone.new.files)) (sym c.bytes.ensures) c.in-Ok.ensures.ok;
     ends = c.report.ensures.ends;
     errors = c.report.ensures.errors;
-    outs_went = c.report.ensures.calls;
+    outs_trace = c.report.ensures.calls;
   });
-  files_went = c.text_alone.ensures.files_went;
+  files_trace = c.text_alone.ensures.files_trace;
 }
 
 pub returns : goal.returns
@@ -22,5 +22,5 @@ returns g c = record {
   stored = c.empty-stored.result;
   empty = c.empty-stored.ensures;
   ends = inr (record { stops = c.in-Err.ensures.stops; sure = c.in-Err.ensures.sure; quiet = refl });
-  files_went = c.text_alone.ensures.files_went;
+  files_trace = c.text_alone.ensures.files_trace;
 }

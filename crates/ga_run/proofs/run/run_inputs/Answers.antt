@@ -1,12 +1,12 @@
 use Rattle.std.proofs.Common.{◌≢◌, ℕ, List, refl, subst, sym, ◌∙◌, Option}
 use Rattle.ga_panels.specs.declared.setup.PanelSetup.{PanelSetup}
-use Rattle.ga_ports.specs.Stretch.{files_then}
+use Rattle.ga_ports.specs.Trace.{files_then}
 use Rattle.ga_logs.specs.Following.{CanServe}
 use Rattle.ga_resume.specs.declared.fault.PlaceFault.TheVariants.{FileFault as PlaceFailed}
 use Rattle.ga_run.specs.Course.{HasRules}
 use Rattle.ga_run.specs.Inputs.{rules_file}
 use Rattle.ga_run.specs.Steps.Rules.{StopsNamed}
-use Rattle.ga_run.specs.Steps.Run.{CountedValue, EndsAlone, StopsCounting}
+use Rattle.ga_run.specs.Steps.Run.{CountsRun, EndsAlone, StopsCounting}
 use Rattle.ga_run.specs.declared.rules.RulesFault.TheVariants.{Unread}
 use Rattle.ga_run.proofs.Counting.{ends-alone}
 use Rattle.ga_run.proofs.InputsEnds.{ends-count, ends-hungry, ends-last, ends-rules}
@@ -42,11 +42,11 @@ returns-in-Ok-count g c =
     let has : HasRules s.browsers_file before mid c.in-Ok.rules =
     subst (λ (file : Option (List ℕ)). HasRules file before mid c.in-Ok.rules) c.as_ref.ensures.value c.in-Ok.ensures.ok in
     let value =
-    subst (λ (panels : PanelSetup). CountedValue (record { line = c.args.line; panels = panels }) s c.in-Ok-count.counted mid after (g.D.Disk.view c.args.disk.now) (g.D.Disk.view c.count.new.disk)
+    subst (λ (panels : PanelSetup). CountsRun (record { line = c.args.line; panels = panels }) s c.in-Ok-count.counted mid after (g.D.Disk.view c.args.disk.now) (g.D.Disk.view c.count.new.disk)
     (g.D.Disk.images c.args.disk.now) (g.D.Disk.images c.count.new.disk)) c.in-Ok-panel_setup.ensures c.in-Ok-count.ensures.ok in
     ends-last c.args.line s before (g.D.Disk.view c.args.disk.now) (g.D.Disk.images c.args.disk.now) (g.O.Outs.view c.args.outs.now) mid after c.in-Ok.rules has c.in-Ok-count.counted
     (g.D.Disk.view c.count.new.disk) (g.D.Disk.images c.count.new.disk) value (g.D.Disk.only_now c.args.disk.now) (g.D.Disk.view c.finish.new.disk) (g.D.Disk.images c.finish.new.disk)
-    (g.O.Outs.view c.finish.new.outs) (files_then c.rules_of.ensures.calls c.count.ensures.files_went) c.count.ensures.disk_went c.finish.result c.finish.ensures
+    (g.O.Outs.view c.finish.new.outs) (files_then c.rules_of.ensures.calls c.count.ensures.files_trace) c.count.ensures.disk_trace c.finish.result c.finish.ensures
 
 pub returns : goal.returns
 returns g c =
@@ -60,7 +60,7 @@ returns g c =
     subst (λ (panels : PanelSetup). StopsCounting (record { line = c.args.line; panels = panels }) s mid after (g.D.Disk.view c.args.disk.now) (g.D.Disk.view c.count.new.disk)
     (g.D.Disk.images c.args.disk.now) (g.D.Disk.images c.count.new.disk) c.in-Err-count.status) c.in-Ok-panel_setup.ensures c.in-Err-count.ensures.stops in
     ends-count c.args.line s before (g.D.Disk.view c.args.disk.now) (g.D.Disk.images c.args.disk.now) (g.O.Outs.view c.args.outs.now) mid after c.in-Ok.rules has (g.D.Disk.view c.count.new.disk)
-    (g.D.Disk.images c.count.new.disk) (files_then c.rules_of.ensures.calls c.count.ensures.files_went) c.count.ensures.disk_went (c.files_stay.ensures before mid c.rules_of.ensures.calls) c.in-Err-count.status
+    (g.D.Disk.images c.count.new.disk) (files_then c.rules_of.ensures.calls c.count.ensures.files_trace) c.count.ensures.disk_trace (c.files_stay.ensures before mid c.rules_of.ensures.calls) c.in-Err-count.status
     stops c.in-Err-count.ensures.sure
 
 pub returns-then-not-uses_database : goal.returns-then-not-uses_database

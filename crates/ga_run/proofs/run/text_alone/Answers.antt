@@ -2,23 +2,22 @@ use Rattle.std.proofs.Common.{ℕ, List, refl, subst, sym, inl, inr}
 use Rattle.std.proofs.lemmas.Result.{err_from_is_err_and}
 use Rattle.ga_logs.specs.Logs.{CountsLogs, StopsLogs}
 use Rattle.ga_logs.specs.declared.start.Start.{Start}
-use Rattle.ga_ports.specs.Stretch.{no_files_call}
-use Rattle.ga_report.specs.OfSummary.{told_value}
+use Rattle.ga_ports.specs.Trace.{no_files_call}
+use Rattle.ga_report.specs.OfSummary.{source_value}
 use Rattle.ga_report.proofs.Alike.{report-alike}
-use Rattle.ga_store.specs.Reading.{db_value}
-use Rattle.ga_summary.specs.Limits.{LinesAdd}
-use Rattle.ga_summary.specs.Sound.{TotalsFit}
+use Rattle.ga_store.specs.Store.{db_value}
+use Rattle.ga_base.specs.Totals.{LinesAdd, TotalsFit}
 use Rattle.ga_run.proofs.Counting.{base-adds, base-fits, countable-total, overwrites}
 use Rattle.ga_run.proofs.run.text_alone.Goals as goal
 
 pub count_logs-requires-clause-fit : goal.count_logs-requires-clause-fit
-count_logs-requires-clause-fit g c = λ _ _. subst (λ (start : Start). TotalsFit start.totals) (sym c.start-start.ensures) (base-fits c.args.settings.now (db_value c.args.stored.now) c.sound.ensures)
+count_logs-requires-clause-fit g c = λ _ _. subst (λ (start : Start). TotalsFit start.totals) (sym c.start-start.ensures) (base-fits c.args.settings.now (db_value c.args.stored.now) c.summary_is_sound.ensures)
 
 pub count_logs-requires-clause-lines : goal.count_logs-requires-clause-lines
-count_logs-requires-clause-lines g c = λ _ _. subst (λ (start : Start). LinesAdd start.totals) (sym c.start-start.ensures) (base-adds c.args.settings.now (db_value c.args.stored.now) c.sound.ensures)
+count_logs-requires-clause-lines g c = λ _ _. subst (λ (start : Start). LinesAdd start.totals) (sym c.start-start.ensures) (base-adds c.args.settings.now (db_value c.args.stored.now) c.summary_is_sound.ensures)
 
-pub returns-in_err-entries-clause-files_went : goal.returns-in_err-entries-clause-files_went
-returns-in_err-entries-clause-files_went g c = no_files_call
+pub returns-in_err-entries-clause-files_trace : goal.returns-in_err-entries-clause-files_trace
+returns-in_err-entries-clause-files_trace g c = no_files_call
 
 pub returns-in_err-entries-clause-stops : goal.returns-in_err-entries-clause-stops
 returns-in_err-entries-clause-stops g c =
@@ -38,8 +37,8 @@ returns-in_err-total-clause-stops g c =
     let p = err_from_is_err_and c.from_residual-in_err-total.result c.from_residual-in_err-total.ensures.1 in
     rw (p.1, p.2) (inl (record { entries = entries; begin = c.in_ok-entries.ensures; fault = fault; status_is = refl; stops = stops }))
 
-pub told-requires : goal.told-requires
-told-requires g c = (c.type_bounds.sync-R, countable-total _ _ _ _ c.in_ok-total.ensures.ok.counts)
+pub source-requires : goal.source-requires
+source-requires g c = (c.type_bounds.sync-R, countable-total _ _ _ _ c.in_ok-total.ensures.ok.counts)
 
 pub returns-in_err-told-clause-stops : goal.returns-in_err-told-clause-stops
 returns-in_err-told-clause-stops g c =
@@ -88,13 +87,13 @@ returns-clause-ok g c =
         portions = counts.portions;
         read = counts.read;
         run = tells.sum;
-        counts = record { outcomes = counts.counts.outcomes; come = counts.counts.come; is_sum = tells.is_sum; fits = counts.counts.fits };
+        counts = record { outcomes = counts.counts.outcomes; have_outcomes = counts.counts.have_outcomes; is_sum = tells.is_sum; fits = counts.counts.fits };
         whole = tells.sum;
         is_whole = overwrites s stored tells.sum c.requires;
       };
       is_text = record {
         report = text.report;
-        is_report = report-alike _ (told_value tells.sum) s.panels s.max_items text.report tells.same text.is_report;
+        is_report = report-alike _ (source_value tells.sum) s.panels s.max_items text.report tells.same text.is_report;
         written = text.written;
       };
     }

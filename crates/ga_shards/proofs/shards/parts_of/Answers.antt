@@ -8,4 +8,4 @@ returns-clause-each g c =
     let all = c.in_ok-map_indices.field-0 in
     let long : length all.items ≡ c.args.shards = omega (arith, c.in_ok-map_indices.ensures.len, all.ok) in
     each-of (λ v. v.items) (λ s known. known ≡ all_noted g.T.PartialEq.eq [] (those_of (shard_at g.T.Hash.hash_input c.args.shards) s (all_of c.args.dictionaries.now))) c.args.shards
-    all.items [] long (λ i r lt. (c.in_ok-map_indices.ensures.each i r lt).1.met) c.gathered.result c.gathered.ensures
+    all.items [] long (λ i r lt. (c.in_ok-map_indices.ensures.each i r lt).1.met) c.collect_all.result c.collect_all.ensures

@@ -7,4 +7,4 @@ if_ok-map (Ok a) f p = f a p
 if_ok-map (Err b) f p = tt
 
 pub returns-clause-makes : goal.returns-clause-makes
-returns-clause-makes c = if_ok-map c.work_of.result (λ work is. makes-after work _ _ _ _ c.sound.ensures c.args.mode c.requires is) c.work_of.ensures.work
+returns-clause-makes c = if_ok-map c.work_of.result (λ work is. makes-after work _ _ _ _ c.summary_is_sound.ensures c.args.mode c.requires is) c.work_of.ensures.work

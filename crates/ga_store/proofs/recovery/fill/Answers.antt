@@ -1,7 +1,7 @@
 use Rattle.std.proofs.Common.{◌≡◌, ◌≤◌, ◌+◌, ◌-◌, ℕ, length, refl, ap, arith, length-take, length-drop}
 use Rattle.std.proofs.lemmas.Result.{err_from_is_err_and}
 use Rattle.ga_disk.specs.Disk.{DiskView}
-use Rattle.ga_disk.specs.Stretch.DiskCall.{read_call}
+use Rattle.ga_disk.specs.Trace.DiskCall.{read_call}
 use Rattle.ga_store.proofs.RecoverDisk.{looks-failed, looks-none, looks-ok, looks-then, piece-more, seen-same}
 use Rattle.ga_store.proofs.RecoverParts.{if_some-all}
 use Rattle.ga_store.proofs.recovery.fill.Goals as goal

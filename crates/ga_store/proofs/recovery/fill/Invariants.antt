@@ -1,7 +1,7 @@
 use Rattle.std.proofs.Common.{◌≡◌, ℕ, ◌+◌, ◌*◌, ◌-◌, ◌<◌, ◌≤◌, false, length, take, min, IfSome}
-use Rattle.ga_ports.specs.Counts.{raised}
+use Rattle.ga_counters.specs.Counts.{raised}
 use Rattle.ga_disk.specs.Sides.{of_side}
-use Rattle.ga_store.specs.Reading.{Looks, most_read}
+use Rattle.ga_store.specs.Store.{Looks, most_read}
 use Rattle.ga_store.proofs.recovery.fill.Given as goal
 
 abbrev pub invariant-loop-at : goal.invariant-loop-at

@@ -1,7 +1,7 @@
 use Rattle.std.proofs.Common.{ℕ, ap, arith, length-append, length-drop, length-take}
 use Rattle.std.proofs.lemmas.Result.{err_from_is_err_and}
 use Rattle.ga_disk.specs.Disk.{DiskView}
-use Rattle.ga_disk.specs.Stretch.DiskCall.{size_call}
+use Rattle.ga_disk.specs.Trace.DiskCall.{size_call}
 use Rattle.ga_store.proofs.RecoverDisk.{looks-failed, looks-ok, looks-then}
 use Rattle.ga_store.proofs.recovery.read_side.Goals as goal
 

@@ -2,7 +2,7 @@ use Rattle.std.proofs.Common.{subst}
 use Rattle.std.proofs.lemmas.Result.{err_from_is_err_and}
 use Rattle.ga_disk.specs.Sides.{Sides}
 use Rattle.ga_store.specs.Database.{DbOf}
-use Rattle.ga_store.specs.Reading.{Answers}
+use Rattle.ga_store.specs.Steps.Recovery.{Answers}
 use Rattle.ga_store.proofs.RecoverDisk.{looks-then, once-both, read-both, recovers, recovers-not}
 use Rattle.ga_store.proofs.recovery.recover.Goals as goal
 

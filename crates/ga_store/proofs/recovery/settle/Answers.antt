@@ -1,7 +1,7 @@
 use Rattle.std.proofs.Common.{ap, arith}
 use Rattle.std.proofs.lemmas.Result.{err_from_is_err_and}
 use Rattle.ga_disk.specs.Disk.{DiskView}
-use Rattle.ga_disk.specs.Stretch.DiskCall.{sync_call}
+use Rattle.ga_disk.specs.Trace.DiskCall.{sync_call}
 use Rattle.ga_store.proofs.RecoverDisk.{looks-failed, looks-ok, looks-then, synced-same}
 use Rattle.ga_store.proofs.recovery.settle.Goals as goal
 

@@ -1,6 +1,6 @@
 use Rattle.std.proofs.Common.{◌≡◌, ◌++◌}
 use Rattle.std.specs.Vec.Iter.{into_iter_items}
-use Rattle.ga_summary.specs.Parts.{rows_in}
+use Rattle.ga_summary.specs.SummaryParts.{rows_in}
 use Rattle.ga_summary.specs.Steps.Entries.{AllClosed, rows_of}
 use Rattle.ga_summary.proofs.entries.entries_of.Given as goal
 

@@ -3,7 +3,7 @@ use Rattle.std.specs.Vec.Iter.{into_iter_items}
 use Rattle.std.proofs.lemmas.List.Elements.{All-tail}
 use Rattle.ga_summary.specs.declared.entry.Entry.{Entry}
 use Rattle.ga_base.specs.Orders.{key_cmp}
-use Rattle.ga_summary.specs.Rows.{Row}
+use Rattle.ga_summary.specs.SummaryRows.{SummaryRow}
 use Rattle.ga_summary.specs.Steps.Entries.{IsClosed, row_of}
 use Rattle.ga_summary.specs.Steps.Joined.{joined}
 use Rattle.ga_summary.proofs.Put.{rises_put, rises_head, rises_tail}
@@ -25,12 +25,12 @@ loop-entry-preserved c =
     record {
       can_next = tt;
       is_finite = tt;
-      rising = rw (c.place.ensures.rows) (rises_put key_cmp key_cmp_total (λ (row : Row). row.key) joined (λ _ _. refl) (row_of c.in-Some.entry.value) _ invariant.rising);
-      rising_more = rises_tail key_cmp (λ (row : Row). row.key) (row_of c.in-Some.entry.value) _ rising_more;
+      rising = rw (c.place.ensures.rows) (rises_put key_cmp key_cmp_total (λ (row : SummaryRow). row.key) joined (λ _ _. refl) (row_of c.in-Some.entry.value) _ invariant.rising);
+      rising_more = rises_tail key_cmp (λ (row : SummaryRow). row.key) (row_of c.in-Some.entry.value) _ rising_more;
       room = omega (arith, size, c.place.ensures.len, c.place.ensures.capacity);
       closed_more = All-tail (λ (b : Box Entry Global). IsClosed b.value) _ _ closed_more;
       opened = open_placed _ _ c.in-Some.entry.value.key c.place.ensures.others c.in-Some.entry _ refl c.place.ensures.closed opened;
-      fits = places_left _ _ c.in-Some.entry.value.key c.place.ensures.others _ (rises_head key_cmp (λ (row : Row). row.key) (row_of c.in-Some.entry.value) _ rising_more) fits.1;
+      fits = places_left _ _ c.in-Some.entry.value.key c.place.ensures.others _ (rises_head key_cmp (λ (row : SummaryRow). row.key) (row_of c.in-Some.entry.value) _ rising_more) fits.1;
       rest = rw (c.place.ensures.rows) rest;
     }
 

@@ -1,5 +1,5 @@
 use Rattle.std.proofs.Common.{ℕ, ◌≤◌, take}
-use Rattle.ga_summary.specs.Parts.{RowsAreGood, rows_in}
+use Rattle.ga_summary.specs.SummaryParts.{RowsAreGood, rows_in}
 use Rattle.ga_summary.specs.Steps.Passing.{AreSumsOf}
 use Rattle.ga_summary.proofs.first_bad.first_bad_row.Given as goal
 

@@ -1,7 +1,7 @@
 use Rattle.std.proofs.Common.{sym, ◌∙◌}
 use Rattle.std.proofs.lemmas.Bool.{false≢true}
 use Rattle.ga_base.specs.Layers.{day_key}
-use Rattle.ga_summary.specs.Parts.{row_of_part}
+use Rattle.ga_summary.specs.SummaryParts.{row_of_part}
 use Rattle.ga_summary.proofs.PassRow.{stands, has_day_row, has_visitors, forms_upto, names_upto, decided}
 use Rattle.ga_summary.proofs.first_bad.pass_row.Goals as goal
 

@@ -3,7 +3,7 @@ use Rattle.std.proofs.lemmas.Fn.{always_returns_same}
 use Rattle.std.specs.List.Sorted.{IsStrictlySortedBy}
 use Rattle.ga_base.specs.declared.name.Name.{Name}
 use Rattle.ga_base.specs.Orders.{name_cmp, name_of}
-use Rattle.ga_summary.specs.Rows.{has_name}
+use Rattle.ga_summary.specs.SummaryRows.{has_name}
 use Rattle.ga_summary.specs.Steps.Places.{StandsAt, GoesTo}
 use Rattle.ga_summary.proofs.NameLists.{names_searched, has_name_found, has_name_missing}
 use Rattle.ga_summary.proofs.names.holds_visitor.Goals as goal

@@ -5,7 +5,7 @@ use Rattle.ga_summary.specs.declared.entry.Entry.{Entry}
 use Rattle.ga_summary.specs.Steps.Room.{AllHavePlace}
 use Rattle.ga_summary.specs.Steps.Entries.{IsClosed, row_of}
 use Rattle.ga_base.specs.Orders.{key_cmp}
-use Rattle.ga_summary.specs.Rows.{Row}
+use Rattle.ga_summary.specs.SummaryRows.{SummaryRow}
 use Rattle.ga_summary.proofs.NamePass.{ended}
 use Rattle.ga_summary.proofs.Put.{Some≢None, rises_tail}
 use Rattle.ga_summary.proofs.Closing.{first_closed, less_closed, open_equal, open_greater, open_rest}
@@ -21,7 +21,7 @@ entries-preserved-in-Less c =
     let b = c.in-Some-Some.b in
     let less : key_cmp a.value.key b.value.key ≡ Less = rw (← c.deref.ensures, ← c.deref-in-Some-Some.ensures) (sym c.compare_keys.ensures ∙ c.in-Less.is) in
     record {
-      rising_left = rw (← next.ensures.items) (rises_tail key_cmp (λ (row : Row). row.key) (row_of a.value) _ inv.rising_left);
+      rising_left = rw (← next.ensures.items) (rises_tail key_cmp (λ (row : SummaryRow). row.key) (row_of a.value) _ inv.rising_left);
       rising_right = inv.rising_right;
       ended_left = ended next.result _ _ _ _ next.new.self.rest.ok.0 next.ensures.cases;
       ended_right = tt;
@@ -51,8 +51,8 @@ entries-preserved-in-Equal c =
     let b = c.in-Some-Some.b in
     let equal : key_cmp a.value.key b.value.key ≡ Equal = rw (← c.deref.ensures, ← c.deref-in-Some-Some.ensures) (sym c.compare_keys.ensures ∙ c.in-Equal.is) in
     record {
-      rising_left = rw (← left.ensures.items) (rises_tail key_cmp (λ (row : Row). row.key) (row_of a.value) _ inv.rising_left);
-      rising_right = rw (← right.ensures.items) (rises_tail key_cmp (λ (row : Row). row.key) (row_of b.value) _ inv.rising_right);
+      rising_left = rw (← left.ensures.items) (rises_tail key_cmp (λ (row : SummaryRow). row.key) (row_of a.value) _ inv.rising_left);
+      rising_right = rw (← right.ensures.items) (rises_tail key_cmp (λ (row : SummaryRow). row.key) (row_of b.value) _ inv.rising_right);
       ended_left = ended left.result _ _ _ _ left.new.self.rest.ok.0 left.ensures.cases;
       ended_right = ended right.result _ _ _ _ right.new.self.rest.ok.0 right.ensures.cases;
       room = rw (← left.ensures.items, ← right.ensures.items) (omega (arith, inv.room, pushed.len, pushed.capacity));
@@ -73,7 +73,7 @@ entries-preserved-in-Greater c =
     let greater : key_cmp a.value.key b.value.key ≡ Greater = rw (← c.deref.ensures, ← c.deref-in-Some-Some.ensures) (sym c.compare_keys.ensures ∙ c.in-Greater.is) in
     record {
       rising_left = inv.rising_left;
-      rising_right = rw (← next.ensures.items) (rises_tail key_cmp (λ (row : Row). row.key) (row_of b.value) _ inv.rising_right);
+      rising_right = rw (← next.ensures.items) (rises_tail key_cmp (λ (row : SummaryRow). row.key) (row_of b.value) _ inv.rising_right);
       ended_left = tt;
       ended_right = ended next.result _ _ _ _ next.new.self.rest.ok.0 next.ensures.cases;
       room = rw (← next.ensures.items) (omega (arith, inv.room, pushed.len, pushed.capacity));
@@ -91,7 +91,7 @@ entries-preserved-in-Some-None c =
     let pushed = c.push_within-in-Some-None.ensures in
     let none = inv.ended_right in
     record {
-      rising_left = rw (← next.ensures.items) (rises_tail key_cmp (λ (row : Row). row.key) (row_of c.in-Some-None.a.value) _ inv.rising_left);
+      rising_left = rw (← next.ensures.items) (rises_tail key_cmp (λ (row : SummaryRow). row.key) (row_of c.in-Some-None.a.value) _ inv.rising_left);
       rising_right = inv.rising_right;
       ended_left = ended next.result _ _ _ _ next.new.self.rest.ok.0 next.ensures.cases;
       ended_right = none;
@@ -111,7 +111,7 @@ entries-preserved c =
     let none = inv.ended_left in
     record {
       rising_left = inv.rising_left;
-      rising_right = rw (← next.ensures.items) (rises_tail key_cmp (λ (row : Row). row.key) (row_of c.in-None-Some.b.value) _ inv.rising_right);
+      rising_right = rw (← next.ensures.items) (rises_tail key_cmp (λ (row : SummaryRow). row.key) (row_of c.in-None-Some.b.value) _ inv.rising_right);
       ended_left = none;
       ended_right = ended next.result _ _ _ _ next.new.self.rest.ok.0 next.ensures.cases;
       room = rw (← next.ensures.items) (omega (arith, inv.room, pushed.len, pushed.capacity));

@@ -6,13 +6,13 @@ use Rattle.ga_summary.specs.Steps.Joined.{put_rows}
 use Rattle.ga_base.specs.Orders.{key_cmp}
 use Rattle.ga_summary.specs.Steps.Places.{Rises}
 use Rattle.ga_summary.specs.Steps.Room.{AllHavePlace, OpenAmong}
-use Rattle.ga_summary.specs.Rows.{Row}
+use Rattle.ga_summary.specs.SummaryRows.{SummaryRow}
 use Rattle.ga_summary.proofs.one_pass.merge_entries.Given as goal
 
 abbrev pub invariant-entries : goal.invariant-entries
 invariant-entries l = record {
-  rising_left : Rises key_cmp (λ (row : Row). row.key) (rows_of (option_to_list l.next_left ++ into_iter_items l.left));
-  rising_right : Rises key_cmp (λ (row : Row). row.key) (rows_of (option_to_list l.next_right ++ into_iter_items l.right));
+  rising_left : Rises key_cmp (λ (row : SummaryRow). row.key) (rows_of (option_to_list l.next_left ++ into_iter_items l.left));
+  rising_right : Rises key_cmp (λ (row : SummaryRow). row.key) (rows_of (option_to_list l.next_right ++ into_iter_items l.right));
   ended_left : IfNone l.next_left (into_iter_items l.left ≡ []);
   ended_right : IfNone l.next_right (into_iter_items l.right ≡ []);
   room : vec_len l.out + (length (option_to_list l.next_left ++ into_iter_items l.left) + length (option_to_list l.next_right ++ into_iter_items l.right)) ≤ vec_capacity l.out;

@@ -2,7 +2,7 @@ use Rattle.std.proofs.Common.{◌≡◌, ℕ, ◌<◌, ◌≤◌, true, length, 
 use Rattle.std.specs.List.Sorted.{IsStrictlySortedBy}
 use Rattle.ga_base.specs.declared.name.Name.{Name}
 use Rattle.ga_base.specs.Orders.{name_cmp}
-use Rattle.ga_summary.specs.Rows.{has_name}
+use Rattle.ga_summary.specs.SummaryRows.{has_name}
 use Rattle.ga_summary.proofs.row_tests.all_among.Given as goal
 
 abbrev pub invariant-loop-name : goal.invariant-loop-name

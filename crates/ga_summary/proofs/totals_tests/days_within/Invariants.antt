@@ -1,5 +1,5 @@
 use Rattle.std.proofs.Common.{◌≡◌, take}
-use Rattle.ga_summary.specs.Parts.{rows_in}
+use Rattle.ga_summary.specs.SummaryParts.{rows_in}
 use Rattle.ga_summary.specs.Sound.{day_rows}
 use Rattle.ga_summary.specs.Steps.Loads.{LoadWithin, load_of}
 use Rattle.ga_summary.proofs.totals_tests.days_within.Given as goal

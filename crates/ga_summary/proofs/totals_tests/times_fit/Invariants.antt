@@ -1,5 +1,5 @@
 use Rattle.std.proofs.Common.{ℕ, ◌<◌, get_or}
-use Rattle.ga_summary.specs.declared.parts.PartRow.{PartRow}
+use Rattle.ga_summary.specs.declared.summary_parts.PartRow.{PartRow}
 use Rattle.ga_summary.specs.Steps.Loads.{TimeFits}
 use Rattle.ga_summary.proofs.totals_tests.times_fit.Given as goal
 

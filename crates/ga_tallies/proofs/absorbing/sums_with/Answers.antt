@@ -2,7 +2,7 @@ use Rattle.std.proofs.Common.{◌≡◌, ◌≤◌, List, ℕ, ◌∙◌, Some, 
 use Rattle.std.specs.Prelude.{slice_get}
 use Rattle.std.proofs.lemmas.List.{length-take-le, take_more}
 use Rattle.ga_base.specs.declared.counts.Sums.{Sums}
-use Rattle.ga_tallies.specs.Adding.{added_at}
+use Rattle.ga_tallies.specs.Steps.Adding.{added_at}
 use Rattle.ga_tallies.specs.Steps.Absorbing.{rows_added}
 use Rattle.ga_tallies.proofs.AddedRows.{rows-past, rows-push}
 use Rattle.ga_tallies.proofs.AddedVisits.{lent-there, none-there}

@@ -1,5 +1,5 @@
 use Rattle.std.proofs.Common.{subst, sym}
-use Rattle.ga_tallies.specs.Adding.{HoldTheSame}
+use Rattle.ga_tallies.specs.Steps.Adding.{HoldTheSame}
 use Rattle.ga_tallies.proofs.pairs.make_room.Goals as goal
 
 pub returns-in_err-reserve : goal.returns-in_err-reserve

@@ -1,6 +1,6 @@
 use Rattle.std.proofs.Common.{◌≡◌, ◌∷◌, ◌++◌, [], ap, arith, subst, sym, ◌∙◌}
 use Rattle.std.proofs.lemmas.List.{map_push}
-use Rattle.ga_tallies.specs.Adding.{HoldTheSame}
+use Rattle.ga_tallies.specs.Steps.Adding.{HoldTheSame}
 use Rattle.ga_tallies.specs.Tallies.{lists_in, pairs_in}
 use Rattle.ga_tallies.proofs.PairLists.{empty-pushed, holds-after, holds-itself}
 use Rattle.ga_tallies.proofs.pairs.make_rows.Goals as goal

@@ -1,5 +1,5 @@
 use Rattle.std.proofs.Common.{◌-◌, vec_len}
-use Rattle.ga_tallies.specs.Adding.{HoldTheSame}
+use Rattle.ga_tallies.specs.Steps.Adding.{HoldTheSame}
 use Rattle.ga_tallies.specs.Tallies.{lists_in, pairs_in}
 use Rattle.ga_tallies.proofs.pairs.make_rows.Given as goal
 

@@ -1,6 +1,6 @@
 use Rattle.std.proofs.Common.{ℕ, subst, sym}
 use Rattle.smallvec.specs.SmallVec.{SmallVec}
-use Rattle.ga_tallies.specs.Adding.{AddsOne, KeepsAll}
+use Rattle.ga_tallies.specs.Steps.Adding.{AddsOne, KeepsAll}
 use Rattle.ga_tallies.proofs.PairLists.{holds-itself, one-added}
 use Rattle.ga_tallies.proofs.pairs.push_visitor.Goals as goal
 

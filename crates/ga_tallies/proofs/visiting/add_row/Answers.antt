@@ -1,7 +1,7 @@
 use Rattle.std.proofs.Common.{◌∷◌, ◌++◌, [], List, ℕ, get_or, take, sym, subst}
 use Rattle.std.proofs.lemmas.List.{take_more}
 use Rattle.smallvec.specs.SmallVec.{SmallVec}
-use Rattle.ga_tallies.specs.Adding.{AddsOne}
+use Rattle.ga_tallies.specs.Steps.Adding.{AddsOne}
 use Rattle.ga_tallies.specs.Steps.Absorbing.{AddsSuch, IsMappedItem}
 use Rattle.ga_tallies.proofs.AddedVisits.{lent-there, no-item, none-lent, visitor-more, visitor-unknown}
 use Rattle.ga_tallies.proofs.PairLists.{holds-itself, one-added}

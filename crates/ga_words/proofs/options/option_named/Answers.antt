@@ -2,4 +2,4 @@ use Rattle.ga_words.proofs.TableLemmas.{option_map-cond}
 use Rattle.ga_words.proofs.options.option_named.Goals as goal
 
 pub returns : goal.returns
-returns c = rw c.beside.ensures (simp option_map-cond)
+returns c = rw c.lookup.ensures (simp option_map-cond)

@@ -1,6 +1,6 @@
 use Rattle.std.proofs.Common.{◌≡◌, ◌++◌, ◌∷◌, [], ◌∙◌, length, sym, ap, arith}
 use Rattle.ga_batches.specs.Batches.{BatcherSeen, held}
-use Rattle.ga_batches.specs.declared.batcher.TheConstants.{LINE_FEED}
+use Rattle.ga_base.specs.declared.limits.TheConstants.{LINE_FEED}
 use Rattle.ga_batches.proofs.GoingOn.{appended, held-parts, ended-batcher}
 use Rattle.ga_batches.proofs.batcher.Batcher.end_line.Goals as goal
 

@@ -5,8 +5,8 @@ use Rattle.ga_batches.proofs.batcher.Batcher.feed.Goals as goal
 pub loop-at-init : goal.loop-at-init
 loop-at-init c = record {
   within = omega arith;
-  batcher = c.known.ensures;
-  feeds = feeds-none c.args.self.now c.known.ensures c.requires.going;
+  batcher = c.recall_invariant.ensures;
+  feeds = feeds-none c.args.self.now c.recall_invariant.ensures c.requires.going;
   before = λ n lt. absurd (omega arith);
   begins = λ _. refl;
 }

@@ -17,7 +17,7 @@ returns c =
     let after = c.count.ensures ∙ ap (λ (v : BatcherSeen). record v { fed = v.fed + taken }) c.hold.ensures in
     record {
       goes_on = subst (λ v. GoesOn taken bytes old v) (sym after)
-          (goes-on bytes kept taken old c.known.ensures c.requires.room part
+          (goes-on bytes kept taken old c.recall_invariant.ensures c.requires.room part
           (λ less. c.taken_of-taken.ensures.all (omega arith))
           (λ filled. c.taken_of-taken.ensures.full (omega arith)));
     }

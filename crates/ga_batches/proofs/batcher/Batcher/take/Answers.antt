@@ -5,4 +5,4 @@ use Rattle.ga_batches.proofs.batcher.Batcher.take.Goals as goal
 
 pub returns-clause-stream : goal.returns-clause-stream
 returns-clause-stream c stream taken holds =
-    subst (λ v. Holds stream (taken ++ c.args.self.now.batch) v) (sym c.drop_batch.ensures.value) (holds-taken c.args.self.now c.known.ensures stream taken holds)
+    subst (λ v. Holds stream (taken ++ c.args.self.now.batch) v) (sym c.drop_batch.ensures.value) (holds-taken c.args.self.now c.recall_invariant.ensures stream taken holds)

@@ -17,4 +17,4 @@ returns-in-None g c =
     let short = c.in-None.ensures.cases in
     let v = c.self.view_is in
     let ended = bytes_ended g.row.N c.self.inside.place c.self.inside.rest.now short c.self.invariant.1 in
-    rw c.ended.ensures (subst (λ (s : Cursor). Refuses (any_bytes g.row.N) s (NotInGrammar (s.place + length s.rest))) v ended)
+    rw c.fault_at_end.ensures (subst (λ (s : Cursor). Refuses (any_bytes g.row.N) s (NotInGrammar (s.place + length s.rest))) v ended)

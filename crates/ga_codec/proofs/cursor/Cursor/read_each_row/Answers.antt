@@ -1,7 +1,7 @@
 use Rattle.std.proofs.Common.{◌≡◌, ◌++◌, ◌∷◌, [], map}
 use Rattle.std.proofs.lemmas.Result.{err_from_is_err_and}
 use Rattle.std.proofs.lemmas.List.{map_push}
-use Rattle.ga_summary.specs.Parts.{row_of_part}
+use Rattle.ga_summary.specs.SummaryParts.{row_of_part}
 use Rattle.ga_codec.specs.Steps.Grammar.{row}
 use Rattle.ga_codec.proofs.Fields.{row_is_part}
 use Rattle.ga_codec.proofs.Looping.{one_more_read, item_fails, all_read}

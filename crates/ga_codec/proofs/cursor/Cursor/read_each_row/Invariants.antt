@@ -1,4 +1,4 @@
-use Rattle.ga_summary.specs.Parts.{rows_in}
+use Rattle.ga_summary.specs.SummaryParts.{rows_in}
 use Rattle.ga_codec.specs.Steps.Grammar.{row}
 use Rattle.ga_codec.proofs.Looping.{HasRead}
 use Rattle.ga_codec.proofs.cursor.Cursor.read_each_row.Given as goal

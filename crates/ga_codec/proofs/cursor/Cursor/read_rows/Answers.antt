@@ -1,4 +1,4 @@
-use Rattle.ga_summary.specs.Parts.{rows_in}
+use Rattle.ga_summary.specs.SummaryParts.{rows_in}
 use Rattle.std.specs.Int.{w64}
 use Rattle.std.proofs.lemmas.Result.{err_from_is_err_and}
 use Rattle.ga_codec.specs.Steps.Parts.{followed_by, listed, times}

@@ -10,5 +10,5 @@ fetch_max-requires g c =
     let told = c.requires.told in (
       search rules,
       omega (arith, c.self.invariant.0, c.self.invariant.3),
-      raise-allowed c.self.inside.table.shared.key _ _ _ g.P.Told.number c.args.n c.seat.inside.seat.me (omega (arith, c.self.invariant.2)) (omega arith) c.seat.invariant.1,
+      raise-allowed c.self.inside.table.shared.key _ _ _ g.P.Witness.number c.args.n c.seat.inside.seat.me (omega (arith, c.self.invariant.2)) (omega arith) c.seat.invariant.1,
     )

@@ -10,5 +10,5 @@ fetch_add-requires g c =
     let least = c.requires.allowance in (
       search rules,
       search rules,
-      draw-allowed c.self.inside.table.shared.key g.S.Told.number _ _ c.seat.inside.seat.me (c.requires.named ∙ sym shares) c.self.invariant.1 (omega arith),
+      draw-allowed c.self.inside.table.shared.key g.S.Witness.number _ _ c.seat.inside.seat.me (c.requires.named ∙ sym shares) c.self.invariant.1 (omega arith),
     )

@@ -7,5 +7,5 @@ pub load-requires : goal.load-requires
 load-requires g c = (
   search rules,
   search rules,
-  look-allowed c.self.inside.table.shared.key g.S.Told.number _ _ c.seat.inside.seat.me (c.requires.named ∙ sym (ap (λ (d : DrawsSeen). d.shares) c.self.view_is)),
+  look-allowed c.self.inside.table.shared.key g.S.Witness.number _ _ c.seat.inside.seat.me (c.requires.named ∙ sym (ap (λ (d : DrawsSeen). d.shares) c.self.view_is)),
 )

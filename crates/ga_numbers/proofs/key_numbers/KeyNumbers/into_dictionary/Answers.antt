@@ -11,7 +11,7 @@ pub returns : goal.returns
 returns c =
     let items = c.in_ok-items.field-0.items in
     c.in_ok-note_all.ensures.noted
-    ∙ ap (λ l. all_noted (λ (a b : Key). tests.eq a b) l items) c.new-keys.ensures
+    ∙ ap (λ l. all_noted (λ (a b : Key). tests.eq a b) l items) c.keyed-keys.ensures
     ∙ ap (λ (same : Key → Key → Bool). all_noted same [] items) key-test
     ∙ noted-whole is_same_key same-key key-laws items [] c.in_ok-items.ensures.distinct
     ∙ c.in_ok-items.ensures.value

@@ -11,7 +11,7 @@ pub returns : goal.returns
 returns c =
     let items = c.in_ok-items.field-0.items in
     c.in_ok-note_all.ensures.noted
-    ∙ ap (λ l. all_noted (λ (a b : Visitor). tests.eq a b) l items) c.new-visitors.ensures
+    ∙ ap (λ l. all_noted (λ (a b : Visitor). tests.eq a b) l items) c.keyed-visitors.ensures
     ∙ ap (λ (same : Visitor → Visitor → Bool). all_noted same [] items) visitor-test
     ∙ noted-whole is_same_visitor same-visitor visitor-laws items [] c.in_ok-items.ensures.distinct
     ∙ c.in_ok-items.ensures.value

@@ -1,6 +1,6 @@
 use Rattle.std.proofs.Common.{◌≡◌, ◌&&◌, Bool, true, false, [], None, map, refl, arith}
 use Rattle.std.specs.List.Sorted.{IsStrictlySortedBy}
-use Rattle.ga_summary.specs.Rows.{IsInOrder}
+use Rattle.ga_summary.specs.SummaryRows.{IsInOrder}
 use Rattle.ga_summary.specs.Sums.{IsSumOf}
 use Rattle.ga_codec.specs.Values.{entry_value}
 use Rattle.ga_store.specs.Database.{no_summary}

@@ -1,5 +1,5 @@
 use Rattle.std.proofs.Common.{◌≡◌, ap, length, arith}
-use Rattle.ga_summary.specs.Rows.{Row}
+use Rattle.ga_summary.specs.SummaryRows.{SummaryRow}
 use Rattle.ga_summary.specs.Steps.Entries.{entry_names}
 use Rattle.ga_summary.proofs.entry.Entry.reserve.Goals as goal
 
@@ -16,7 +16,7 @@ returns-clause-ok c =
 pub returns-clause-capacity : goal.returns-clause-capacity
 returns-clause-capacity c =
     let size = c.open_names.new.self.work.ok.0 in
-    let names : entry_names c.open_names.new.self ≡ entry_names c.args.self.now = ap (λ (r : Row). r.names) c.open_names.ensures.row in
+    let names : entry_names c.open_names.new.self ≡ entry_names c.args.self.now = ap (λ (r : SummaryRow). r.names) c.open_names.ensures.row in
     let same = ap length names in
     let moved = ap length c.open_names.ensures.names in
     let all = ap length c.names.ensures in

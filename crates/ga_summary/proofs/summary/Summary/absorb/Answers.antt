@@ -1,6 +1,7 @@
 use Rattle.std.proofs.Common.{◌≡◌, ap, ◌∙◌}
 use Rattle.ga_summary.specs.Steps.Entries.{rows_of}
-use Rattle.ga_summary.specs.Rows.{SummaryValue, totals_plus}
+use Rattle.ga_summary.specs.SummaryRows.{SummaryValue}
+use Rattle.ga_base.specs.Totals.{totals_plus}
 use Rattle.ga_summary.specs.Steps.Joined.{put_rows}
 use Rattle.ga_summary.proofs.Bounds.{rows_small, places_from_room}
 use Rattle.ga_summary.proofs.Merging.{IsInOrder-put_rows}

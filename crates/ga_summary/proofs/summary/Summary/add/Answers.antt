@@ -3,7 +3,8 @@ use Rattle.std.specs.Option.{option_copied}
 use Rattle.std.proofs.lemmas.Result.{err_from_is_err_and}
 use Rattle.ga_summary.specs.Outcomes.{hit_of, Hit}
 use Rattle.ga_summary.specs.OneLine.{line_value, record_totals}
-use Rattle.ga_summary.specs.Rows.{SummaryValue, totals_plus}
+use Rattle.ga_summary.specs.SummaryRows.{SummaryValue}
+use Rattle.ga_base.specs.Totals.{totals_plus}
 use Rattle.ga_summary.specs.Limits.{passes}
 use Rattle.ga_summary.specs.Sound.{IsSummary}
 use Rattle.ga_summary.proofs.Faults.{full_either}

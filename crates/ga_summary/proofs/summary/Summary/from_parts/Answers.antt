@@ -1,5 +1,5 @@
 use Rattle.std.proofs.lemmas.Result.{err_from_is_err_and}
-use Rattle.ga_summary.specs.Parts.{value_of}
+use Rattle.ga_summary.specs.SummaryParts.{value_of}
 use Rattle.ga_summary.proofs.PrefixRows.{no_break}
 use Rattle.ga_summary.proofs.summary.Summary.from_parts.Goals as goal
 

@@ -1,9 +1,9 @@
 use Rattle.std.proofs.Common.{◌≡◌, ap, subst}
 use Rattle.std.proofs.lemmas.Result.{err_from_is_err_and}
-use Rattle.ga_summary.specs.Rows.{SummaryValue}
+use Rattle.ga_summary.specs.SummaryRows.{SummaryValue}
 use Rattle.ga_summary.specs.Sound.{IsSummary}
 use Rattle.std.proofs.Common.{Some}
-use Rattle.ga_summary.specs.Rows.{totals_plus}
+use Rattle.ga_base.specs.Totals.{totals_plus}
 use Rattle.ga_summary.specs.Limits.{passes}
 use Rattle.ga_summary.proofs.Faults.{full_either}
 use Rattle.ga_summary.proofs.Appends.{IsSumOf-append}

@@ -1,15 +1,15 @@
 use Rattle.std.proofs.Common.{◌≡◌, ◌∙◌, ◌++◌, ℕ, List, ap, arith, drop, length, subst, sym, take}
 use Rattle.std.proofs.lemmas.List.{take-append-le, take_all}
 use Rattle.smallvec.specs.SmallVec.{SmallVec}
-use Rattle.ga_tallies.specs.Adding.{HoldTheSame}
-use Rattle.ga_tallies.specs.Steps.Absorbing.{AddsSuch, IsBrought, move_of}
+use Rattle.ga_tallies.specs.Steps.Adding.{HoldTheSame}
+use Rattle.ga_tallies.specs.Steps.Absorbing.{AddsSuch, IsBrought, remapped_seen}
 use Rattle.ga_tallies.specs.Tallies.{lists_in, pairs_in}
 use Rattle.ga_tallies.proofs.AllParts.{among-all}
 use Rattle.ga_tallies.proofs.pairs.PairList.with.Goals as goal
 
 pub returns : goal.returns
 returns g c =
-    let P = IsBrought (move_of c.args.moved.now) in
+    let P = IsBrought (remapped_seen c.args.remapped.now) in
     let made = c.make_rows.new.rows.items in
     let lent = c.deref_mut.result.now in
     let rows = c.add_in_parts.new.rows in

@@ -1,5 +1,5 @@
 use Rattle.std.proofs.Common.{ℕ, List, subst}
-use Rattle.ga_tallies.specs.Adding.{HoldTheSame}
+use Rattle.ga_tallies.specs.Steps.Adding.{HoldTheSame}
 use Rattle.ga_tallies.specs.Tallies.{lists_in, pairs_in}
 use Rattle.ga_tallies.proofs.pairs.PairList.with_rows.Goals as goal
 

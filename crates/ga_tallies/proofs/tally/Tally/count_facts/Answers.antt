@@ -3,8 +3,7 @@ use Rattle.std.proofs.lemmas.Result.{err_from_is_err_and}
 use Rattle.ga_panels.specs.Known.{record_of, setup_of}
 use Rattle.ga_panels.specs.Visitors.{visitor_in}
 use Rattle.ga_summary.specs.OneLine.{record_sums, record_totals}
-use Rattle.ga_summary.specs.Rows.{totals_plus}
-use Rattle.ga_summary.specs.Sound.{TotalsFit}
+use Rattle.ga_base.specs.Totals.{totals_plus, TotalsFit}
 use Rattle.ga_tallies.specs.Steps.Notes.{NotesKeys, NotesVisitor, keys_told, number_in}
 use Rattle.ga_tallies.proofs.FactsHit.{told-form}
 use Rattle.ga_tallies.proofs.OneLine.{hit-added, hit-too-much}

@@ -1,5 +1,5 @@
 use Rattle.std.proofs.Common.{◌≡◌, [], sym, subst}
-use Rattle.ga_outcomes.specs.Counting.{no_totals}
+use Rattle.ga_base.specs.Totals.{no_totals}
 use Rattle.ga_tallies.specs.Tallies.{TallySeen, IsTallyOf}
 use Rattle.ga_tallies.proofs.NoLines.{no_tally, no-lines}
 use Rattle.ga_tallies.proofs.tally.Tally.new.Goals as goal

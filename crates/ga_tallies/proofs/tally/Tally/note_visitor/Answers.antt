@@ -1,6 +1,6 @@
 use Rattle.std.proofs.Common.{Some, refl, sym, subst}
 use Rattle.std.specs.Option.{option_map}
-use Rattle.ga_numbers.specs.Refs.{visitor_of}
+use Rattle.ga_numbers.specs.VisitorRefs.{visitor_of}
 use Rattle.ga_tallies.specs.Steps.Notes.{NotesOne, NotesVisitor}
 use Rattle.ga_tallies.specs.Tallies.{TallySeen}
 use Rattle.ga_tallies.proofs.NotedSo.{visitor-noted}

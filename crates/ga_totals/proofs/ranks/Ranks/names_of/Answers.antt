@@ -5,7 +5,7 @@ use Rattle.std.proofs.lemmas.Result.{IfOk-weaker}
 use Rattle.ga_base.specs.declared.key.Visitor.{Visitor}
 use Rattle.ga_base.specs.declared.name.Name.{Name}
 use Rattle.ga_totals.specs.Steps.Ranks.{name_ranked}
-use Rattle.ga_totals.specs.Steps.Rows.{AreNamesOf}
+use Rattle.ga_totals.specs.Steps.KeyRows.{AreNamesOf}
 use Rattle.ga_totals.proofs.Naming.{names-are, ranks-within}
 use Rattle.ga_totals.proofs.ranks.Ranks.names_of.Goals as goal
 

@@ -1,13 +1,13 @@
 use Rattle.std.proofs.Common.{List, refl, sym, subst}
 use Rattle.std.proofs.lemmas.Result.{IfOk-weaker}
 use Rattle.ga_summary.specs.Outcomes.{Outcome}
-use Rattle.ga_summary.specs.Parts.{rows_in}
-use Rattle.ga_summary.specs.Rows.{SummaryValue}
+use Rattle.ga_summary.specs.SummaryParts.{rows_in}
+use Rattle.ga_summary.specs.SummaryRows.{SummaryValue}
 use Rattle.ga_summary.specs.Sound.{AllCountable, IsSummary}
 use Rattle.ga_summary.specs.Sums.{IsSumOf}
-use Rattle.ga_summary.specs.declared.parts.PartRow.{PartRow}
+use Rattle.ga_summary.specs.declared.summary_parts.PartRow.{PartRow}
 use Rattle.ga_tallies.specs.Tallies.{IsTallyOf, lists_in, pairs_in}
-use Rattle.ga_totals.specs.Steps.Rows.{AreRowsOf}
+use Rattle.ga_totals.specs.Steps.KeyRows.{AreRowsOf}
 use Rattle.ga_totals.proofs.OfOutcomes.{rows-within}
 use Rattle.ga_totals.proofs.Summing.{are-sum, are-summary}
 use Rattle.ga_totals.proofs.total.Total.summary.Goals as goal

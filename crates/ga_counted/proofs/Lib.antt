@@ -1,4 +1,0 @@
-pub mod NamesUnder
-pub mod Visits
-pub mod Strictly
-pub mod OneSummary

@@ -1,2 +1,0 @@
--- A summary from tables.
-pub mod Rows

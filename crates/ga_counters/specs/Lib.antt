@@ -1,0 +1,2 @@
+-- Counts of the forms of the outside.
+pub mod Counts

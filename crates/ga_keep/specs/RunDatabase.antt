@@ -1,0 +1,166 @@
+-- The database of a run: what the settings say of it, what the run starts from, and what it leaves.
+use Rattle.std.specs.Prelude.{◌≡◌, ◌⊎◌, ℕ, ◌+◌, ◌||◌, ◌&&◌, Bool, true, false, if◌then◌else◌, List, Some, IfSome, map}
+use Rattle.ga_base.specs.declared.entry.Entry.{Entry}
+use Rattle.ga_codec.specs.Values.{entry_value}
+use Rattle.ga_disk.specs.Disk.{DiskView}
+use Rattle.ga_disk.specs.Images.{Images, LeavesOnly}
+use Rattle.ga_disk.specs.Sides.{Sides}
+use Rattle.ga_logs.specs.declared.follow.Follow.{Follow}
+use Rattle.ga_logs.specs.declared.follow.Follow.TheVariants.{Whole, ToEnd, ToLastLine}
+use Rattle.ga_logs.specs.declared.start.Start.{Start}
+use Rattle.ga_counters.specs.Counts.{raised}
+use Rattle.ga_store.specs.Commit.{IsLater, MergesBy, adds_record, passes_generations}
+use Rattle.ga_store.specs.Commits.{AllHave, Frames, HasEither}
+use Rattle.ga_store.specs.Database.{DbOf, DbValue, empty_db}
+use Rattle.ga_store.specs.Database.Reading.{stored as reads_as}
+use Rattle.ga_store.specs.Holding.{Holds}
+use Rattle.ga_store.specs.declared.mode.Mode.{Mode}
+use Rattle.ga_store.specs.declared.mode.Mode.TheVariants.{Append, Overwrite}
+use Rattle.ga_summary.specs.SummaryRows.{SummaryValue}
+use Rattle.ga_words.specs.declared.settings.Settings.{Settings}
+
+-- ---- what the settings say of it
+
+abbrev pub uses_database : Settings → Bool
+uses_database s = s.persist || s.restore
+
+-- a run that persists leaves what follows the last line feed of a log to a later one
+abbrev pub follow_of : Settings → Follow
+follow_of s = if s.persist then ToLastLine else (if s.restore then ToEnd else Whole)
+
+-- what a run counts on from: what is stored, where it restores, and else nothing
+abbrev pub base_of : Settings → DbValue → DbValue
+base_of s stored = if s.restore then stored else empty_db
+
+-- how a run is kept: behind what is stored, or in its place
+abbrev pub mode_of : Settings → Mode
+mode_of s = if s.restore then Append else Overwrite
+
+-- the entries by which it follows its logs
+abbrev pub AreBase : Settings → DbValue → List Entry → Type 0
+AreBase s stored entries = map entry_value entries ≡ (base_of s stored).entries
+
+-- what a run shows: what it counted, behind what it restored
+abbrev pub IsWhole : Settings → DbValue → SummaryValue → SummaryValue → Type 0
+IsWhole s stored run whole = MergesBy (mode_of s) stored.summary run whole
+
+abbrev pub start_of : Settings → DbValue → Start
+start_of s stored = record { follow = follow_of s; totals = (base_of s stored).summary.totals }
+
+-- the run would need a generation above the limit
+abbrev pub lacks_generation : Settings → DbValue → Bool
+lacks_generation s stored = s.persist && passes_generations (mode_of s) stored
+
+-- ---- what the run starts from
+
+-- the disk wasn't touched
+pub record IsUntouched (disk disk' : DiskView) (images images' : Images) : Type 0 where
+  pub view : disk' ≡ disk
+  pub moment : images'.moment ≡ images.moment
+  pub now : (image : Sides) → images'.now image → images.now image
+  pub since : (t : ℕ) (image : Sides) → images'.since t image → images.since t image
+
+-- no side was changed, and no image added
+pub record OnlyLooks (disk disk' : DiskView) (images images' : Images) : Type 0 where
+  pub view : disk' ≡ record disk { is_open = disk'.is_open; path = disk'.path; counts = disk'.counts }
+  pub moments : LeavesOnly images images' images.now
+
+-- ---- what becomes of the disk before a run is kept
+
+-- the path opened last, where it is told, is that of the settings
+abbrev pub IsPathOf : Settings → DiskView → Type 0
+IsPathOf s disk = IfSome disk.path (λ path. path ≡ Some s.db_path)
+
+-- the disk was asked to open once, and no path but that of the settings
+pub record OpensOnce (s : Settings) (disk disk' : DiskView) : Type 0 where
+  pub count : disk'.counts.opened ≡ raised disk.counts.opened 1
+  pub path : IsPathOf s disk' ⊎ (disk'.path ≡ disk.path)
+
+-- the disk wasn't touched, or was opened and looked at without a fault
+pub record Looked (s : Settings) (disk disk' : DiskView) (images images' : Images) : Type 0 where
+  pub uses : uses_database s ≡ true
+  pub looks : OnlyLooks disk disk' images images'
+  pub opens : OpensOnce s disk disk'
+  pub faults : disk'.counts.faults ≡ disk.counts.faults
+
+abbrev pub LooksAtMost : Settings → DiskView → DiskView → Images → Images → Type 0
+LooksAtMost s disk disk' images images' = IsUntouched disk disk' images images' ⊎ Looked s disk disk' images images'
+
+-- the disk was opened once, and holds this database
+pub record Recovered (s : Settings) (disk disk' : DiskView) (images images' : Images) (stored : DbValue) : Type 0 where
+  pub looks : OnlyLooks disk disk' images images'
+  pub is_open : disk'.is_open ≡ true
+  pub holds : Holds disk' images' stored
+  pub opened : disk'.counts.opened ≡ raised disk.counts.opened 1
+  pub path : IsPathOf s disk'
+  pub faults : disk'.counts.faults ≡ disk.counts.faults
+
+-- the database that a run found; one that uses none leaves the disk alone
+abbrev pub Finds : Settings → DiskView → DiskView → Images → Images → DbValue → Type 0
+Finds s disk disk' images images' stored =
+    ((uses_database s ≡ true) × Recovered s disk disk' images images' stored)
+    ⊎ ((uses_database s ≡ false) × IsUntouched disk disk' images images' × (stored ≡ empty_db))
+
+-- what the sides have for a run
+abbrev pub SidesHave : Settings → Sides → DbValue → Type 0
+SidesHave s sides stored =
+    ((uses_database s ≡ true) × DbOf sides (reads_as stored)) ⊎ ((uses_database s ≡ false) × (stored ≡ empty_db))
+
+-- ---- what it leaves
+
+-- the database after a run that persists: the whole sum and all entries
+pub record IsAfter (whole : SummaryValue) (counted : List Entry) (new : DbValue) : Type 0 where
+  pub summary : new.summary ≡ whole
+  pub entries : new.entries ≡ map entry_value counted
+
+-- it is stored as one record more of the same generation, or as the next generation, without records
+pub record IsNextBy (adds : Bool) (stored new : DbValue) : Type 0 where
+  pub generation : new.generation ≡ (if adds then stored.generation else stored.generation + 1)
+  pub records : new.records ≡ (if adds then stored.records + 1 else 0)
+
+-- as a record where it restores and a side is there that has room for one
+abbrev pub IsNext : Mode → DbValue → DbValue → Type 0
+IsNext mode stored new = IsNextBy (adds_record mode stored) stored new
+
+-- the run was kept, on a disk that tells what it reads: every image has the new database, and none has had another than it or
+-- the old one
+pub record Keeps (stored new : DbValue) (disk disk' : DiskView) (images images' : Images) : Type 0 where
+  pub later : IsLater stored new
+  pub moments : LeavesOnly images images' (HasEither stored new)
+  pub all : AllHave images' new
+  pub reads : IfSome disk'.seen (λ seen. DbOf seen (reads_as new))
+
+-- the disk failed while the run was kept
+pub record MayKeep (stored new : DbValue) (disk disk' : DiskView) (images images' : Images) : Type 0 where
+  pub later : IsLater stored new
+  pub moments : LeavesOnly images images' (HasEither stored new)
+  pub either : (image : Sides) → images'.now image → HasEither stored new image
+  pub reads : IfSome disk'.seen (HasEither stored new)
+  -- a steady disk that reads as the old one has that alone
+  pub stays : disk.steady ≡ true → IfSome disk'.seen (λ seen. DbOf seen (reads_as stored) → AllHave images' stored)
+
+-- ---- the answers of `keep`
+
+-- the run was kept
+pub record IsKept (s : Settings) (stored : DbValue) (whole : SummaryValue) (entries : List Entry) (disk disk' : DiskView) (images images' : Images) : Type 0 where
+  pub new : DbValue
+  pub after : IsAfter whole entries new
+  pub next : IsNext (mode_of s) stored new
+  pub room : passes_generations (mode_of s) stored ≡ false
+  pub keeps : IfSome disk.seen (λ seen. Keeps stored new disk disk' images images')
+  pub faults : disk'.counts.faults ≡ disk.counts.faults
+  pub frames : Frames disk disk'
+
+-- a call of the disk failed while it was
+pub record FailsKeeping (stored : DbValue) (whole : SummaryValue) (entries : List Entry) (disk disk' : DiskView) (images images' : Images) : Type 0 where
+  pub new : DbValue
+  pub after : IsAfter whole entries new
+  pub may : IfSome disk.seen (λ seen. MayKeep stored new disk disk' images images')
+  pub fault : disk'.counts.faults ≡ raised disk.counts.faults 1
+  pub frames : Frames disk disk'
+
+-- a run was kept, where it persists; else the disk wasn't touched
+abbrev pub KeptIf : Settings → DbValue → SummaryValue → List Entry → DiskView → DiskView → Images → Images → Type 0
+KeptIf s stored whole entries disk disk' images images' =
+    ((s.persist ≡ true) × IsKept s stored whole entries disk disk' images images')
+    ⊎ ((s.persist ≡ false) × IsUntouched disk disk' images images')

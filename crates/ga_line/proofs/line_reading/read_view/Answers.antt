@@ -1,0 +1,46 @@
+use Rattle.std.proofs.Common.{sym, ◌∙◌, subst}
+use Rattle.std.proofs.lemmas.Bool.{false≢true}
+use Rattle.ga_line.specs.Fits.{Fits}
+use Rattle.ga_line.specs.Records.{misfit, refused}
+use Rattle.ga_line.specs.Views.{StandsInLine, record_of}
+use Rattle.ga_line.proofs.UniqueFits.{Fits-unique}
+use Rattle.ga_line.proofs.AcceptLemmas.{accepted-line}
+use Rattle.ga_line.proofs.ReadLemmas.{says-record}
+use Rattle.ga_line.proofs.line_reading.read_view.Goals as goal
+
+pub returns-then-not-fit-clause-says : goal.returns-then-not-fit-clause-says
+returns-then-not-fit-clause-says c = (
+  λ passed. false≢true (sym c.if-is_passed_over.false ∙ c.is_passed_over.ensures.1 passed),
+  misfit (λ parts fits. c.fit.ensures.misfit c.if-not-fit.true parts (subst (λ items. Fits items c.args.line.now parts) (sym c.items.ensures.value) fits)),
+)
+
+pub returns-in-None-clause-says : goal.returns-in-None-clause-says
+returns-in-None-clause-says c =
+    let fits = c.fit.ensures.fits c.if-not-fit.false in (
+      λ passed. false≢true (sym c.if-is_passed_over.false ∙ c.is_passed_over.ensures.1 passed),
+      refused fits.0 (subst (λ items. Fits items c.args.line.now fits.0) c.items.ensures.value fits.1) (c.in-None.ensures.refused fits.0 fits.2),
+    )
+
+pub returns-in_ok-view_of-in-Some-clause-says : goal.returns-in_ok-view_of-in-Some-clause-says
+returns-in_ok-view_of-in-Some-clause-says c =
+    let fits = c.fit.ensures.fits c.if-not-fit.false in
+    let setup = c.args.setup.now in
+    let line = c.args.line.now in
+    let all = subst (λ items. Fits items line fits.0) c.items.ensures.value fits.1 in
+    let has = c.in-Some.ensures.found fits.0 fits.2 in
+    says-record setup line fits.0 c.in-Some.numbers _
+    (λ passed. false≢true (sym c.if-is_passed_over.false ∙ c.is_passed_over.ensures.1 passed)) (accepted-line setup line fits.0 c.if-line-gt-MAX_LINE.false all has.accepted) all has
+    c.in_ok-view_of-in-Some.ensures.numbers (c.in_ok-view_of-in-Some.ensures.texts fits.0 fits.2)
+
+pub returns-in_ok-view_of-in-Some-clause-bounds : goal.returns-in_ok-view_of-in-Some-clause-bounds
+returns-in_ok-view_of-in-Some-clause-bounds c =
+    c.records_keep_bounds.ensures c.args.line.now (record_of c.in_ok-view_of-in-Some.field-0) (returns-in_ok-view_of-in-Some-clause-says c)
+
+pub returns-in_err-view_of-in-Some-clause-lends : goal.returns-in_err-view_of-in-Some-clause-lends
+returns-in_err-view_of-in-Some-clause-lends c = λ parts given stands.
+    let fits = c.fit.ensures.fits c.if-not-fit.false in
+    let setup = c.args.setup.now in
+    let line = c.args.line.now in
+    let all = subst (λ items. Fits items line fits.0) c.items.ensures.value fits.1 in
+    let same = Fits-unique setup.format line parts fits.0 given all in
+    absurd (false≢true (c.in_err-view_of-in-Some.ensures.lends fits.0 fits.2 (subst (StandsInLine setup) same stands)))

@@ -1,5 +1,0 @@
-use Rattle.ga_pool.proofs.Together.{from-alone}
-use Rattle.ga_pool.proofs.limits.counters_within.Goals as goal
-
-pub loop-tally-init : goal.loop-tally-init
-loop-tally-init c = record { rest = from-alone c.args.start.now c.args.tallies.now; fit = c.requires }

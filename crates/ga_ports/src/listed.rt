@@ -1,9 +1,0 @@
-ghost use Rattle.std.specs.Prelude.{◌≡◌};
-ghost use Rattle.ga_ports.specs.Counts as counts;
-
-/// Whether the call after so many calls is listed to fail.
-pub fn is_due(listed: &[u64], calls: u64) -> bool
-    ensures { result ≡ counts.is_due listed.now calls }
-{
-    listed.contains(&calls.saturating_add(1))
-}

@@ -1,7 +1,0 @@
-use Rattle.ga_report.proofs.Arrangement.{order_total}
-use Rattle.ga_report.proofs.Firsts.{are-first}
-use Rattle.ga_report.proofs.arranging.top.Goals as goal
-
-pub returns : goal.returns
-returns c =
-    are-first (order_total c.args.panel) c.args.most c.args.items.items _ _ c.in_ok-rows.ensures c.sorted.ensures.same c.sorted.ensures.sorted

@@ -1,0 +1,20 @@
+//! Tests of whole runs over forms in memory, by the call that the program makes.
+//!
+//! Tables of runs and of histories of runs stand in files of their own, which `tools/make_cases.py` writes: their answers were
+//! worked out by a program in another language. Each run is tried by several workers.
+#![tactic(auto)]
+
+#[cfg(test)]
+mod faults;
+#[cfg(test)]
+mod histories;
+#[cfg(test)]
+mod reports;
+#[cfg(test)]
+mod runs;
+#[cfg(test)]
+mod targets;
+#[cfg(test)]
+mod workers;
+#[cfg(test)]
+mod world;

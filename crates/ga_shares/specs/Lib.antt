@@ -1,2 +1,0 @@
--- What the tables that threads share have in common.
-pub mod Views

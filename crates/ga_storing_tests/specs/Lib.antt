@@ -1,0 +1,2 @@
+-- The keys of the lines that tests count.
+pub mod TestKeys

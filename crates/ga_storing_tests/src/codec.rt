@@ -1,0 +1,133 @@
+use ga_cases::hold;
+use ga_codec::{CodecFault, read_delta, read_snapshot, write_delta, write_snapshot};
+use std::alloc::Global;
+use std::test::Fail;
+
+/// The snapshot of an empty database, generation 1.
+const EMPTY: &[u8] = b"\x01\
+    \x00\x00\x00\x00\x00\x00\x00\x01\
+    \x00\x00\x00\x00\x00\x00\x00\x00\x00\x00\x00\x00\x00\x00\x00\x00\x00\x00\x00\x00\x00\x00\x00\x00\
+    \x00\x00\x00\x00\x00\x00\x00\x00\x00\x00\x00\x00\x00\x00\x00\x00\x00\x00\x00\x00\x00\x00\x00\x00\
+    \x00\x00\x00\x00\x00\x00\x00\x00\x00\x00\x00\x00\x00\x00\x00\x00";
+
+/// The run record of a run that counted nothing.
+const NOTHING: &[u8] = b"\x01\
+    \x00\x00\x00\x00\x00\x00\x00\x00\x00\x00\x00\x00\x00\x00\x00\x00\x00\x00\x00\x00\x00\x00\x00\x00\
+    \x00\x00\x00\x00\x00\x00\x00\x00\x00\x00\x00\x00\x00\x00\x00\x00\x00\x00\x00\x00\x00\x00\x00\x00\
+    \x00\x00\x00\x00\x00\x00\x00\x00\x00\x00\x00\x00\x00\x00\x00\x00";
+
+/// The snapshot, generation 2, of 15 January 2024 with two visitors, their two hosts, `g` and U+00E9, and one entry.
+const THREE_ROWS: &[u8] = b"\
+    \x01\
+    \x00\x00\x00\x00\x00\x00\x00\x02\
+    \x00\x00\x00\x00\x00\x00\x00\x04\x00\x00\x00\x00\x00\x00\x00\x01\x00\x00\x00\x00\x00\x00\x00\x00\x00\x00\
+    \x00\x00\x00\x00\x00\x03\x00\x00\x00\x00\x00\x00\x00\x3c\x00\x00\x00\x00\x00\x00\x00\x07\
+    \x00\x00\x00\x00\x00\x00\x00\x03\
+    \x01\x01\x34\xd6\xf3\
+    \x00\x00\x00\x00\x00\x00\x00\x00\x00\x00\x00\x00\x00\x00\x00\x08\x32\x30\x32\x34\x30\x31\x31\x35\x00\x00\
+    \x00\x00\x00\x00\x00\x00\x00\x00\x00\x00\x00\x00\x00\x00\
+    \x00\x00\x00\x00\x00\x00\x00\x03\x00\x00\x00\x00\x00\x00\x00\x3c\x00\x00\x00\x00\x00\x00\x00\x07\x00\x00\
+    \x00\x00\x00\x00\x00\x05\
+    \x00\x00\x00\x00\x00\x00\x00\x02\x00\x00\x00\x00\x00\x00\x00\x01\x68\x00\x00\x00\x00\x00\x00\x00\x01\x61\
+    \x00\x00\x00\x00\x00\x00\x00\x01\x68\x00\x00\x00\x00\x00\x00\x00\x01\x62\
+    \x05\x01\x34\xd6\xf3\
+    \x00\x00\x00\x00\x00\x00\x00\x00\x00\x00\x00\x00\x00\x00\x00\x01\x67\x00\x00\x00\x00\x00\x00\x00\x00\x00\
+    \x00\x00\x00\x00\x00\x00\x00\
+    \x00\x00\x00\x00\x00\x00\x00\x01\x00\x00\x00\x00\x00\x00\x00\x14\x00\x00\x00\x00\x00\x00\x00\x02\x00\x00\
+    \x00\x00\x00\x00\x00\x02\
+    \x00\x00\x00\x00\x00\x00\x00\x01\x00\x00\x00\x00\x00\x00\x00\x01\x68\x00\x00\x00\x00\x00\x00\x00\x01\x61\
+    \x05\x01\x34\xd6\xf3\
+    \x00\x00\x00\x00\x00\x00\x00\x00\x00\x00\x00\x00\x00\x00\x00\x02\xc3\xa9\x00\x00\x00\x00\x00\x00\x00\x00\
+    \x00\x00\x00\x00\x00\x00\x00\x00\
+    \x00\x00\x00\x00\x00\x00\x00\x02\x00\x00\x00\x00\x00\x00\x00\x28\x00\x00\x00\x00\x00\x00\x00\x05\x00\x00\
+    \x00\x00\x00\x00\x00\x05\
+    \x00\x00\x00\x00\x00\x00\x00\x01\x00\x00\x00\x00\x00\x00\x00\x01\x68\x00\x00\x00\x00\x00\x00\x00\x01\x62\
+    \x00\x00\x00\x00\x00\x00\x00\x01\
+    \x00\xc8\x00\x01\x02\x03\x04\x05\x06\x07\x08\x09\x0a\x0b\x0c\x0d\x0e\x0f\x10\x11\x12\x13\x14\x15\x16\x17\
+    \x18\x19\x1a\x1b\x1c\x1d\x1e\x1f\x00\x00\x00\x00\x00\x00\x00\xc8\
+";
+
+/// Whether what these bytes spell is a snapshot of this generation with so many keys, and is spelled so.
+fn spells(alloc: Global, bytes: &[u8], generation: u64, keys: u64) -> Result<bool, CodecFault> {
+    let snapshot = read_snapshot(alloc, bytes)?;
+    if snapshot.generation != generation || snapshot.summary.len() != keys {
+        return Ok(false);
+    }
+    if generation < 1 || generation > 2 {
+        return Ok(false);
+    }
+    Ok(write_snapshot(alloc, &snapshot)?.bytes() == bytes)
+}
+
+/// Whether what these bytes spell is a run record, and is spelled so.
+fn spells_record(alloc: Global, bytes: &[u8]) -> Result<bool, CodecFault> {
+    let delta = read_delta(alloc, bytes)?;
+    Ok(write_delta(alloc, &delta)?.bytes() == bytes)
+}
+
+#[test]
+fn values_have_these_bytes(rt: HostRuntime) -> Result<(), Fail> {
+    let alloc = rt.alloc();
+    assert_eq!(rt; spells(alloc, EMPTY, 1, 0), Ok(true));
+    assert_eq!(rt; spells(alloc, THREE_ROWS, 2, 3), Ok(true));
+    assert_eq!(rt; spells_record(alloc, NOTHING), Ok(true));
+    let short = read_snapshot(alloc, &EMPTY[..72]).err();
+    assert_eq!(rt; short, Some(CodecFault::NotInGrammar { at: 72 }));
+    Ok(())
+}
+
+/// Changes of the three rows, the byte that is put at a place or the number of bytes that are left, and what is said of the bytes then.
+const FAULTS: &str = "\
+## bytes that end early
+0 => byte 0: not in the grammar
+428 => byte 428: not in the grammar
+## another version
+0=2 => byte 0: not in the grammar
+## a generation above the limit, and of 0
+1=64 => byte 1: not in the grammar
+8=0 => byte 8: not in the grammar
+## a panel above 17, and of 0
+65=18 => byte 65: not in the grammar
+186=0 => byte 186: not in the grammar
+## bytes of a text that aren't UTF-8
+303=255 => byte 303: not in the grammar
+303=226 => byte 303: not in the grammar
+304=40 => byte 304: not in the grammar
+## a text that ends within a character
+302=1 => byte 303: not in the grammar
+## lengths of 2^63 and more
+57=128 => byte 379: not in the grammar
+295=128 => byte 389: not in the grammar
+379=128 => byte 429: not in the grammar
+## totals that don't add up, rows that don't rise, and an entry whose offset isn't its lead
+16=5 => byte 429: not in the grammar
+185=97 => byte 429: not in the grammar
+388=199 => byte 429: not in the grammar
+";
+
+/// The three rows, changed.
+fn changed(alloc: Global, change: &str) -> Result<Vec<u8>, Fail> {
+    let mut bytes = Vec::from_slice(alloc, THREE_ROWS)?;
+    match change.split_once('=') {
+        None => bytes.truncate(change.parse::<usize>()?),
+        Some((place, byte)) => {
+            if let Some(there) = bytes.get_mut(place.parse::<usize>()?) {
+                *there = byte.parse::<u8>()?;
+            }
+        }
+    }
+    Ok(bytes)
+}
+
+/// What is said of the three rows, changed.
+fn said(alloc: Global, change: &str) -> Result<String, Fail> {
+    match read_snapshot(alloc, &changed(alloc, change)?) {
+        Ok(_) => Ok(String::from_str(alloc, "a snapshot")?),
+        Err(fault) => Ok(format!(in alloc; "{fault}")?),
+    }
+}
+
+#[test]
+fn other_bytes_are_refused_at_their_place(rt: HostRuntime) -> Result<(), Fail> {
+    hold(rt.alloc(), FAULTS, said)
+}

@@ -1,4 +1,0 @@
-pub mod Batches
-pub mod Counts
-pub mod Held
-pub mod Absorbed

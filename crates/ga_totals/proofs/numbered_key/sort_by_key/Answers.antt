@@ -1,0 +1,10 @@
+use Rattle.std.proofs.Common.{ap, rules}
+use Rattle.std.specs.Ordering.{is_lt}
+use Rattle.std.proofs.lemmas.List.Sorted.{ranks_by, answers_always}
+use Rattle.ga_base.proofs.OrderLemmas.{key_cmp_total}
+use Rattle.ga_totals.specs.Steps.KeyRows.{number_cmp}
+use Rattle.ga_totals.proofs.numbered_key.sort_by_key.Goals as goal
+
+pub returns-clause-sorted : goal.returns-clause-sorted
+returns-clause-sorted c =
+    c.sort_unstable_by.ensures.sorted (λ x y. is_lt (number_cmp x y)) (ranks_by key_cmp_total (λ x. x.key)) (answers_always _ _ _ (λ f a r f' k. ap is_lt (search rules)))

@@ -1,0 +1,17 @@
+use Rattle.std.proofs.Common.{◌≡◌, ◌+◌, ◌∷◌, drop, sym, ap, ◌∙◌, subst}
+use Rattle.std.proofs.lemmas.List.{drop_more}
+use Rattle.ga_base.specs.declared.counts.Totals.{Totals}
+use Rattle.ga_workers.specs.Together.{totals_in}
+use Rattle.ga_workers.proofs.Together.{fit-before, from-alone}
+use Rattle.ga_base.specs.Totals.{totals_plus, TotalsFit}
+use Rattle.ga_tallies.specs.Tallies.{TallySeen, totals_from}
+use Rattle.ga_workers.proofs.counter_limits.counters.Goals as goal
+
+pub loop-tally-init : goal.loop-tally-init
+loop-tally-init c = record { rest = from-alone c.args.start.now c.args.tallies.now; lines = c.requires.lines }
+
+pub plus-totals-requires-clause-fit : goal.plus-totals-requires-clause-fit
+plus-totals-requires-clause-fit c = (
+  fit-before c.loop-tally.totals (drop c.loop-tally.tally-index c.args.tallies.now) (subst TotalsFit (sym c.loop-tally.invariant.rest) c.requires.fit),
+  c.totals.ensures.fit,
+)

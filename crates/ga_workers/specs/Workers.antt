@@ -1,0 +1,11 @@
+-- Which workers a run can have.
+use Rattle.std.specs.Prelude.{◌≤◌}
+use Rattle.ga_base.specs.declared.limits.TheConstants.{MAX_CHUNK, MAX_JOBS}
+use Rattle.ga_workers.specs.declared.workers.Workers.{Workers}
+
+-- so many workers, and so many lines a piece
+pub record AreWorkers (workers : Workers) : Type 0 where
+  pub some : 1 ≤ workers.jobs
+  pub jobs : workers.jobs ≤ MAX_JOBS
+  pub line : 1 ≤ workers.chunk
+  pub chunk : workers.chunk ≤ MAX_CHUNK
