@@ -9,6 +9,8 @@ mod counts;
 #[cfg(test)]
 mod draws;
 #[cfg(test)]
+mod hold_gate;
+#[cfg(test)]
 mod maps;
 #[cfg(test)]
 mod numbers;

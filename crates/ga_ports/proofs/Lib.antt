@@ -2,4 +2,5 @@ pub mod Places
 pub mod FileTraces
 pub mod OutTraces
 pub mod Results
+pub mod CutFiles
 pub mod Sure

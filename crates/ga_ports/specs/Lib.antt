@@ -7,4 +7,5 @@ pub mod MemFiles
 pub mod MemOuts
 pub mod SureFiles
 pub mod SureOuts
+pub mod ShortFiles
 pub mod Sure

@@ -27,7 +27,11 @@ impl Gate for NoGate {
     fn pass(&self, _worker: u32) {}
 }
 
-/// A gate that holds worker 0 until worker 1 has passed, or for 10^8 turns.
+/// A gate at which worker 0 waits for worker 1.
+///
+/// Worker 0 looks whether worker 1 has passed, at most 10^8 times, and goes on as soon as it sees that it has, or after the
+/// last look. `met` says which: it is true only where worker 0 saw worker 1 pass. No other worker waits, and none but worker 1
+/// is waited for. Another thread may change both fields at any time, so no clause can say what they hold: tests do.
 #[derive(Drop)]
 pub struct HoldGate {
     /// Worker 1 has passed.
@@ -45,7 +49,8 @@ impl HoldGate {
         }
     }
 
-    /// Whether worker 1 passed while worker 0 was held, or before.
+    /// Whether worker 0 went on because worker 1 had passed. It stays false where worker 0 went on
+    /// after its last look.
     pub fn met(&self) -> bool {
         self.met.load(Ordering::SeqCst)
     }

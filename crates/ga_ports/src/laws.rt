@@ -6,6 +6,7 @@ ghost use Rattle.ga_counters.specs.Counts.{raised, NoneDue};
 ghost use Rattle.ga_ports.specs.Files.{FilesView};
 ghost use Rattle.ga_ports.specs.Outs.{OutsView};
 ghost use Rattle.ga_ports.specs.Sure.{AreSureFiles, NoFileFaults, AreSureOuts, NoOutFaults};
+ghost use Rattle.ga_ports.specs.ShortFiles.{BehindCutFallsShort, ShortFilesState, short_files_view};
 ghost use Rattle.ga_ports.specs.SureFiles.{SureFilesState, sure_files_view};
 ghost use Rattle.ga_ports.specs.SureOuts.{SureOutsState, sure_outs_view};
 ghost use Rattle.ga_ports.specs.Trace.{FilesTrace, FilesStay, FilesFailAsListed, OutsTrace, OutsStay, OutsFailAsListed};
@@ -45,6 +46,13 @@ pub fn none_due()
 pub fn sure_files_have_no_faults()
     ensures view { (files : SureFilesState) → AreSureFiles (sure_files_view files) }
     ensures calls { (old new : FilesView) → AreSureFiles old → FilesTrace old new → NoFileFaults old new }
+{}
+
+/// Over files that are shorter than the size that they answer, whatever was called before, each read from a place behind
+/// what they have, and below the size last answered, is a short one. No call of theirs is a fault.
+pub fn short_files_fall_short()
+    ensures view { (files : ShortFilesState) → AreSureFiles (short_files_view files) }
+    ensures short { BehindCutFallsShort }
 {}
 
 /// Where no call is listed and no target has a room, a trace of calls of `Outs` has no fault unless one found no

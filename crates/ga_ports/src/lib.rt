@@ -3,7 +3,8 @@
 //!
 //! Contracts see a form as one plain record (`specs/Files.antt`, `specs/Outs.antt`), and each call says the whole
 //! new record. Start with `Files` and `Outs`; `MemFiles` and `MemOuts` tell their contents and which
-//! calls fail; over `SureFiles` and `SureOuts` no call fails.
+//! calls fail; over `SureFiles` and `SureOuts` no call fails. `ShortFiles` are
+//! shorter than the size that they answer.
 #![tactic(auto)]
 
 mod contents;
@@ -14,6 +15,7 @@ pub mod laws;
 mod mem_files;
 mod mem_outs;
 mod outs;
+mod short_files;
 mod sink;
 mod sure_files;
 mod sure_outs;
@@ -27,6 +29,7 @@ pub use gate::{Gate, HoldGate, NoGate};
 pub use mem_files::MemFiles;
 pub use mem_outs::MemOuts;
 pub use outs::{Outs, To};
+pub use short_files::ShortFiles;
 pub use sure_files::SureFiles;
 pub use sure_outs::SureOuts;
 pub use target_counts::TargetCounts;
