@@ -3,3 +3,4 @@ pub mod Lines
 pub mod Batches
 pub mod Steps
 pub mod Laws
+pub mod Fed

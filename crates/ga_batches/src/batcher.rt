@@ -246,6 +246,7 @@ impl Batcher {
     pub fn take_into(&mut self, spare: &mut Vec<u8>) -> Result<(), NoMemory>
         ensures batch { OnOk result (spare.new.items ≡ self.old.batch) }
         ensures small { OnOk result (length spare.new.items ≤ MAX_BATCH) }
+        ensures within { OnOk result (length spare.new.items ≤ self.old.limit) }
         ensures value { OnOk result (self.new ≡ record self.old { batch = [] }) }
         ensures batcher { IsBatcher self.new }
         ensures stream { OnOk result ((stream taken : List ℕ) → Holds stream taken self.old → Holds stream (taken ++ spare.new.items) self.new) }

@@ -1,6 +1,8 @@
 //! What holds of lines as they are held. Each function's contract is the law, and its body is empty.
 
-ghost use Rattle.std.specs.Prelude.{◌≡◌, ◌^◌};
+ghost use Rattle.std.specs.Prelude.{◌≡◌, ◌^◌, ℕ, List};
+ghost use Rattle.ga_batches.specs.Batches.{BatcherSeen};
+ghost use Rattle.ga_batches.specs.Fed.{AreItsBatches, IsFed};
 ghost use Rattle.ga_batches.specs.Laws.{CutsApart, CutsEachPiece, CutsOnce};
 ghost use Rattle.ga_base.specs.declared.limits.TheConstants.{LINE_FEED, MAX_BATCH};
 ghost use Rattle.ga_batches.specs.declared.batcher.TheConstants.{LINE_HELD};
@@ -10,6 +12,11 @@ pub fn lines_are_cut_one_by_one()
     ensures pieces { CutsEachPiece }
     ensures once { CutsOnce }
     ensures apart { CutsApart }
+{}
+
+/// However bytes are fed, and whenever a batch is taken, the batches and the rest are the stream.
+pub fn batches_are_its_stream()
+    ensures { (stream : List ℕ) (batches : List (List ℕ)) (v : BatcherSeen) → IsFed stream batches v → AreItsBatches stream batches v }
 {}
 
 /// The byte that ends a line, how much of a line is held, and how many bytes a batch has at most.
