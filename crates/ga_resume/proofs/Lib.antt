@@ -1,3 +1,4 @@
 mod Choices
 pub mod PartReads
 mod Placements
+pub mod AChoice
