@@ -11,3 +11,4 @@ pub mod Entries
 pub mod Written
 pub mod Faults
 pub mod OneValue
+pub mod SomeValue

@@ -29,3 +29,13 @@ pub fn one_delta_reading()
     ensures place { (bytes : List ℕ) (m n : ℕ) → IsNoDelta bytes m → IsNoDelta bytes n → m ≡ n }
     ensures apart { (bytes : List ℕ) (d : DeltaValue) (at : ℕ) → SpellDelta bytes d → IsNoDelta bytes at → ⊥ }
 {}
+
+/// There are no bytes that are neither: which spell no snapshot, and have no place where they stop beginning one.
+pub fn some_reading()
+    ensures { (bytes : List ℕ) → ((s : SnapshotValue) → SpellSnapshot bytes s → ⊥) → ((at : ℕ) → IsNoSnapshot bytes at → ⊥) → ⊥ }
+{}
+
+/// The same of run records.
+pub fn some_delta_reading()
+    ensures { (bytes : List ℕ) → ((d : DeltaValue) → SpellDelta bytes d → ⊥) → ((at : ℕ) → IsNoDelta bytes at → ⊥) → ⊥ }
+{}
