@@ -102,6 +102,7 @@ OVER_WORDS = [
     of("one line in the combined format", [COMBINED, "-o", "csv", "a.log"], ONE_LINE),
     of("the same as JSON", [COMBINED, "a.log"], ONE_LINE),
     of("two days, and two logs", [*CSV, "b.log"], TWO_DAYS, TWO_DAYS + line(host="2001:db8::1", date="03/Jan/2024") + "broken\n"),
+    of("two days of two lines each", CSV, A * 2 + line(date="02/Jan/2024") * 2),
     of("a log that is named twice, once after two dashes", ["a.log", "-o", "r.json", "--log-format", "COMMON", "--", "a.log"], A),
     of("a line that isn't ended", CSV, A + "192.0.2.1 - - [01/Jan/2024:00:00:0"),
     of("line ends of two bytes, a comment and an empty line", CSV, line(end="\r\n") + "# note\n\n"),
@@ -109,6 +110,7 @@ OVER_WORDS = [
     of("lines without referrer and agent in the combined format", [COMBINED, "-o", "csv", "a.log"], A),
     of("an agent with quotes", [COMBINED, "-o", "csv", "a.log"], line(size="5", more=agent('Foo \\"bar\\" Baz'))),
     of("a request that is a dash", [COMMON, "a.log"], '192.0.2.1 - - [01/Jan/2024:00:00:00 +0000] "-" 408 -\n'),
+    of("a comma in a URL", CSV, line("/a,b", size="1")),
     of("a name with all that CSV quotes", CSV, line(ODD)),
     of("a name with all that JSON escapes", [COMMON, "-o", "r.json", "a.log"], line(ODD)),
     of("seconds that an answer took", [TIMED + "%T", "-o", "csv", "a.log"],
@@ -155,6 +157,7 @@ OVER_WORDS = [
     of("a log that isn't there, after one that is", ["-o", "nothing.csv", COMMON, "a.log", "nothing.log"], A),
     of("a browsers file that isn't there", [COMMON, "-o", "csv", "--browsers-file=nothing.txt", "a.log"], A),
     of("a bad format before a file that isn't there", [COMMON, "--date-format=%d", "--browsers-file=nothing.txt", "a.log"], A),
+    of("a time format without minutes", [COMMON, "--time-format=%H", "a.log"], A),
     of("a field directly followed by a field", ['--log-format=%h%d "%r"', "nothing.log"], A),
     of("a log format without a date", ['--log-format=%h "%r"', "a.log"], A),
     of("a counter at four times 10^18", CSV, line(size=BIG) * 4),
@@ -162,6 +165,7 @@ OVER_WORDS = [
     of("a counter that is full before the next log is opened", [COMMON, "a.log", "nothing.log"], line(size=BIG) * 5),
     of("a counter that is full in the second log", [COMMON, "a.log", "b.log"], line(size=BIG) * 3, line(size=BIG) * 2),
     of("a counter that is full before the last line", [COMMON, "a.log"], line(size=BIG) * 6),
+    of("microseconds past the limit", [TIMED + "%D", "a.log"], line(size="-", more=" " + BIG) * 5),
 ] + FAULTS
 
 
@@ -249,6 +253,8 @@ HISTORIES = [
     ("a run that stops keeps nothing",
      [("a.log", A), [*TRACKED, "a.log", "gone.log"], [*TRACKED, "a.log"], ("a.log", line(size=BIG) * 5), [*TRACKED, "a.log"], [COMMON, "-o", "csv", "--restore"],
      [COMMON, "--date-format=%d", "--restore"], [*TRACKED, "--browsers-file=gone.txt"]]),
+    ("tracked runs without a log",
+     [TRACKED, ("a.log", A), [*TRACKED, "a.log"], TRACKED, [COMMON, "-o", "csv", "--restore"]]),
     ("nothing stored, and logs of which no line was ended",
      [[COMMON, "-o", "json", "--restore", "--ignore-panel=HOSTS"], ("a.log", "broken"), [*TRACKED, "a.log"], ("a.log", "\n"), [*TRACKED, "a.log"]]),
 ]

@@ -30,6 +30,17 @@ a bad format before a file that isn't there
 goaccess: date format, byte 2: bad directive
 
 =====
+a time format without minutes
+-----
+--log-format=COMMON|--time-format=%H|a.log
+-----
+192.0.2.1 - - [01/Jan/2024:00:00:00 +0000] \"GET /a HTTP/1.1\" 200 10
+
+-----
+1
+goaccess: time format, byte 2: bad directive
+
+=====
 a field directly followed by a field
 -----
 --log-format=%h%d \"%r\"|nothing.log
@@ -212,4 +223,19 @@ a counter that is full before the last line
 -----
 5
 goaccess: counter full: bytes 5000000000000000000
+
+=====
+microseconds past the limit
+-----
+--log-format=%h %^[%d:%t %^] \"%r\" %s %b %D|a.log
+-----
+192.0.2.1 - - [01/Jan/2024:00:00:00 +0000] \"GET /a HTTP/1.1\" 200 - 1000000000000000000
+192.0.2.1 - - [01/Jan/2024:00:00:00 +0000] \"GET /a HTTP/1.1\" 200 - 1000000000000000000
+192.0.2.1 - - [01/Jan/2024:00:00:00 +0000] \"GET /a HTTP/1.1\" 200 - 1000000000000000000
+192.0.2.1 - - [01/Jan/2024:00:00:00 +0000] \"GET /a HTTP/1.1\" 200 - 1000000000000000000
+192.0.2.1 - - [01/Jan/2024:00:00:00 +0000] \"GET /a HTTP/1.1\" 200 - 1000000000000000000
+
+-----
+5
+goaccess: counter full: micros 5000000000000000000
 ";

@@ -444,6 +444,79 @@ goaccess: date format, byte 2: bad directive
 goaccess: gone.txt: read failed
 
 =====
+tracked runs without a log
+~~~~~
+--log-format=COMMON|-o|csv|--restore|--persist
+-----
+0
+id,parent_id,panel,hits,hits%,visitors,visitors%,bytes,bytes%,avgts,cumts,maxts,method,protocol,data
+0,,general,0,,,,,,,,,,,total_requests
+1,,general,0,,,,,,,,,,,valid_requests
+2,,general,0,,,,,,,,,,,failed_requests
+3,,general,0,,,,,,,,,,,excluded_hits
+4,,general,0,,,,,,,,,,,unique_visitors
+5,,general,0,,,,,,,,,,,bandwidth
+
+~~~~~
++a.log
+-----
+192.0.2.1 - - [01/Jan/2024:00:00:00 +0000] \"GET /a HTTP/1.1\" 200 10
+
+~~~~~
+--log-format=COMMON|-o|csv|--restore|--persist|a.log
+-----
+0
+id,parent_id,panel,hits,hits%,visitors,visitors%,bytes,bytes%,avgts,cumts,maxts,method,protocol,data
+0,,general,1,,,,,,,,,,,total_requests
+1,,general,1,,,,,,,,,,,valid_requests
+2,,general,0,,,,,,,,,,,failed_requests
+3,,general,0,,,,,,,,,,,excluded_hits
+4,,general,1,,,,,,,,,,,unique_visitors
+5,,general,10,,,,,,,,,,,bandwidth
+0,,visitors,1,100.00,1,100.00,10,100.00,0,0,0,,,20240101
+0,,requests,1,100.00,1,100.00,10,100.00,0,0,0,GET,HTTP/1.1,/a
+0,,hosts,1,100.00,1,100.00,10,100.00,0,0,0,,,192.0.2.1
+0,,visit_times,1,100.00,1,100.00,10,100.00,0,0,0,,,00
+0,,status_codes,1,100.00,1,100.00,10,100.00,0,0,0,,,2xx Success
+1,0,status_codes,1,100.00,1,100.00,10,100.00,0,0,0,,,200
+
+~~~~~
+--log-format=COMMON|-o|csv|--restore|--persist
+-----
+0
+id,parent_id,panel,hits,hits%,visitors,visitors%,bytes,bytes%,avgts,cumts,maxts,method,protocol,data
+0,,general,1,,,,,,,,,,,total_requests
+1,,general,1,,,,,,,,,,,valid_requests
+2,,general,0,,,,,,,,,,,failed_requests
+3,,general,0,,,,,,,,,,,excluded_hits
+4,,general,1,,,,,,,,,,,unique_visitors
+5,,general,10,,,,,,,,,,,bandwidth
+0,,visitors,1,100.00,1,100.00,10,100.00,0,0,0,,,20240101
+0,,requests,1,100.00,1,100.00,10,100.00,0,0,0,GET,HTTP/1.1,/a
+0,,hosts,1,100.00,1,100.00,10,100.00,0,0,0,,,192.0.2.1
+0,,visit_times,1,100.00,1,100.00,10,100.00,0,0,0,,,00
+0,,status_codes,1,100.00,1,100.00,10,100.00,0,0,0,,,2xx Success
+1,0,status_codes,1,100.00,1,100.00,10,100.00,0,0,0,,,200
+
+~~~~~
+--log-format=COMMON|-o|csv|--restore
+-----
+0
+id,parent_id,panel,hits,hits%,visitors,visitors%,bytes,bytes%,avgts,cumts,maxts,method,protocol,data
+0,,general,1,,,,,,,,,,,total_requests
+1,,general,1,,,,,,,,,,,valid_requests
+2,,general,0,,,,,,,,,,,failed_requests
+3,,general,0,,,,,,,,,,,excluded_hits
+4,,general,1,,,,,,,,,,,unique_visitors
+5,,general,10,,,,,,,,,,,bandwidth
+0,,visitors,1,100.00,1,100.00,10,100.00,0,0,0,,,20240101
+0,,requests,1,100.00,1,100.00,10,100.00,0,0,0,GET,HTTP/1.1,/a
+0,,hosts,1,100.00,1,100.00,10,100.00,0,0,0,,,192.0.2.1
+0,,visit_times,1,100.00,1,100.00,10,100.00,0,0,0,,,00
+0,,status_codes,1,100.00,1,100.00,10,100.00,0,0,0,,,2xx Success
+1,0,status_codes,1,100.00,1,100.00,10,100.00,0,0,0,,,200
+
+=====
 nothing stored, and logs of which no line was ended
 ~~~~~
 --log-format=COMMON|-o|json|--restore|--ignore-panel=HOSTS

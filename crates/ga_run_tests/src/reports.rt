@@ -103,6 +103,33 @@ id,parent_id,panel,hits,hits%,visitors,visitors%,bytes,bytes%,avgts,cumts,maxts,
 7,6,status_codes,2,22.22,1,25.00,14,25.93,0,0,0,,,500
 
 =====
+two days of two lines each
+-----
+--log-format=COMMON|-o|csv|a.log
+-----
+192.0.2.1 - - [01/Jan/2024:00:00:00 +0000] \"GET /a HTTP/1.1\" 200 10
+192.0.2.1 - - [01/Jan/2024:00:00:00 +0000] \"GET /a HTTP/1.1\" 200 10
+192.0.2.1 - - [02/Jan/2024:00:00:00 +0000] \"GET /a HTTP/1.1\" 200 10
+192.0.2.1 - - [02/Jan/2024:00:00:00 +0000] \"GET /a HTTP/1.1\" 200 10
+
+-----
+0
+id,parent_id,panel,hits,hits%,visitors,visitors%,bytes,bytes%,avgts,cumts,maxts,method,protocol,data
+0,,general,4,,,,,,,,,,,total_requests
+1,,general,4,,,,,,,,,,,valid_requests
+2,,general,0,,,,,,,,,,,failed_requests
+3,,general,0,,,,,,,,,,,excluded_hits
+4,,general,2,,,,,,,,,,,unique_visitors
+5,,general,40,,,,,,,,,,,bandwidth
+0,,visitors,2,50.00,1,50.00,20,50.00,0,0,0,,,20240102
+1,,visitors,2,50.00,1,50.00,20,50.00,0,0,0,,,20240101
+0,,requests,4,100.00,2,100.00,40,100.00,0,0,0,GET,HTTP/1.1,/a
+0,,hosts,4,100.00,2,100.00,40,100.00,0,0,0,,,192.0.2.1
+0,,visit_times,4,100.00,2,100.00,40,100.00,0,0,0,,,00
+0,,status_codes,4,100.00,2,100.00,40,100.00,0,0,0,,,2xx Success
+1,0,status_codes,4,100.00,2,100.00,40,100.00,0,0,0,,,200
+
+=====
 a log that is named twice, once after two dashes
 -----
 a.log|-o|r.json|--log-format|COMMON|--|a.log
@@ -266,6 +293,29 @@ a request that is a dash
 -----
 0
 {\"browsers\":{\"data\":[]},\"cache_status\":{\"data\":[]},\"general\":{\"bandwidth\":0,\"excluded_hits\":0,\"failed_requests\":0,\"total_requests\":1,\"unique_visitors\":0,\"valid_requests\":1},\"hosts\":{\"data\":[{\"avgts\":0,\"bytes\":{\"count\":0,\"percent\":\"0.00\"},\"cumts\":0,\"data\":\"192.0.2.1\",\"hits\":{\"count\":1,\"percent\":\"100.00\"},\"maxts\":0,\"visitors\":{\"count\":0,\"percent\":\"0.00\"}}]},\"keyphrases\":{\"data\":[]},\"mime_type\":{\"data\":[]},\"not_found\":{\"data\":[]},\"os\":{\"data\":[]},\"referrers\":{\"data\":[]},\"referring_sites\":{\"data\":[]},\"remote_user\":{\"data\":[]},\"requests\":{\"data\":[{\"avgts\":0,\"bytes\":{\"count\":0,\"percent\":\"0.00\"},\"cumts\":0,\"data\":\"-\",\"hits\":{\"count\":1,\"percent\":\"100.00\"},\"maxts\":0,\"visitors\":{\"count\":0,\"percent\":\"0.00\"}}]},\"requests_static\":{\"data\":[]},\"status_codes\":{\"data\":[{\"avgts\":0,\"bytes\":{\"count\":0,\"percent\":\"0.00\"},\"cumts\":0,\"data\":\"4xx Client Errors\",\"hits\":{\"count\":1,\"percent\":\"100.00\"},\"items\":[{\"avgts\":0,\"bytes\":{\"count\":0,\"percent\":\"0.00\"},\"cumts\":0,\"data\":\"408\",\"hits\":{\"count\":1,\"percent\":\"100.00\"},\"maxts\":0,\"visitors\":{\"count\":0,\"percent\":\"0.00\"}}],\"maxts\":0,\"visitors\":{\"count\":0,\"percent\":\"0.00\"}}]},\"tls_type\":{\"data\":[]},\"virtual_hosts\":{\"data\":[]},\"visit_times\":{\"data\":[{\"avgts\":0,\"bytes\":{\"count\":0,\"percent\":\"0.00\"},\"cumts\":0,\"data\":\"00\",\"hits\":{\"count\":1,\"percent\":\"100.00\"},\"maxts\":0,\"visitors\":{\"count\":0,\"percent\":\"0.00\"}}]},\"visitors\":{\"data\":[{\"avgts\":0,\"bytes\":{\"count\":0,\"percent\":\"0.00\"},\"cumts\":0,\"data\":\"20240101\",\"hits\":{\"count\":1,\"percent\":\"100.00\"},\"maxts\":0,\"visitors\":{\"count\":0,\"percent\":\"0.00\"}}]}}
+
+=====
+a comma in a URL
+-----
+--log-format=COMMON|-o|csv|a.log
+-----
+192.0.2.1 - - [01/Jan/2024:00:00:00 +0000] \"GET /a,b HTTP/1.1\" 200 1
+
+-----
+0
+id,parent_id,panel,hits,hits%,visitors,visitors%,bytes,bytes%,avgts,cumts,maxts,method,protocol,data
+0,,general,1,,,,,,,,,,,total_requests
+1,,general,1,,,,,,,,,,,valid_requests
+2,,general,0,,,,,,,,,,,failed_requests
+3,,general,0,,,,,,,,,,,excluded_hits
+4,,general,1,,,,,,,,,,,unique_visitors
+5,,general,1,,,,,,,,,,,bandwidth
+0,,visitors,1,100.00,1,100.00,1,100.00,0,0,0,,,20240101
+0,,requests,1,100.00,1,100.00,1,100.00,0,0,0,GET,HTTP/1.1,\"/a,b\"
+0,,hosts,1,100.00,1,100.00,1,100.00,0,0,0,,,192.0.2.1
+0,,visit_times,1,100.00,1,100.00,1,100.00,0,0,0,,,00
+0,,status_codes,1,100.00,1,100.00,1,100.00,0,0,0,,,2xx Success
+1,0,status_codes,1,100.00,1,100.00,1,100.00,0,0,0,,,200
 
 =====
 a name with all that CSV quotes

@@ -31,7 +31,7 @@ fn a_run_whose_output_fails_is_kept(rt: HostRuntime) -> Result<(), Fail> {
     let mut outs = MemOuts::new(alloc);
     world.grow(alloc, "a.log", b"")?;
     outs.set_room(To::Stdout, 10);
-    let words = "--log-format=COMMON|--persist|--db-path=d|a.log";
+    let words = "--log-format=COMMON|--persist|--restore|--db-path=d|a.log";
     let status = world.run(&rt, alloc, words, &mut outs)?;
     let (to, at) = (To::Stdout, 10);
     assert_eq!(rt; status, Status::OutFault { to, at });

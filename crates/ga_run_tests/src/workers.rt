@@ -70,10 +70,11 @@ impl Gate for MirrorGate {
 /// A line that is counted, with its line feed.
 const LINE: &[u8] = b"192.0.2.1 - - [01/Jan/2024:00:00:00 +0000] \"GET /a HTTP/1.1\" 200 10\n";
 
-/// Two jobs count three lines, one at a time, behind this gate.
+/// Two jobs count three lines, one at a time, behind this gate, by words that begin so.
 fn run_behind<R: Threads + Sync, G: Gate>(
     rt: &R,
     alloc: Global,
+    front: &str,
     gate: &G,
 ) -> Result<Status, NoMemory> {
     let mut world = World::new(alloc);
@@ -81,20 +82,21 @@ fn run_behind<R: Threads + Sync, G: Gate>(
         world.grow(alloc, "a.log", LINE)?;
     }
     let World { files, disk } = &mut world;
-    let words = words_of(alloc, "--log-format=COMMON|--jobs=2|--chunk-size=1|a.log")?;
-    let mut outs = MemOuts::new(alloc);
+    let words = format!(in alloc; "{front}--log-format=COMMON|--jobs=2|--chunk-size=1|a.log")?;
+    let (words, mut outs) = (words_of(alloc, &words)?, MemOuts::new(alloc));
     Ok(goaccess_run(rt, alloc, words.items(), files, disk, &mut outs, gate))
 }
 
 /// Each of two jobs passes the gate while the other is at work: a run on one thread, whichever job it served first, would hold
-/// one of the two for good.
+/// one of the two for good. So it is without a database, and where the run is kept.
 #[test]
 fn jobs_are_at_work_at_once(rt: HostRuntime) -> Result<(), Fail> {
-    let (first, second) = (HoldGate::new(), MirrorGate::new());
-    assert_eq!(rt; run_behind(&rt, rt.alloc(), &first)?, Status::Done);
-    assert_eq!(rt; run_behind(&rt, rt.alloc(), &second)?, Status::Done);
-    assert!(rt; first.met());
-    assert!(rt; second.met());
+    for front in ["", "--persist|", "--persist|--restore|"] {
+        let (first, second) = (HoldGate::new(), MirrorGate::new());
+        assert_eq!(rt; run_behind(&rt, rt.alloc(), front, &first)?, Status::Done);
+        assert_eq!(rt; run_behind(&rt, rt.alloc(), front, &second)?, Status::Done);
+        assert!(rt; first.met() && second.met(), "{front}");
+    }
     Ok(())
 }
 
@@ -199,23 +201,45 @@ fn hold_slices<R: Threads + Sync>(
     Ok(())
 }
 
-/// A line that is counted and ends in two bytes, a comment and an empty line, and what the report says of them.
-const SHORT: (&[u8], &str) = (
-    b"192.0.2.1 - - [01/Jan/2024:00:00:00 +0000] \"GET /a HTTP/1.1\" 200 10\r\n# note\n\n",
-    "{\"bandwidth\":10,\"excluded_hits\":0,\"failed_requests\":0,\"total_requests\":1,\"unique_visitors\":1,\"valid_requests\":1}",
-);
-
 #[test]
 fn lines_are_as_long_as_they_come(rt: HostRuntime) -> Result<(), Fail> {
     let alloc = rt.alloc();
-    let (log, general) = SHORT;
-    hold_slices(&rt, alloc, &WORKERS, log, general)?;
     for (lengths, general) in LONG {
         let mut log = Vec::new(alloc);
         for length in lengths {
             log.extend_from_slice(&line_of(alloc, *length)?)?;
         }
         hold_slices(&rt, alloc, &WORKERS, &log, general)?;
+    }
+    Ok(())
+}
+
+/// A line that is counted and ends in two bytes, a comment and an empty line, and what the report says of them.
+const SHORT: (&[u8], &str) = (
+    b"192.0.2.1 - - [01/Jan/2024:00:00:00 +0000] \"GET /a HTTP/1.1\" 200 10\r\n# note\n\n",
+    "{\"bandwidth\":10,\"excluded_hits\":0,\"failed_requests\":0,\"total_requests\":1,\"unique_visitors\":1,\"valid_requests\":1}",
+);
+
+/// Lines that are wild, and what the report says of them: a byte that no text has, a host that is no address, a day that there
+/// isn't, a status and a size past their limits, a size below 0, a zero byte in a URL, and a quote alone.
+const WILD: (&[u8], &str) = (
+    b"192.0.2.1 - - [01/Jan/2024:00:00:00 +0000] \"GET /a HTTP/1.1\" 200 10
+\xff
+256.1.1.1 - - [01/Jan/2024:00:00:00 +0000] \"GET /a HTTP/1.1\" 200 10
+192.0.2.1 - - [31/Feb/2024:00:00:00 +0000] \"GET /a HTTP/1.1\" 200 10
+192.0.2.1 - - [01/Jan/2024:00:00:00 +0000] \"GET /a HTTP/1.1\" 99 10
+192.0.2.1 - - [01/Jan/2024:00:00:00 +0000] \"GET /a HTTP/1.1\" 200 1000000000000000001
+192.0.2.1 - - [01/Jan/2024:00:00:00 +0000] \"GET /a HTTP/1.1\" 200 -5
+192.0.2.1 - - [01/Jan/2024:00:00:00 +0000] \"GET /\0 HTTP/1.1\" 200 1
+\"
+",
+    "{\"bandwidth\":11,\"excluded_hits\":0,\"failed_requests\":6,\"total_requests\":9,\"unique_visitors\":1,\"valid_requests\":3}",
+);
+
+#[test]
+fn lines_are_as_wild_as_they_come(rt: HostRuntime) -> Result<(), Fail> {
+    for (log, general) in [SHORT, WILD] {
+        hold_slices(&rt, rt.alloc(), &WORKERS, log, general)?;
     }
     Ok(())
 }
