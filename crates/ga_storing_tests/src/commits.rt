@@ -2,7 +2,7 @@ ghost use Rattle.std.specs.Prelude.{IfOk, IsTrue};
 ghost use Rattle.ga_disk.specs.MemDisk.{disk_view};
 ghost use Rattle.ga_store.specs.Commit.{MergesBy};
 
-use crate::recovery::side_of;
+use crate::recovery::{disk_of, side_of};
 use ga_base::{Counter, Entries, LIMIT, Text};
 use ga_disk::laws::a_disk_stays;
 use ga_disk::{Disk, MemDisk};
@@ -88,6 +88,28 @@ fn runs_write_these_bytes(rt: HostRuntime) -> Result<(), Fail> {
     Ok(())
 }
 
+/// Whether a run over these sides leaves those.
+fn leads_to(alloc: Global, sides: &str, side0: &str, side1: &str) -> Result<bool, Fail> {
+    let mut disk = disk_of(alloc, sides)?;
+    store(alloc, &mut disk, Mode::Append)?;
+    Ok(
+        disk.side(0) == side_of(alloc, side0)?.as_slice()
+            && disk.side(1) == side_of(alloc, side1)?.as_slice(),
+    )
+}
+
+#[test]
+fn a_lone_open_gate_is_closed_first(rt: HostRuntime) -> Result<(), Fail> {
+    for (sides, side0, side1) in [
+        ("F@114=79 -", "FR", ""),
+        ("FR@220=79 L@114=79", "FR@220=79", "LR"),
+        ("G -", "F", ""),
+    ] {
+        assert!(rt; leads_to(rt.alloc(), sides, side0, side1)?, "{sides}");
+    }
+    Ok(())
+}
+
 /// The generation and the number of records that a disk has.
 fn numbers(alloc: Global, disk: &mut MemDisk) -> Result<(u64, u64), StoreFault>
     requires { IsTrue (disk_view disk.old).is_open }
@@ -96,42 +118,72 @@ fn numbers(alloc: Global, disk: &mut MemDisk) -> Result<(u64, u64), StoreFault>
     Ok((db.generation, db.records))
 }
 
-/// Whether a crash by a pick, once a disk failed after so many calls of a run, leaves the old numbers or the new ones, and the new
-/// ones where the run was stored.
-fn survives(
-    alloc: Global,
-    more: u32,
-    calls: u64,
-    pick: u8,
+/// A run over these sides, and the generation and the number of records before and after it.
+#[derive(Clone, Copy)]
+struct Run {
+    sides: &'static str,
+    mode: Mode,
     old: (u64, u64),
     new: (u64, u64),
-) -> Result<bool, Fail> {
-    let mut disk = disk_after(alloc, more)?;
+}
+
+/// Whether a run is stored though its disk fails after so many calls. A crash by a pick leaves the new numbers then, and else the old
+/// ones or the new ones.
+fn is_stored(alloc: Global, run: &Run, calls: u64, pick: u8) -> Result<bool, Fail> {
+    let mut disk = disk_of(alloc, run.sides)?;
     disk.fail_after(calls);
-    let is_stored = store(alloc, &mut disk, Mode::Append).is_ok();
+    let stored = store(alloc, &mut disk, run.mode);
     disk.crash(&[pick]);
     let left = numbers(alloc, &mut disk)?;
-    Ok(left == new || !is_stored && left == old)
+    match stored {
+        Ok(()) if left == run.new => Ok(true),
+        Err(StoreFault::DiskFault) if left == run.old || left == run.new => Ok(false),
+        _ => Err(Fail::new(format_args!("{calls} calls, pick {pick}"))),
+    }
 }
 
 /// How many calls a recovery makes, and a commit at most.
 const RECOVERY: u64 = 6;
 
-const COMMIT: u64 = 7;
+const COMMIT: u64 = 9;
 
-/// How many runs were stored, and the generation and the number of records before and after another: a record, and another generation.
-const NUMBERS: [(u32, (u64, u64), (u64, u64)); 2] = [(0, (1, 0), (1, 1)), (64, (1, 64), (2, 0))];
+/// Whether a run is stored once its disk makes enough calls, whichever was the last before.
+fn is_stored_at_last(alloc: Global, run: &Run, pick: u8) -> Result<bool, Fail> {
+    for calls in RECOVERY..RECOVERY + COMMIT + 1 {
+        if is_stored(alloc, run, calls, pick)? {
+            return Ok(calls > RECOVERY);
+        }
+    }
+    Ok(false)
+}
+
+/// A record; a generation on a side that has none; and one on a side whose gate is open.
+const CRASHES: [Run; 3] = [
+    Run {
+        sides: "F -",
+        mode: Mode::Append,
+        old: (1, 0),
+        new: (1, 1),
+    },
+    Run {
+        sides: "FRRRRRRRRRRRRRRRRRRRRRRRRRRRRRRRRRRRRRRRRRRRRRRRRRRRRRRRRRRRRRRRR -",
+        mode: Mode::Append,
+        old: (1, 64),
+        new: (2, 0),
+    },
+    Run {
+        sides: "FRRRRRRRRRRRRRRRRRRRRRRRRRRRRRRRRRRRRRRRRRRRRRRRRRRRRRRRRRRRRRRRR L",
+        mode: Mode::Overwrite,
+        old: (2, 0),
+        new: (3, 0),
+    },
+];
 
 #[test]
 fn a_crash_leaves_the_old_or_the_new(rt: HostRuntime) -> Result<(), Fail> {
-    for (more, old, new) in NUMBERS {
-        for calls in RECOVERY..RECOVERY + COMMIT + 1 {
-            for pick in [0, 255, 79] {
-                assert!(rt;
-                    survives(rt.alloc(), more, calls, pick, old, new)?,
-                    "{more} {calls} {pick}"
-                );
-            }
+    for run in CRASHES {
+        for pick in [0, 255, 79] {
+            assert!(rt; is_stored_at_last(rt.alloc(), &run, pick)?, "{pick}");
         }
     }
     Ok(())

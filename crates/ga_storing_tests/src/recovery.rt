@@ -93,6 +93,9 @@ F@20=255 F@20=255 => side 0 damaged at 1
 - F@20=1 => side 1 damaged at 1
 F L@20=1 => side 1 damaged at 1
 L@50=1 F => side 0 damaged at 1
+## a first part whose digest is right and whose body is no snapshot
+R - => side 0 damaged at 1
+F R => side 1 damaged at 1
 ## a length that is greater than the side, of which no memory is taken
 H - => side 0 damaged at 1
 F H => side 1 damaged at 1
@@ -121,6 +124,7 @@ FA LB => Some(1): generation 2, records 1, slot 304, failed 2, entries 2
 M - => Some(0): generation 1, records 0, slot 114, failed 4611686018427387903, entries 0
 MR - => Some(0): generation 1, records 1, slot 220, failed 4611686018427387903, entries 0
 MA - => side 0 damaged at 115
+MRA - => side 0 damaged at 221
 ";
 
 /// The bytes that a letter stands for.
@@ -156,7 +160,7 @@ pub fn side_of(alloc: Global, text: &str) -> Result<Vec<u8>, Fail> {
 }
 
 /// An open disk whose sides are named so.
-fn disk_of(alloc: Global, sides: &str) -> Result<MemDisk, Fail>
+pub fn disk_of(alloc: Global, sides: &str) -> Result<MemDisk, Fail>
     ensures { IfOk result (λ disk. IsTrue disk.is_open) }
 {
     let (side0, side1) = sides.split_once(' ').ok_or("two sides")?;
