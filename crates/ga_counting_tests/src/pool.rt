@@ -4,7 +4,7 @@ ghost use Rattle.ga_summary.specs.SummaryRows.{SummaryValue};
 ghost use Rattle.ga_summary.specs.Sound.{IsSummary};
 
 use crate::setup::setup;
-use ga_base::Totals;
+use ga_base::{Panel, Totals};
 use ga_pool::{Counted, PoolFault, Setup, count_batch};
 use ga_ports::NoGate;
 use std::alloc::Global;
@@ -32,34 +32,58 @@ fn counted<R: Threads + Sync>(
     count_batch(rt, alloc, setup, &Totals::ZERO, BATCH, jobs, chunk, &gate)
 }
 
-/// How many keys, visitors and pairs that are, and how many keys, hits and bytes their summary has.
-fn numbers<R: Threads + Sync>(
-    rt: &R,
-    alloc: Global,
-    jobs: u32,
-    chunk: u32,
-) -> Result<[u64; 6], Fail>
+/// The three words of the key of a host: its hits, bytes and micros.
+fn words_of_host(counted: &Counted) -> Option<[u64; 3]> {
+    let Counted { keys, counts, .. } = counted;
+    for number in 0..keys.len() {
+        if keys.item(number).panel == Panel::Hosts && number < counts.words() / 3 {
+            let word = 3 * number;
+            return Some([counts.sum(word), counts.sum(word + 1), counts.sum(word + 2)]);
+        }
+    }
+    None
+}
+
+/// What is counted of them.
+#[derive(Clone, Copy, Debug, PartialEq, Eq)]
+struct Numbers {
+    keys: u32,
+    visitors: u32,
+    pairs: u64,
+    host: Option<[u64; 3]>,
+    /// How many keys, hits and bytes the summary has.
+    summary: (u64, u64, u64),
+}
+
+/// What so many workers count, in pieces of so many lines.
+fn numbers<R: Threads + Sync>(rt: &R, alloc: Global, jobs: u32, chunk: u32) -> Result<Numbers, Fail>
     requires jobs { (1 ≤ jobs) × (jobs ≤ 16) }
     requires chunk { 1 ≤ chunk }
 {
     let counted = counted(rt, alloc, &setup(alloc, "COMMON")?, jobs, chunk)?;
     let summary = counted.summary(alloc)?;
     let totals = summary.totals();
-    Ok([
-        u64::from(counted.keys.len()),
-        u64::from(counted.visitors.len()),
-        counted.pairs.len(),
-        summary.len(),
-        totals.hits,
-        totals.bytes,
-    ])
+    Ok(Numbers {
+        keys: counted.keys.len(),
+        visitors: counted.visitors.len(),
+        pairs: counted.pairs.len(),
+        host: words_of_host(&counted),
+        summary: (summary.len(), totals.hits, totals.bytes),
+    })
 }
 
 #[test]
 fn workers_count_as_one(rt: HostRuntime) -> Result<(), Fail> {
     let alloc = rt.alloc();
-    assert_eq!(rt; numbers(&rt, alloc, 1, 1024)?, [6, 1, 6, 6, 2, 20]);
-    assert_eq!(rt; numbers(&rt, alloc, 2, 1)?, [6, 1, 6, 6, 2, 20]);
-    assert_eq!(rt; numbers(&rt, alloc, 16, 32768)?, [6, 1, 6, 6, 2, 20]);
+    let wanted = Numbers {
+        keys: 6,
+        visitors: 1,
+        pairs: 6,
+        host: Some([2, 20, 0]),
+        summary: (6, 2, 20),
+    };
+    assert_eq!(rt; numbers(&rt, alloc, 1, 1024)?, wanted);
+    assert_eq!(rt; numbers(&rt, alloc, 2, 1)?, wanted);
+    assert_eq!(rt; numbers(&rt, alloc, 16, 32768)?, wanted);
     Ok(())
 }

@@ -40,11 +40,12 @@ Input and filters:
   --browsers-file FILE
                       rules for user agents, asked before those built in; a
                       line is a token, tabs and a category; default none
-  --exclude-ip A      excludes the lines of an address, or of a range as
-                      192.0.2.1-192.0.2.9 (+); default none
+  --exclude-ip A      excludes the lines of an address, or of a range from a
+                      first to a last one as 192.0.2.1-192.0.2.9 (+); one as
+                      192.0.2.0/24 is refused; default none
   --ignore-crawlers   excludes the lines of crawlers; default off
-  --ignore-status N   excludes the lines of a status, 100 to 599 (+); default
-                      none
+  --ignore-status N   excludes the lines of a status, 100 to 599; one a word
+                      (+); default none
   --no-ip-validation  takes any text as the host of %h; default off
   --no-strict-status  takes lines whose status isn't 100 to 599, as without
                       one; default off
@@ -80,7 +81,8 @@ Working; these change no report:
 Generator:
   --generate N        a run over N lines of its own in place of logs, 1 to
                       1000000, that prints six lines in place of its report;
-                      default none
+                      refused beside a log, --persist or --restore; default
+                      none
 
 Database, by which each line is counted once over all runs, also where logs
 grow and are renamed between them:

@@ -7,6 +7,7 @@ use std::alloc::Global;
 use std::cell::RefCell;
 use std::fmt::Display;
 use std::io::{self, ErrorKind, Print};
+use std::os::unix::fs::FileExt;
 use std::test::Fail;
 use std::{env, fs, process};
 
@@ -56,6 +57,37 @@ fn a_real_file_is_read_at_places(rt: HostRuntime) -> Result<(), Fail> {
         let (size, count) = read(&mut files, &name, at as u64, &mut slice)?;
         assert_eq!(rt; size, u64::from(LENGTH));
         assert!(rt; slice.get(..count) == bytes.get(at..end), "{at}");
+    }
+    fs::remove_file(&rt, path.as_str())?;
+    Ok(())
+}
+
+/// The size of a file of which the disk holds little, a place behind its fourth gibibyte, and what is there.
+const SPARSE: u64 = 5_368_709_120;
+
+const FAR: u64 = 4_294_967_303;
+
+const THERE: &[u8] = b"behind";
+
+#[test]
+fn a_file_of_five_gibibytes_is_read_far_behind(rt: HostRuntime) -> Result<(), Fail> {
+    let alloc = rt.alloc();
+    let folder = env::temp_dir(&rt)?;
+    let id = process::id(rt.process());
+    let path = format!(in alloc; "{}/goaccess-sparse-{id}", folder.as_str())?;
+    let file = fs::create(&rt, path.as_str())?;
+    file.set_len(SPARSE)?;
+    assert_eq!(rt; file.write_at(THERE, FAR)?, THERE.len());
+    drop(file);
+    let name = Text::of(alloc, &path)?;
+    let mut files = RealFiles::new(&rt);
+    let mut bytes = [1; 8];
+    for (at, count, there) in [(FAR, 8, *b"behind\0\0"), (SPARSE - 3, 3, *b"\0\0\0ind\0\0")] {
+        assert_eq!(rt;
+            read(&mut files, &name, at, &mut bytes),
+            Ok((SPARSE, count))
+        );
+        assert_eq!(rt; bytes, there);
     }
     fs::remove_file(&rt, path.as_str())?;
     Ok(())
@@ -170,11 +202,12 @@ Input and filters:
   --browsers-file FILE
                       rules for user agents, asked before those built in; a
                       line is a token, tabs and a category; default none
-  --exclude-ip A      excludes the lines of an address, or of a range as
-                      192.0.2.1-192.0.2.9 (+); default none
+  --exclude-ip A      excludes the lines of an address, or of a range from a
+                      first to a last one as 192.0.2.1-192.0.2.9 (+); one as
+                      192.0.2.0/24 is refused; default none
   --ignore-crawlers   excludes the lines of crawlers; default off
-  --ignore-status N   excludes the lines of a status, 100 to 599 (+); default
-                      none
+  --ignore-status N   excludes the lines of a status, 100 to 599; one a word
+                      (+); default none
   --no-ip-validation  takes any text as the host of %h; default off
   --no-strict-status  takes lines whose status isn't 100 to 599, as without
                       one; default off
@@ -210,7 +243,8 @@ Working; these change no report:
 Generator:
   --generate N        a run over N lines of its own in place of logs, 1 to
                       1000000, that prints six lines in place of its report;
-                      default none
+                      refused beside a log, --persist or --restore; default
+                      none
 
 Database, by which each line is counted once over all runs, also where logs
 grow and are renamed between them:
