@@ -62,15 +62,15 @@ fn a_real_file_is_read_at_places(rt: HostRuntime) -> Result<(), Fail> {
     Ok(())
 }
 
-/// The size of a file of which the disk holds little, a place behind its fourth gibibyte, and what is there.
+/// The size of a file of which the disk holds little, a place after its fourth gibibyte, and what is there.
 const SPARSE: u64 = 5_368_709_120;
 
 const FAR: u64 = 4_294_967_303;
 
-const THERE: &[u8] = b"behind";
+const THERE: &[u8] = b"so far";
 
 #[test]
-fn a_file_of_five_gibibytes_is_read_far_behind(rt: HostRuntime) -> Result<(), Fail> {
+fn a_file_of_five_gibibytes_is_read_after_the_fourth(rt: HostRuntime) -> Result<(), Fail> {
     let alloc = rt.alloc();
     let folder = env::temp_dir(&rt)?;
     let id = process::id(rt.process());
@@ -82,7 +82,7 @@ fn a_file_of_five_gibibytes_is_read_far_behind(rt: HostRuntime) -> Result<(), Fa
     let name = Text::of(alloc, &path)?;
     let mut files = RealFiles::new(&rt);
     let mut bytes = [1; 8];
-    for (at, count, there) in [(FAR, 8, *b"behind\0\0"), (SPARSE - 3, 3, *b"\0\0\0ind\0\0")] {
+    for (at, count, there) in [(FAR, 8, *b"so far\0\0"), (SPARSE - 3, 3, *b"\0\0\0far\0\0")] {
         assert_eq!(rt;
             read(&mut files, &name, at, &mut bytes),
             Ok((SPARSE, count))
