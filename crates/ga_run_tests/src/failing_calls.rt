@@ -86,9 +86,9 @@ fn begins<R: Threads + Sync>(
 }
 
 /// Whether a run is done, of whose files this call fails. Else it says that a log can't be read, and nothing is changed.
-fn is_done_with_files<R: Threads + Sync>(rt: &R, alloc: Global, call: u64) -> Result<bool, Fail> {
+fn is_done_with_files<R: Threads + Sync>(rt: &R, alloc: Global, call: u32) -> Result<bool, Fail> {
     let (before, mut world) = (world_before(rt, alloc)?, world_before(rt, alloc)?);
-    world.files.fail_at(call)?;
+    world.files.fail_at(u64::from(call))?;
     let answer = world.answer(rt, alloc, TRACKED)?;
     if answer.starts_with(NEW.as_bytes()) {
         return Ok(true);
@@ -105,9 +105,9 @@ fn is_done_with_files<R: Threads + Sync>(rt: &R, alloc: Global, call: u64) -> Re
 
 /// Whether a run is done, of whose disk this call fails. Else it says so; what is kept is what was before, or all lines; and the
 /// same run prints all lines once no call fails.
-fn is_done_with_disk<R: Threads + Sync>(rt: &R, alloc: Global, call: u64) -> Result<bool, Fail> {
+fn is_done_with_disk<R: Threads + Sync>(rt: &R, alloc: Global, call: u32) -> Result<bool, Fail> {
     let mut world = world_before(rt, alloc)?;
-    world.disk.fail_at(COPYING + call)?;
+    world.disk.fail_at(COPYING + u64::from(call))?;
     let answer = world.answer(rt, alloc, TRACKED)?;
     if answer.starts_with(NEW.as_bytes()) {
         return Ok(true);
@@ -123,7 +123,7 @@ fn is_done_with_disk<R: Threads + Sync>(rt: &R, alloc: Global, call: u64) -> Res
 }
 
 /// The most calls that are let fail, one in each run.
-const CALLS: u64 = 64;
+const CALLS: u32 = 64;
 
 #[test]
 fn a_call_of_the_files_fails(rt: HostRuntime) -> Result<(), Fail> {
@@ -154,10 +154,10 @@ fn is_kept_with_room<R: Threads + Sync>(rt: &R, alloc: Global, room: usize) -> R
     outs.set_room(To::Stdout, room as u64);
     let status = world.run(rt, alloc, TRACKED, &mut outs)?;
     let (to, at) = (To::Stdout, room as u64);
-    let front = NEW.as_bytes().get(STATUS..STATUS + room);
+    let report = NEW.as_bytes().get(STATUS..).unwrap_or_default();
     Ok(
         status == Status::OutFault { to, at }
-            && Some(outs.taken(To::Stdout)) == front
+            && Some(outs.taken(To::Stdout)) == report.get(..room)
             && begins(rt, alloc, &mut world, KEPT, NEW)?,
     )
 }
