@@ -33,6 +33,19 @@ fn commit_work<D: Disk>(disk: &mut D, work: Prepared) -> Result<(), StoreFault>
     commit(disk, work)
 }
 
+/// The place of the next record of a database, of which each field is named.
+fn slot_of(db: &Db) -> u64 {
+    let Db {
+        summary: _,
+        entries: _,
+        generation: _,
+        side: _,
+        records: _,
+        slot,
+    } = db;
+    *slot
+}
+
 /// Prepares the first run over nothing, on a disk that holds a database.
 fn prepare_first<D: Disk>(alloc: Global, disk: &mut D) -> Result<Prepared, StoreFault>
     requires { IsTrue (D.view disk.old).is_open }

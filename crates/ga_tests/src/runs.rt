@@ -64,12 +64,34 @@ const PLACE_FAULTS: [PlaceFault; 3] = [
     PlaceFault::NoMemory,
 ];
 
+/// The place of the entry of a segment, of which each field is named.
+fn place_of(segment: &Segment) -> Option<u64> {
+    let Segment {
+        from: _,
+        end: _,
+        entry,
+        front: _,
+    } = segment;
+    *entry
+}
+
+/// How far a log was counted that has this entry, of which each field is named.
+fn offset_of(entry: &Entry) -> u64 {
+    let Entry {
+        lead: _,
+        digest: _,
+        offset,
+        ..
+    } = entry;
+    *offset
+}
+
 /// Places a log, and advances its entry to its end.
 fn follow<F: Files>(alloc: Global, files: &mut F, name: &Text) -> Result<Entries, PlaceFault> {
     let mut entries = Entries::new(alloc);
     files.open(name)?;
     let segment: Segment = place(alloc, files, &entries)?;
-    if segment.from <= segment.end {
+    if place_of(&segment).is_none() && segment.from <= segment.end {
         advance(alloc, &mut entries, &segment, segment.end)?;
     }
     Ok(entries)
@@ -82,11 +104,9 @@ fn logs_and_runs(rt: HostRuntime) -> Result<(), Fail> {
     let mut files = MemFiles::new(alloc);
     files.grow(&name, generate(alloc, 1)?.bytes())?;
     let entries = follow(alloc, &mut files, &name)?;
-    let lead = entries.items().first().map(|entry: &Entry| entry.lead);
-    assert_eq!(rt;
-        (lead.is_some(), PLACE_FAULTS.len(), STATUSES.len()),
-        (true, 3, 21)
-    );
+    let offset = entries.items().first().map(offset_of);
+    assert!(rt; offset.is_some_and(|offset| offset > 100));
+    assert_eq!(rt; (PLACE_FAULTS.len(), STATUSES.len()), (3, 21));
     let mut words = Texts::new(alloc);
     for word in ["--log-format=COMBINED", "--persist", "a.log"] {
         words.push(Text::of(alloc, word)?)?;
