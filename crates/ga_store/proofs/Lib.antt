@@ -4,6 +4,7 @@ pub mod RecoverFirst
 pub mod RecoverDisk
 pub mod RecoverReading
 pub mod OneDatabase
+pub mod SomeDatabase
 pub mod Fronts
 pub mod Torn
 pub mod OnePart

@@ -1,7 +1,9 @@
 -- Calls of a disk that change no side, one after the other, and what recovery says of them.
-use Rattle.std.proofs.Common.{◌≡◌, ℕ, ◌≤◌, Bool, true, false, List, ◌++◌, ◌+◌, length, take, drop, Option, Some, None, Result, Ok, Err, IfSome, inl, refl, sym, ap, ◌∙◌, subst, arith}
+use Rattle.std.proofs.Common.{◌≡◌, ℕ, ◌≤◌, ◌<◌, Bool, true, false, List, ◌++◌, ◌+◌, ◌-◌, ◌*◌, length, take, drop, Option, Some, None, Result, Ok, Err, IfSome, inl, refl, sym, ap, ◌∙◌, subst, arith}
 use Rattle.std.proofs.Math.Seq.{take-add}
+use Rattle.std.specs.Prelude.{◌/◌}
 use Rattle.std.proofs.lemmas.List.{take_all}
+use Rattle.std.proofs.lemmas.Nat.{div-mul-add}
 use Rattle.std.proofs.lemmas.Slice.{take-put_mid}
 use borrow.Rule.Slice.PartMut.{put_mid}
 use Rattle.ga_counters.specs.Counts.{raised}
@@ -14,8 +16,8 @@ use Rattle.ga_disk.specs.declared.disk_counts.DiskCounts.{DiskCounts}
 use Rattle.ga_disk.proofs.Only.{only-same, same-then}
 use Rattle.ga_store.specs.Database.{DbOf}
 use Rattle.ga_store.specs.Database.Reading.{damaged}
-use Rattle.ga_store.specs.Steps.Recovery.{Answers, Fetches, IsOutside, IsSide}
-use Rattle.ga_store.specs.Store.{InPieces, Looks, ReadsOnce, Recovers, is_disk_fault}
+use Rattle.ga_store.specs.Steps.Recovery.{Answers, Fetches, InPieces, IsOutside, IsSide}
+use Rattle.ga_store.specs.Store.{Looks, ReadsOnce, Recovers, SyncsBoth, is_disk_fault, most_read, reads_of}
 use Rattle.ga_store.specs.declared.db.Db.{Db}
 use Rattle.ga_store.specs.declared.fault.StoreFault.{StoreFault}
 use Rattle.ga_store.specs.declared.fault.StoreFault.TheVariants.{CounterFull, Damaged, DiskFault, NoMemory}
@@ -152,85 +154,107 @@ both-told : (seen : Option Sides) (side0 side1 : List ℕ) → IfSome seen (λ s
 both-told None side0 side1 first second = tt
 both-told (Some seen) side0 side1 first second = same-sides seen _ (sym first) (sym second)
 
-pub recovers-not : {X : Type 0} {old new : DiskView} {images images' : Images} (result : Result X StoreFault) (fault : StoreFault) → result ≡ Err fault
-    → ((image : Sides) → images.since images.moment image → images.now image) → IsOutside fault
-    → Looks (is_disk_fault result) old new images images' → Recovers old new images images' (Err fault)
-recovers-not {X} {old} {new} {images} {images'} result DiskFault is law outside looks = record {
-  database = tt;
-  damage = λ side at e. cc;
-  counters = λ which total e. cc;
-  looks = subst (λ (r : Result X StoreFault). Looks (is_disk_fault r) old new images images') is looks;
-  calls = tt;
-  moments = only-same law looks.leaves;
-}
-recovers-not {X} {old} {new} {images} {images'} result NoMemory is law outside looks = record {
-  database = tt;
-  damage = λ side at e. cc;
-  counters = λ which total e. cc;
-  looks = subst (λ (r : Result X StoreFault). Looks (is_disk_fault r) old new images images') is looks;
-  calls = tt;
-  moments = only-same law looks.leaves;
-}
-recovers-not result (Damaged side at) is law outside looks = absurd outside
-recovers-not result (CounterFull which total) is law outside looks = absurd outside
+-- so many calls read so many bytes
+reads-exact : (bytes reads : ℕ) → InPieces bytes reads → reads ≡ reads_of bytes
+reads-exact bytes reads pieces =
+    let enough = pieces.enough in
+    let none_over = pieces.none_over in
+    let left : bytes + (most_read - 1) - reads * most_read < most_read = omega (arith, enough, none_over) in
+    let sum : bytes + (most_read - 1) ≡ reads * most_read + (bytes + (most_read - 1) - reads * most_read) = omega (arith, enough, none_over) in
+    sym (ap (λ (n : ℕ). n / most_read) sum ∙ div-mul-add reads most_read (bytes + (most_read - 1) - reads * most_read) left)
 
-pieces-told : (seen : Option Sides) (side reads : ℕ) (bytes : List ℕ) → IfSome seen (λ seen. bytes ≡ of_side side seen) → InPieces (length bytes) reads
-    → IfSome seen (λ seen. InPieces (length (of_side side seen)) reads)
-pieces-told None side reads bytes same pieces = tt
-pieces-told (Some seen) side reads bytes same pieces = subst (λ (b : List ℕ). InPieces (length b) reads) same pieces
+module _ {D : Type 0} (view_of : D → DiskView) (images_of : D → Images) where
+  module _ {X : Type 0} (disk disk' : D) (result : Result X StoreFault)
+      (law : (image : Sides) → (images_of disk).since (images_of disk).moment image → (images_of disk).now image) where
+    pub recovers-not : (fault : StoreFault) → result ≡ Err fault → IsOutside fault
+        → Looks (is_disk_fault result) (view_of disk) (view_of disk') (images_of disk) (images_of disk') → Recovers view_of images_of disk disk' (Err fault)
+    recovers-not DiskFault is outside looks = record {
+      database = tt;
+      damage = λ side at e. cc;
+      counters = λ which total e. cc;
+      looks = subst (λ (r : Result X StoreFault). Looks (is_disk_fault r) (view_of disk) (view_of disk') (images_of disk) (images_of disk')) is looks;
+      calls = tt;
+      calls_to_damage = λ side at e. absurd cc;
+      moments = only-same law looks.leaves;
+    }
+    recovers-not NoMemory is outside looks = record {
+      database = tt;
+      damage = λ side at e. cc;
+      counters = λ which total e. cc;
+      looks = subst (λ (r : Result X StoreFault). Looks (is_disk_fault r) (view_of disk) (view_of disk') (images_of disk) (images_of disk')) is looks;
+      calls = tt;
+      calls_to_damage = λ side at e. absurd cc;
+      moments = only-same law looks.leaves;
+    }
+    recovers-not (Damaged side at) is outside looks = absurd outside
+    recovers-not (CounterFull which total) is outside looks = absurd outside
 
--- both were synced, and read once
-pub once-both : {start synced mid end : DiskView} {images : Images} (side0 side1 : List ℕ) → synced.counts.calls ≡ raised start.counts.calls 2
-    → Fetches 1 (length side0) synced mid → Fetches 1 (length side1) mid end → BothRead end images side0 side1 → ReadsOnce start end
-once-both {start} {synced} {mid} {end} side0 side1 first second third read = record {
-  reads0 = second.reads;
-  reads1 = third.reads;
-  pieces0 = pieces-told end.seen 0 second.reads side0 read.first.told second.pieces;
-  pieces1 = pieces-told end.seen 1 third.reads side1 read.second.told third.pieces;
-  calls = omega (arith, first, second.calls, third.calls);
-}
-
-pub recovers : {old new : DiskView} {images images' : Images} (result : Result Db StoreFault) (side0 side1 : List ℕ)
-    → ((image : Sides) → images.since images.moment image → images.now image) → Looks false old new images images' → BothRead new images' side0 side1 → ReadsOnce old new
-    → Answers (DbOf (record { side0 = side0; side1 = side1 })) result → Recovers old new images images' result
-recovers {old} {new} (Ok db) side0 side1 law looks read once says = record {
-  database = record {
+  -- both were synced, and then read once
+  pub once-both : (start synced mid end : D) (side0 side1 : List ℕ) → SyncsBoth view_of images_of start synced
+      → (view_of synced).counts.calls ≡ raised (view_of start).counts.calls 2
+      → Looks false (view_of synced) (view_of end) (images_of synced) (images_of end)
+      → Fetches 1 (length side0) (view_of synced) (view_of mid) → Fetches 1 (length side1) (view_of mid) (view_of end)
+      → BothRead (view_of end) (images_of end) side0 side1 → ReadsOnce view_of images_of start end
+  once-both start synced mid end side0 side1 syncs first looks second third read = record {
+    before = synced;
+    syncs = syncs;
+    looks = looks;
     sides = record { side0 = side0; side1 = side1 };
-    told = both-told new.seen side0 side1 read.first.told read.second.told;
-    only = read.only;
-    size0 = read.first.size;
-    size1 = read.second.size;
-    has = says;
-  };
-  damage = λ side at e. cc;
-  counters = λ which total e. cc;
-  looks = looks;
-  calls = once;
-  moments = only-same law looks.leaves;
-}
-recovers {old} {new} (Err (Damaged side at)) side0 side1 law looks read once says = record {
-  database = tt;
-  damage = λ other place e. let same = ap fault_side e in let place_same = ap fault_at e in record {
-    sides = record { side0 = side0; side1 = side1 };
-    told = both-told new.seen side0 side1 read.first.told read.second.told;
-    has = subst (λ (p : ℕ × ℕ). DbOf (record { side0 = side0; side1 = side1 }) (damaged p.0 p.1)) (λ i. (same i, place_same i)) says;
-  };
-  counters = λ which total e. cc;
-  looks = looks;
-  calls = tt;
-  moments = only-same law looks.leaves;
-}
-  where
-    fault_side : Result Db StoreFault → ℕ
-    fault_side (Err (Damaged s p)) = s
-    fault_side r = 0
+    told = both-told (view_of end).seen side0 side1 read.first.told read.second.told;
+    calls =
+        let one = reads-exact (length side0) second.reads second.pieces in
+        let other = reads-exact (length side1) third.reads third.pieces in
+        let sum : (view_of end).counts.calls ≡ raised (view_of start).counts.calls (2 + (1 + second.reads) + (1 + third.reads)) =
+        omega (arith, first, second.calls, third.calls) in
+        sum ∙ ap (λ (n : ℕ × ℕ). raised (view_of start).counts.calls (2 + (1 + n.0) + (1 + n.1))) (λ i. (one i, other i));
+  }
 
-    fault_at : Result Db StoreFault → ℕ
-    fault_at (Err (Damaged s p)) = p
-    fault_at r = 0
-recovers (Err NoMemory) side0 side1 law looks read once says = recovers-not {X = Db} (Err NoMemory) NoMemory refl law tt looks
-recovers (Err DiskFault) side0 side1 law looks read once says = absurd says
-recovers (Err (CounterFull which total)) side0 side1 law looks read once says = absurd says
+  pub recovers : (disk disk' : D) (result : Result Db StoreFault) (side0 side1 : List ℕ)
+      → ((image : Sides) → (images_of disk).since (images_of disk).moment image → (images_of disk).now image)
+      → Looks false (view_of disk) (view_of disk') (images_of disk) (images_of disk') → BothRead (view_of disk') (images_of disk') side0 side1
+      → ReadsOnce view_of images_of disk disk' → Answers (DbOf (record { side0 = side0; side1 = side1 })) result
+      → Recovers view_of images_of disk disk' result
+  recovers disk disk' (Ok db) side0 side1 law looks read once says = record {
+    database = record {
+      sides = record { side0 = side0; side1 = side1 };
+      told = both-told (view_of disk').seen side0 side1 read.first.told read.second.told;
+      only = read.only;
+      size0 = read.first.size;
+      size1 = read.second.size;
+      has = says;
+    };
+    damage = λ side at e. cc;
+    counters = λ which total e. cc;
+    looks = looks;
+    calls = once;
+    calls_to_damage = λ side at e. once;
+    moments = only-same law looks.leaves;
+  }
+  recovers disk disk' (Err (Damaged side at)) side0 side1 law looks read once says = record {
+    database = tt;
+    damage = λ other place e. let same = ap fault_side e in let place_same = ap fault_at e in record {
+      sides = record { side0 = side0; side1 = side1 };
+      told = both-told (view_of disk').seen side0 side1 read.first.told read.second.told;
+      only = read.only;
+      has = subst (λ (p : ℕ × ℕ). DbOf (record { side0 = side0; side1 = side1 }) (damaged p.0 p.1)) (λ i. (same i, place_same i)) says;
+    };
+    counters = λ which total e. cc;
+    looks = looks;
+    calls = tt;
+    calls_to_damage = λ other place e. once;
+    moments = only-same law looks.leaves;
+  }
+    where
+      fault_side : Result Db StoreFault → ℕ
+      fault_side (Err (Damaged s p)) = s
+      fault_side r = 0
+
+      fault_at : Result Db StoreFault → ℕ
+      fault_at (Err (Damaged s p)) = p
+      fault_at r = 0
+  recovers disk disk' (Err NoMemory) side0 side1 law looks read once says = recovers-not {X = Db} disk disk' (Err NoMemory) law NoMemory refl tt looks
+  recovers disk disk' (Err DiskFault) side0 side1 law looks read once says = absurd says
+  recovers disk disk' (Err (CounterFull which total)) side0 side1 law looks read once says = absurd says
 
 -- a sync changes no side
 pub synced-same : {E : Type 0} {side : ℕ} {seen : Option Sides} {images images' : Images} {result : Result (Unit {0}) E}

@@ -16,9 +16,10 @@ pub record Holds (disk : DiskView) (images : Images) (db : DbValue) : Type 0 whe
   pub size1 : length sides.side1 ≤ max_size
   pub has : DbOf sides (stored db)
 
--- the disk as it reads has this damage
-pub record IsDamaged (disk : DiskView) (side at : ℕ) : Type 0 where
+-- the disk as it reads has this damage, and is its one image
+pub record IsDamaged (disk : DiskView) (images : Images) (side at : ℕ) : Type 0 where
   -- the bytes of the sides, also where the disk doesn't tell them
   pub sides : Sides
   pub told : IfSome disk.seen (λ seen. seen ≡ sides)
+  pub only : IfSome disk.seen (OnlyImage images)
   pub has : DbOf sides (damaged side at)

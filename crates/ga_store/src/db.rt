@@ -1,12 +1,12 @@
-ghost use Rattle.std.specs.Prelude.{◌≡◌, ◌↔◌, ◌+◌, ◌<◌, ℕ, Some, IsErrOf, OnErr, OnOk};
+ghost use Rattle.std.specs.Prelude.{◌≡◌, ◌↔◌, ◌+◌, ◌<◌, ◌≤◌, ℕ, Some, IsErrOf, OnErr, OnOk};
 ghost use Rattle.ga_base.specs.declared.counts.Counter.{Counter};
+ghost use Rattle.ga_base.specs.declared.counts.TheConstants.{LIMIT};
 ghost use Rattle.ga_summary.specs.Limits.{passes};
 ghost use Rattle.ga_base.specs.Totals.{totals_plus};
 ghost use Rattle.ga_summary.specs.Sums.{IsMerged};
 ghost use Rattle.ga_summary.specs.declared.fault.MergeFault.{MergeFault};
 ghost use Rattle.ga_codec.specs.Values.{delta_value, snapshot_value};
 ghost use Rattle.ga_store.specs.Database.{empty_db, of_snapshot};
-ghost use Rattle.ga_store.specs.Store.{db_value};
 
 use crate::found::{FirstPart, RecordPart};
 use ga_base::Entries;
@@ -29,9 +29,12 @@ pub struct Db {
     pub records: u64,
     /// The place of the first closed gate behind them.
     pub slot: u64,
+    ghost numbered: { generation ≤ LIMIT },
 }
 
 impl Db {
+    ghost use Rattle.ga_store.specs.Store.{db_value};
+
     /// The database where nothing is stored.
     pub fn empty(alloc: Global) -> Db
         ensures { db_value result ≡ empty_db }

@@ -1,3 +1,6 @@
+ghost use Rattle.std.specs.Prelude.{◌≤◌};
+ghost use Rattle.ga_base.specs.declared.counts.TheConstants.{LIMIT};
+
 use ga_codec::{Delta, Snapshot};
 
 /// The snapshot at the start of a side, and the place of the gate behind it.
@@ -5,6 +8,7 @@ use ga_codec::{Delta, Snapshot};
 pub(crate) struct FirstPart {
     pub(crate) snapshot: Snapshot,
     pub(crate) next: u64,
+    ghost numbered: { snapshot.generation ≤ LIMIT },
 }
 
 /// A run record on a side, and the place of the gate behind it.

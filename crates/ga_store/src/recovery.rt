@@ -3,7 +3,7 @@ ghost use Rattle.ga_counters.specs.Counts.{raised};
 ghost use Rattle.ga_disk.specs.Disk.{max_size};
 ghost use Rattle.ga_disk.specs.Images.{OnlyImage};
 ghost use Rattle.ga_disk.specs.Sides.{of_side};
-ghost use Rattle.ga_store.specs.Store.{Looks, Recovers, is_disk_fault};
+ghost use Rattle.ga_store.specs.Store.{Looks, Recovers, SyncsBoth, is_disk_fault};
 ghost use Rattle.ga_store.specs.Steps.Recovery.{Fetches, IsOutside, IsSide};
 ghost use Rattle.ga_store.specs.declared.fault.StoreFault.TheVariants.{DiskFault};
 
@@ -15,12 +15,12 @@ use std::alloc::Global;
 /// The most bytes that one call reads.
 const PIECE: usize = 1 << 20;
 
-/// Recovers the database of an open disk: it syncs both sides, then reads them.
+/// Recovers the database of an open disk: it syncs side 0, then side 1, and then reads them.
 ///
 /// The syncs come first, so that a gate that reads open is open in every image from then on.
 pub fn recover<D: Disk>(alloc: Global, disk: &mut D) -> Result<Db, StoreFault>
     requires { IsTrue (D.view disk.old).is_open }
-    ensures { Recovers (D.view disk.old) (D.view disk.new) (D.images disk.old) (D.images disk.new) result }
+    ensures { Recovers D.view D.images disk.old disk.new result }
 {
     settle(disk)?;
     let side0 = read_side(alloc, disk, 0)?;
@@ -28,11 +28,12 @@ pub fn recover<D: Disk>(alloc: Global, disk: &mut D) -> Result<Db, StoreFault>
     read_sides(alloc, &side0, &side1)
 }
 
-/// Syncs both sides.
+/// Syncs both sides, side 0 first.
 fn settle<D: Disk>(disk: &mut D) -> Result<(), StoreFault>
     requires { IsTrue (D.view disk.old).is_open }
     ensures looks { Looks (is_disk_fault result) (D.view disk.old) (D.view disk.new) (D.images disk.old) (D.images disk.new) }
     ensures calls { OnOk result ((D.view disk.new).counts.calls ≡ raised (D.view disk.old).counts.calls 2) }
+    ensures order { OnOk result (SyncsBoth D.view D.images disk.old disk.new) }
     ensures settled { OnOk result (IfSome (D.view disk.old).seen (OnlyImage (D.images disk.new))) }
     ensures only { IfErr result (λ fault. fault ≡ DiskFault) }
 {

@@ -1,5 +1,5 @@
 -- What the steps of recovery answer.
-use Rattle.std.specs.Prelude.{◌≡◌, ℕ, ◌+◌, ◌≤◌, false, List, length, Option, Some, None, Result, Ok, Err, IfSome}
+use Rattle.std.specs.Prelude.{◌≡◌, ℕ, ◌+◌, ◌*◌, ◌<◌, ◌≤◌, false, List, length, Option, Some, None, Result, Ok, Err, IfSome}
 use Rattle.ga_counters.specs.Counts.{raised}
 use Rattle.ga_codec.specs.Values.{DeltaValue, delta_value, snapshot_value}
 use Rattle.ga_codec.specs.Shapes.{SpellDelta}
@@ -8,7 +8,7 @@ use Rattle.ga_disk.specs.Sides.{of_side}
 use Rattle.ga_store.specs.SideParts.{IsPartAt, is_open_at, part_bytes}
 use Rattle.ga_store.specs.Database.{DbValue, HasSnapshot, LacksSnapshot, Reading, TakesOn}
 use Rattle.ga_store.specs.Database.Reading.{damaged, stored}
-use Rattle.ga_store.specs.Store.{InPieces, db_value}
+use Rattle.ga_store.specs.Store.{db_value, most_read}
 use Rattle.ga_store.specs.declared.db.Db.{Db}
 use Rattle.ga_store.specs.declared.fault.StoreFault.{StoreFault}
 use Rattle.ga_store.specs.declared.fault.StoreFault.TheVariants.{CounterFull, Damaged, DiskFault, NoMemory}
@@ -21,6 +21,11 @@ use Rattle.ga_store.specs.declared.found.RecordPart.{RecordPart}
 pub record IsSide (side : ℕ) (disk : DiskView) (bytes : List ℕ) : Type 0 where
   pub told : IfSome disk.seen (λ seen. bytes ≡ of_side side seen)
   pub size : length bytes ≤ max_size
+
+-- so many bytes are read by this number of calls, each of which but the last reads as many as one may
+pub record InPieces (bytes reads : ℕ) : Type 0 where
+  pub enough : bytes ≤ reads * most_read
+  pub none_over : reads * most_read < bytes + most_read
 
 -- so many bytes were read piece by piece, beside so many other calls
 pub record Fetches (others bytes : ℕ) (disk disk' : DiskView) : Type 0 where

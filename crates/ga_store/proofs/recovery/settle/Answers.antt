@@ -28,3 +28,10 @@ returns-clause-looks g c =
     let first = looks-ok c.in_ok-sync.ensures.syncs.ok (sync_call c.sync.ensures.syncs) (synced-same c.sync.ensures.leaves) in
     let second = looks-ok c.in_ok-sync-2.ensures.syncs.ok (sync_call c.sync-2.ensures.syncs) (synced-same c.sync-2.ensures.leaves) in
     looks-then (g.D.Disk.counts_now c.args.disk.now) first second
+
+pub returns-clause-order : goal.returns-clause-order
+returns-clause-order g c = record {
+  between = c.sync.new.self;
+  sync0 = record { one_call = c.in_ok-sync.ensures.syncs.ok; durable = c.in_ok-sync.ensures.leaves.durable; leaves = synced-same c.sync.ensures.leaves };
+  sync1 = record { one_call = c.in_ok-sync-2.ensures.syncs.ok; durable = c.in_ok-sync-2.ensures.leaves.durable; leaves = synced-same c.sync-2.ensures.leaves };
+}
