@@ -16,7 +16,7 @@ use Rattle.ga_tallies.specs.Tallies.{AreTalliesOf, IsTallyOf, TakesIn, TallySeen
 use Rattle.ga_outcomes.specs.declared.setup.Setup.{Setup}
 use Rattle.ga_draws.specs.Draws.{AreAllBelow, once_below, times}
 use Rattle.ga_workers.specs.Steps.Drawing.{AllCount, Came, IsCame, IsDone, TalliesDrawn, all_lines, of_pieces, outcomes_in}
-use Rattle.ga_workers.specs.Together.{AreAlike, CountsOn}
+use Rattle.ga_workers.specs.Together.{AreAlike, CountOnApart, CountsByEach, CountsOn}
 use Rattle.ga_workers.proofs.Alike.{alike-append, alike-refl, alike-same, alike-swap, alike-trans, countable-append}
 use Rattle.ga_outcomes.proofs.Behind.{have_outcomes-append}
 
@@ -125,6 +125,32 @@ all-counted setup pieces (d ∷ drawn) (o ∷ old) (n ∷ new) all =
               (alike-trans _ _ _ (alike-append (p ++ outcomes_in f) (p ++ outcomes_in f) (together parts ++ outcomes_in r) (together more) (alike-refl (p ++ outcomes_in f)) alike)
               (alike-same _ _ (sym (together-cons (p ++ outcomes_in f) more))))),
         )
+
+-- what each of the workers counted by itself
+record EachPart (came : List Came) (old new : List TallySeen) : Type 0 where
+  parts : List (List Outcome)
+  apart : CountOnApart parts old new
+  whole : together parts ≡ outcomes_in came
+
+each-part : (setup : Setup) (pieces : List (List ℕ)) (drawn : List (List ℕ)) (old new : List TallySeen) (all : AllCount setup pieces drawn old new)
+    → EachPart (all-counted setup pieces drawn old new all).came old new
+unfolding all-counted
+each-part setup pieces [] [] [] all = record { parts = []; apart = tt; whole = refl }
+each-part setup pieces [] [] (n ∷ new) all = absurd all
+each-part setup pieces [] (o ∷ old) new all = absurd all
+each-part setup pieces (d ∷ drawn) [] new all = absurd all
+each-part setup pieces (d ∷ drawn) (o ∷ old) [] all = absurd all
+each-part setup pieces (d ∷ drawn) (o ∷ old) (n ∷ new) all =
+    let rest = each-part setup pieces drawn old new all.1 in
+    let first = all.0.counts in
+    let others = (all-counted setup pieces drawn old new all.1).came in
+    record {
+      parts = outcomes_in first.came ∷ rest.parts;
+      apart = (first.tally, rest.apart);
+      whole = together-cons (outcomes_in first.came) rest.parts
+          ∙ ap (λ (l : List Outcome). outcomes_in first.came ++ l) rest.whole
+          ∙ sym (flat_map-append (λ (c : Came). c.outcomes) first.came others);
+    }
 
 -- how often a number stands in lists
 times-cons : (k x : ℕ) (xs : List ℕ) → times k (x ∷ xs) ≡ cond (eqb x k) 1 0 + times k xs
@@ -323,4 +349,7 @@ tallies-of-lines setup pieces drawn old new some all below =
             tallies_of = are';
             alike = alike-trans _ _ _ (alike-append before (together are.parts) row.outcomes (outcomes_in counted.came) are.alike row.alike) alike;
           };
+      by_each =
+          let apart = each-part setup pieces drawn old new all in
+          record { parts = apart.parts; apart = apart.apart; alike = alike-trans _ _ _ row.alike (alike-same _ _ (sym apart.whole)) };
     }

@@ -4,7 +4,7 @@ ghost use Rattle.ga_base.specs.declared.counts.Counter.{Counter as TheCounter};
 ghost use Rattle.ga_base.specs.declared.limits.TheConstants.{MAX_BATCH, MAX_JOBS};
 ghost use Rattle.ga_line.specs.Lines.{lines};
 ghost use Rattle.ga_outcomes.specs.LineOutcomes.{FillsAmong};
-ghost use Rattle.ga_workers.specs.Together.{AreCounted, CountsOn, totals_in};
+ghost use Rattle.ga_workers.specs.Together.{AreCounted, CountsOn, HasTallyForEach, totals_in};
 
 use crate::counter_limits::{counters, counters_within, full_counter};
 use crate::drawing::count_pieces;
@@ -21,6 +21,7 @@ use std::thread::Threads;
 /// Tallies of no lines, one for each worker. Their dictionaries hash by `keyed`.
 pub fn new_tallies(alloc: Global, keyed: Keyed, jobs: u32) -> Result<Vec<Tally>, NoMemory>
     ensures len { IfOk result (λ tallies. vec_len tallies ≡ jobs) }
+    ensures each { IfOk result (λ tallies. HasTallyForEach jobs tallies.items) }
     ensures none { IfOk result (λ tallies. AreCounted [] tallies.items) }
     ensures totals { IfOk result (λ tallies. totals_in tallies.items ≡ no_totals) }
 {

@@ -20,4 +20,4 @@ pub use counter_limits::counters;
 pub use crew::Crew;
 pub use fault::PoolFault;
 pub use run_keyed::keyed_by;
-pub use workers::Workers;
+pub use workers::{JOB_BATCH, Workers};
