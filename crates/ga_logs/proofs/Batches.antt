@@ -28,7 +28,7 @@ EndedKeep = (text : List ℕ) → IsEnded text → KeepsItsLines text
 
 module _ (law : EndedKeep) where
   -- whether the rest is kept makes no difference where there is none
-  whole-lines : (text : List ℕ) → IsEnded text → lines text true ≡ lines text false
+  pub whole-lines : (text : List ℕ) → IsEnded text → lines text true ≡ lines text false
   whole-lines text ended =
       ap (λ (t : List ℕ). lines t true) (sym (append-nil text)) ∙ law text ended [] true ∙ append-nil (lines text false)
 
@@ -90,7 +90,7 @@ module _ (law : EndedKeep) (setup : Setup) (old new : CountingSeen) (batch : Lis
       let part = kept_part stream b'.ended keep in
       let whole : cut_lines part ≡ h.taken ++ batch = last.lines ∙ ap (λ (t : List ℕ). h.taken ++ t) is in
       let counted = subst (λ (t : List ℕ). HasCounted setup (before ++ lines t true) new) (sym whole) (more before h.taken h.holds.whole h.counted) in
-      let along = counted-along new.full setup new.start (before ++ lines (cut_lines part) true) (before ++ lines part true) new.tallies
+      let along = counted-along new.full setup new.start.totals (before ++ lines (cut_lines part) true) (before ++ lines part true) new.tallies
       (behind-same before (lines (cut_lines part) true) (lines part true) (held-lines cuts part true)) counted in
       (last.ended, subst (λ (ls : List (List ℕ)). HasCounted setup (before ++ ls) new) (kept-lines law stream b'.ended keep last.ended) along)
 

@@ -1,5 +1,5 @@
 -- Lines counted behind lines.
-use Rattle.std.proofs.Common.{◌≡◌, ℕ, List, [], ◌∷◌, ◌++◌, length, Option, Some, None, Vec, Global, refl, sym, ap, ◌∙◌, subst, arith, append_assoc}
+use Rattle.std.proofs.Common.{◌≡◌, ℕ, List, [], ◌∷◌, ◌++◌, length, Option, Some, None, Vec, Global, refl, sym, ap, ◌∙◌, subst, arith, append_assoc, inl, inr}
 use Rattle.ga_base.specs.declared.counts.Counter.{Counter}
 use Rattle.ga_base.specs.declared.counts.Totals.{Totals}
 use Rattle.ga_outcomes.proofs.Behind.{have_outcomes-append, or_else-none, over-append, plus-assoc, totals-cons}
@@ -10,7 +10,7 @@ use Rattle.ga_workers.proofs.Alike.{countable-append}
 use Rattle.ga_workers.proofs.Together.{counted-totals}
 use Rattle.ga_workers.proofs.WeighedLines.{over-none}
 use Rattle.ga_workers.specs.Together.{AreCounted, CountsOn, totals_in}
-use Rattle.ga_logs.specs.Counting.{AreTallied, HasCountedBy, LinesAreCounted}
+use Rattle.ga_logs.specs.Counting.{AreTallied, HasCountedBy, HaveTallies, LinesAreCounted}
 use Rattle.ga_logs.specs.Steps.Counting.{AreSome}
 use Rattle.ga_logs.specs.declared.full.Full.{Full}
 use Rattle.ga_summary.specs.Limits.{over, passes}
@@ -128,3 +128,8 @@ module _ (start : Totals) (old new : List TallySeen) (is : old ≡ []) (none : A
   pub has-begun : (setup : Setup) (before : List (List ℕ)) (o : Option Full) → HasCountedBy o setup start before old → HasCountedBy o setup start before new
   has-begun setup before (Some full) h = h
   has-begun setup before None h = record { outcomes = h.outcomes; have_outcomes = h.have_outcomes; tallied = begun h.outcomes h.tallied }
+
+-- tallies that were counted on into are as many
+pub have-on : (jobs : ℕ) (old new : List TallySeen) → HaveTallies jobs old → length new ≡ length old → HaveTallies jobs new
+have-on jobs old new (inl none) many = inl (no-items new (many ∙ ap (λ (ts : List TallySeen). length ts) none))
+have-on jobs old new (inr each) many = inr (many ∙ each)

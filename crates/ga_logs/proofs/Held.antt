@@ -1,7 +1,7 @@
 -- A line and its front say the same, and so do a text and the text with its lines as they are held.
 use Rattle.std.proofs.Common.{◌≡◌, ℕ, suc, ◌-◌, ◌<◌, ◌≤◌, Bool, true, false, List, [], ◌∷◌, ◌++◌, length, take, map, refl, sym, ap, ◌∙◌, subst, inl, inr, arith, get_or, ⊎_elim, take_all, length-take}
 use Rattle.std.proofs.lemmas.List.{length-take-le}
-use Rattle.std.specs.Prelude.{◌==◌, if◌then◌else◌, ⊤, Option}
+use Rattle.std.specs.Prelude.{◌==◌, ◌↔◌, if◌then◌else◌, ⊤, Option}
 use Rattle.std.specs.Str.Lines.{strip_carriage_return}
 use Rattle.std.proofs.lemmas.Bool.{cases_lt}
 use Rattle.ga_base.specs.declared.counts.Counter.{Counter}
@@ -9,7 +9,8 @@ use Rattle.ga_base.specs.declared.counts.Totals.{Totals}
 use Rattle.ga_base.specs.declared.record.Line.{Line}
 use Rattle.ga_base.specs.declared.record.Line.TheVariants.{Skipped, Failed, Good}
 use Rattle.ga_batches.specs.Lines.{cut_line, cut_lines, pieces}
-use Rattle.ga_batches.specs.Laws.{CutsEachPiece}
+use Rattle.ga_batches.specs.Batches.{BatcherSeen, Feeds, held}
+use Rattle.ga_batches.specs.Laws.{CutsEachPiece, CutsOnce}
 use Rattle.ga_batches.specs.declared.batcher.TheConstants.{LINE_HELD}
 use Rattle.ga_line.specs.Lines.{lines, lines_of_pieces, unended_line}
 use Rattle.ga_base.specs.declared.record.TheConstants.{MAX_LINE}
@@ -24,10 +25,20 @@ use Rattle.ga_summary.specs.Outcomes.{Outcome}
 
 -- what the one line says, the other does
 abbrev pub SaysSame : List ℕ → List ℕ → Type 0
-SaysSame a b = (setup : LineSetup) (said : Line) → IsLineOf setup a said → IsLineOf setup b said
+SaysSame a b = (setup : LineSetup) (said : Line) → IsLineOf setup a said ↔ IsLineOf setup b said
 
 pub same-line : (a b : List ℕ) → a ≡ b → SaysSame a b
-same-line a b e setup said h = subst (λ (l : List ℕ). IsLineOf setup l said) e h
+same-line a b e setup said =
+    (λ h. subst (λ (l : List ℕ). IsLineOf setup l said) e h, λ h. subst (λ (l : List ℕ). IsLineOf setup l said) (sym e) h)
+
+says-back : (a b : List ℕ) → SaysSame a b → SaysSame b a
+says-back a b same setup said = let h = same setup said in (h.1, h.0)
+
+says-then : (a b c : List ℕ) → SaysSame a b → SaysSame b c → SaysSame a c
+says-then a b c same more setup said =
+    let h = same setup said in
+    let k = more setup said in
+    (λ x. k.0 (h.0 x), λ x. h.1 (k.1 x))
 
 -- both begin with this byte, and are longer than a line that is read
 record AreLong (first : ℕ) (a b : List ℕ) : Type 0 where
@@ -45,10 +56,15 @@ passed-along first a b rest other e f (inr (comment, is)) =
     let same : first ≡ 35 = cc h in
     inr (other, f ∙ ap (λ (x : ℕ). x ∷ other) same)
 
+long-says : (first : ℕ) (a b : List ℕ) → AreLong first a b → (setup : LineSetup) (said : Line) → IsLineOf setup a said → IsLineOf setup b said
+long-says first a b l setup Skipped h = passed-along first a b l.rest l.other l.is l.is' h
+long-says first a b l setup Failed (not, fails) = (λ passed. not (passed-along first b a l.other l.rest l.is' l.is passed), too_long l.long')
+long-says first a b l setup (Good rec) (not, sound, more) = absurd (sound (too_long l.long))
+
 long-same : (first : ℕ) (a b : List ℕ) → AreLong first a b → SaysSame a b
-long-same first a b l setup Skipped h = passed-along first a b l.rest l.other l.is l.is' h
-long-same first a b l setup Failed (not, fails) = (λ passed. not (passed-along first b a l.other l.rest l.is' l.is passed), too_long l.long')
-long-same first a b l setup (Good rec) (not, sound, more) = absurd (sound (too_long l.long))
+long-same first a b l setup said =
+    let back : AreLong first b a = record { rest = l.other; other = l.rest; is = l.is'; is' = l.is; long = l.long'; long' = l.long } in
+    (long-says first a b l setup said, long-says first b a back setup said)
 
 -- a line without its carriage return begins as it did, and is shorter by one byte at most
 strip-front : (b c : ℕ) (rest : List ℕ) → (r : List ℕ) × (strip_carriage_return (b ∷ c ∷ rest) ≡ b ∷ r) × (suc (length rest) ≤ length (strip_carriage_return (b ∷ c ∷ rest)))
@@ -132,7 +148,21 @@ SayTheSame (a ∷ xs) [] = ⊥
 SayTheSame (a ∷ xs) (b ∷ ys) = SaysSame a b × SayTheSame xs ys
 
 comes-along : (setup : Setup) (a b : List ℕ) (outcome : Option Outcome) → SaysSame a b → HasOutcome setup a outcome → HasOutcome setup b outcome
-comes-along setup a b outcome same (said, says, is) = (said, same setup.line said says, is)
+comes-along setup a b outcome same (said, says, is) = (said, (same setup.line said).0 says, is)
+
+say-back : (xs ys : List (List ℕ)) → SayTheSame xs ys → SayTheSame ys xs
+say-back [] [] same = tt
+say-back [] (b ∷ ys) same = absurd same
+say-back (a ∷ xs) [] same = absurd same
+say-back (a ∷ xs) (b ∷ ys) (first, more) = (says-back a b first, say-back xs ys more)
+
+say-then : (xs ys zs : List (List ℕ)) → SayTheSame xs ys → SayTheSame ys zs → SayTheSame xs zs
+say-then [] [] [] same next = tt
+say-then [] [] (c ∷ zs) same next = absurd next
+say-then [] (b ∷ ys) zs same next = absurd same
+say-then (a ∷ xs) [] zs same next = absurd same
+say-then (a ∷ xs) (b ∷ ys) [] same next = absurd next
+say-then (a ∷ xs) (b ∷ ys) (c ∷ zs) (first, more) (first', more') = (says-then a b c first first', say-then xs ys zs more more')
 
 pub have_outcomes-along : (setup : Setup) (xs ys : List (List ℕ)) (os : List Outcome) → SayTheSame xs ys → HaveOutcomes setup xs os → HaveOutcomes setup ys os
 have_outcomes-along setup [] [] os same h = h
@@ -140,6 +170,9 @@ have_outcomes-along setup [] (b ∷ ys) os same h = absurd same
 have_outcomes-along setup (a ∷ xs) [] os same h = absurd same
 have_outcomes-along setup (a ∷ xs) (b ∷ ys) os (first, more) (one, rest, comes, have_outcomes, is) =
     (one, rest, comes-along setup a b one first comes, have_outcomes-along setup xs ys rest more have_outcomes, is)
+
+pub have_outcomes-both : (setup : Setup) (xs ys : List (List ℕ)) (os : List Outcome) → SayTheSame xs ys → HaveOutcomes setup xs os ↔ HaveOutcomes setup ys os
+have_outcomes-both setup xs ys os same = (have_outcomes-along setup xs ys os same, have_outcomes-along setup ys xs os (say-back xs ys same))
 
 -- what stands in front, and what behind
 split-along : (front back ys : List (List ℕ)) → SayTheSame (front ++ back) ys
@@ -177,3 +210,13 @@ held-pieces (piece ∷ next ∷ more) keep = (held-piece piece, held-pieces (nex
 pub held-lines : CutsEachPiece → (text : List ℕ) (keep : Bool) → SayTheSame (lines (cut_lines text) keep) (lines text keep)
 held-lines law text keep =
     subst (λ (ps : List (List ℕ)). SayTheSame (lines_of_pieces ps keep) (lines text keep)) (sym (law text)) (held-pieces (pieces text) keep)
+
+-- what is held once bytes were fed says what was held before and the bytes say, whatever follows
+pub fed-lines : CutsEachPiece → CutsOnce → (bytes more : List ℕ) (old new : BatcherSeen) (keep : Bool) → Feeds bytes old new
+    → SayTheSame (lines (held new ++ more) keep) (lines ((held old ++ bytes) ++ more) keep)
+fed-lines pieces once bytes more old new keep feeds =
+    let now = held new ++ more in
+    let all = (held old ++ bytes) ++ more in
+    let same : cut_lines now ≡ cut_lines all = ap (λ (t : List ℕ). cut_lines (t ++ more)) feeds.lines ∙ once (held old ++ bytes) more in
+    let cut = subst (λ (t : List ℕ). SayTheSame (lines t keep) (lines all keep)) (sym same) (held-lines pieces all keep) in
+    say-then (lines now keep) (lines (cut_lines now) keep) (lines all keep) (say-back (lines (cut_lines now) keep) (lines now keep) (held-lines pieces now keep)) cut

@@ -2,6 +2,7 @@ pub mod Held
 pub mod Counts
 pub mod Absorbed
 pub mod Batches
+pub mod FedLines
 pub mod AsTold
 pub mod LogsSteps
 pub mod OneCourse

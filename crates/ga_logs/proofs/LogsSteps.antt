@@ -8,7 +8,7 @@ use Rattle.ga_resume.specs.declared.fault.PlaceFault.{PlaceFault}
 use Rattle.ga_resume.specs.declared.fault.PlaceFault.TheVariants.{FileFault, FileShort, NoMemory}
 use Rattle.ga_outcomes.specs.LineOutcomes.{FillsAmong}
 use Rattle.ga_outcomes.specs.declared.setup.Setup.{Setup}
-use Rattle.ga_logs.specs.Counting.{AreInTotal, CountingSeen, HasCounted, HasCountedBy, LinesAreCounted}
+use Rattle.ga_logs.specs.Counting.{AreInTotal, CountingSeen, CountingStart, HasCounted, HasCountedBy, LinesAreCounted}
 use Rattle.ga_logs.specs.declared.full.CountingFault.{CountingFault}
 use Rattle.ga_logs.specs.declared.full.CountingFault.TheVariants.{Full as CounterFull, NoMemory as CountingNoMemory}
 use Rattle.ga_logs.specs.declared.full.Full.{Full as TheFull}
@@ -84,11 +84,11 @@ lines-more n follow ps p =
 
 -- the generator's lines are counted, and no log was read
 pub counted-none : (setup : Setup) (start : Start) (n : Option ℕ) (entries : List Entry) (files : FilesView) (old new : CountingSeen)
-    → old.start ≡ start.totals → HasCounted setup [] old → Adds setup (generated_lines n) old new → HasCountedLogs setup start n [] entries entries files files new
+    → old.start.totals ≡ start.totals → HasCounted setup [] old → Adds setup (generated_lines n) old new → HasCountedLogs setup start n [] entries entries files files new
 counted-none setup start n entries files old new begun none adds = record {
   portions = [];
   read = read_all;
-  begun = adds.start ∙ begun;
+  begun = ap (λ (s : CountingStart). s.totals) adds.start ∙ begun;
   counted = subst (λ (ls : List (List ℕ)). HasCounted setup ls new) (sym (append-nil (generated_lines n))) (adds.counted [] none);
 }
 
@@ -99,7 +99,7 @@ pub counted-more : (setup : Setup) (start : Start) (n : Option ℕ) (front : Lis
 counted-more setup start n front name es es' es'' a b c old new h one = record {
   portions = h.portions ++ one.portion ∷ [];
   read = read-more h.read one.read one.follows;
-  begun = one.adds.start ∙ h.begun;
+  begun = ap (λ (s : CountingStart). s.totals) one.adds.start ∙ h.begun;
   counted = subst (λ (ls : List (List ℕ)). HasCounted setup ls new) (sym (lines-more n start.follow h.portions one.portion))
       (one.adds.counted (counted_lines n start.follow h.portions) h.counted);
 }
@@ -107,7 +107,7 @@ counted-more setup start n front name es es' es'' a b c old new h one = record {
 -- all logs were counted
 pub counts-logs : (setup : Setup) (start : Start) (n : Option ℕ) (names : List (List ℕ)) (es es' : List Entry) (a b : FilesView) (counting : CountingSeen) (total : TallySeen)
     → HasCountedLogs setup start n names es es' a b counting
-    → ((s : Setup) (all : List (List ℕ)) → HasCounted s all counting → AreInTotal s counting.start all total) → CountsLogs setup start n names es es' a b total
+    → ((s : Setup) (all : List (List ℕ)) → HasCounted s all counting → AreInTotal s counting.start.totals all total) → CountsLogs setup start n names es es' a b total
 counts-logs setup start n names es es' a b counting total h sums = record {
   portions = h.portions;
   read = h.read;
@@ -131,7 +131,7 @@ none-failed-log place NoMemory none = tt
 -- there is no sum of what was counted of some logs
 pub stops-sum : (setup : Setup) (start : Start) (n : Option ℕ) (names front back : List (List ℕ)) → names ≡ front ++ back → (es es' : List Entry) (a b : FilesView) (counting : CountingSeen)
     → HasCountedLogs setup start n front es es' a b counting → (fault : CountingFault)
-    → ((full : TheFull) → fault ≡ CounterFull full → (s : Setup) (all : List (List ℕ)) → HasCounted s all counting → FillsAmong s counting.start all full.which full.total)
+    → ((full : TheFull) → fault ≡ CounterFull full → (s : Setup) (all : List (List ℕ)) → HasCounted s all counting → FillsAmong s counting.start.totals all full.which full.total)
     → StopsLogs setup start n names es a b (fault_of_counting fault)
 stops-sum setup start n names front back split es es' a b counting h (CounterFull full) fills = record {
   portions = h.portions;
@@ -144,7 +144,7 @@ stops-sum setup start n names front back split es es' a b counting h CountingNoM
 pub stops-full : (setup : Setup) (start : Start) (n : Option ℕ) (names front back : List (List ℕ)) → names ≡ front ++ back → (es es' : List Entry) (a b : FilesView) (counting : CountingSeen)
     → HasCountedLogs setup start n front es es' a b counting → (full : TheFull) → counting.full ≡ Some full → StopsLogs setup start n names es a b (fault_of_full full)
 stops-full setup start n names front back split es es' a b counting h full is =
-    let fills = subst (λ (o : Option TheFull). HasCountedBy o setup counting.start (counted_lines n start.follow h.portions) counting.tallies) is h.counted in
+    let fills = subst (λ (o : Option TheFull). HasCountedBy o setup counting.start.totals (counted_lines n start.follow h.portions) counting.tallies) is h.counted in
     record { portions = h.portions; read = rw split (some-of-all back h.read); fills = rw h.begun at fills }
 
 -- lines that are counted fill no counter
@@ -156,7 +156,7 @@ module _ (setup : Setup) (start : Start) (n : Option ℕ) (names front back : Li
     (es es' : List Entry) (a b c : FilesView) (old : CountingSeen) (h : HasCountedLogs setup start n front es es' a b old) (unfilled : old.full ≡ None) where
   fit : LinesFit setup start.totals (counted_lines n start.follow h.portions)
   fit =
-      let lines = subst (λ (o : Option TheFull). HasCountedBy o setup old.start (counted_lines n start.follow h.portions) old.tallies) unfilled h.counted in
+      let lines = subst (λ (o : Option TheFull). HasCountedBy o setup old.start.totals (counted_lines n start.follow h.portions) old.tallies) unfilled h.counted in
       rw h.begun at (lines-fit lines)
 
   misses : (place : ℕ) (fault : PlaceFault) → place ≡ length front → MissesLog start.follow es' name b c fault → MissesLogs setup start n names es a c place fault

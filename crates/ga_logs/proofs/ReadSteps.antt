@@ -11,8 +11,8 @@ use Rattle.ga_resume.specs.declared.fault.PlaceFault.{PlaceFault}
 use Rattle.ga_resume.specs.declared.fault.PlaceFault.TheVariants.{FileFault, FileShort, NoMemory}
 use Rattle.ga_resume.specs.declared.segment.Segment.{Segment}
 use Rattle.ga_logs.specs.Following.{AsksFor, CanServe, CanServeOne, HandsOut, IsCause, MissesLog, ReadsPortion}
-use Rattle.ga_logs.specs.Portions.{Begins, IsPortionOf, front_of}
-use Rattle.ga_logs.specs.Steps.ReadPortion.{BeginsLog, OpensLog, front_size, opened}
+use Rattle.ga_logs.specs.Portions.{Begins, IsPortionOf, front_of, front_size}
+use Rattle.ga_logs.specs.Steps.ReadPortion.{BeginsLog, OpensLog, opened}
 use Rattle.ga_logs.specs.declared.follow.Follow.{Follow}
 use Rattle.ga_logs.specs.declared.follow.Follow.TheVariants.{Whole, ToEnd, ToLastLine}
 
@@ -156,6 +156,7 @@ module _ (follow : Follow) (es : List Entry) (name : List ℕ) (a m c : FilesVie
             }) front-told (if_some-both (λ log. s.end ≡ length log) (λ log. bytes ≡ part_of s.from s.end log) (λ log. (s.end ≡ length log) × (bytes ≡ part_of s.from s.end log))
             (told name a.contents) (λ log size e. (size, e)) end-told part);
         size = ap (λ (x : FilesView). x.measured) went.others ∙ ap (λ (x : FilesView). x.measured) begun.files;
+        given = went.given ∙ ap (λ (x : FilesView). raised x.counts.given (s.end - s.from)) begun.files ∙ raised-twice a.counts.given (front_size follow s.end) (s.end - s.from);
         faults = ap (λ (x : FilesView). x.counts.faults) read.files ∙ ap (λ (x : FilesView). x.counts.faults) begun.files;
         shorts = ap (λ (x : FilesView). x.counts.shorts) read.files ∙ ap (λ (x : FilesView). x.counts.shorts) begun.files;
         short_at = ap (λ (x : FilesView). x.counts.short_at) read.files ∙ ap (λ (x : FilesView). x.counts.short_at) begun.files;

@@ -55,6 +55,7 @@ fills-none from v batcher going = record {
   read = read-none from v;
   going = going;
   fed = omega arith;
+  limit = refl;
   holds = λ stream taken h. subst (λ (s : List ℕ). Holds s taken batcher) (sym (append-nil stream)) h;
 }
 
@@ -66,6 +67,7 @@ fills-then from at to v w u b0 b1 b2 begun on a b = record {
   read = read-then from at to v w u a.part b.part begun on a.read b.read;
   going = b.going;
   fed = omega (arith, a.fed, b.fed, length-append a.part b.part);
+  limit = b.limit ∙ a.limit;
   holds = λ stream taken h. subst (λ (s : List ℕ). Holds s taken b2) (append_assoc stream a.part b.part) (b.holds (stream ++ a.part) taken (a.holds stream taken h));
 }
 
@@ -80,6 +82,7 @@ fills-slice at n buffer v w b0 b1 taken slice going whole feeds holds =
       read = read-slice at n buffer v w slice;
       going = feeds.going ∙ going;
       fed = feeds.fed ∙ ap (λ (xs : List ℕ). b0.fed + length xs) all;
+      limit = feeds.limit;
       holds = λ stream before h. subst (λ (xs : List ℕ). Holds (stream ++ xs) before b1) all (holds stream before h);
     }
 
@@ -89,6 +92,7 @@ fills-slice at n buffer v w b0 b1 taken slice going whole feeds holds =
 pub record Waits (setup : Setup) (part : List ℕ) (counting counting' : CountingSeen) (last : List ℕ) (batcher batcher' : BatcherSeen) : Type 0 where
   pub going : batcher'.is_over ≡ false
   pub fed : batcher'.fed ≡ batcher.fed + length part
+  pub limit : batcher'.limit ≡ batcher.limit
   pub start : counting'.start ≡ counting.start
   pub within : (before : List (List ℕ)) (stream : List ℕ) → IsWithin setup before stream counting batcher
       → IsBehind setup before (stream ++ part) counting' last batcher'
@@ -98,6 +102,7 @@ pub waits-none : (setup : Setup) (counting : CountingSeen) (batcher : BatcherSee
 waits-none setup counting batcher going = record {
   going = going;
   fed = omega arith;
+  limit = refl;
   start = refl;
   within = λ before stream h. behind-none setup before (stream ++ []) counting batcher
       (subst (λ (s : List ℕ). IsWithin setup before s counting batcher) (sym (append-nil stream)) h);
@@ -106,12 +111,13 @@ waits-none setup counting batcher going = record {
 -- the batch that waited was counted while more was fed, and the next one was taken
 pub waits-on : (setup : Setup) (part more : List ℕ) (c0 c1 c2 : CountingSeen) (last next : List ℕ) (b0 b1 b2 b3 : BatcherSeen)
     → Waits setup part c0 c1 last b0 b1 → CountsTaken setup last c1 c2
-    → b2.is_over ≡ false → b2.fed ≡ b1.fed + length more → ((stream taken : List ℕ) → Holds stream taken b1 → Holds (stream ++ more) taken b2)
-    → b3.is_over ≡ b2.is_over → b3.fed ≡ b2.fed → ((stream taken : List ℕ) → Holds stream taken b2 → Holds stream (taken ++ next) b3)
+    → b2.is_over ≡ false → b2.fed ≡ b1.fed + length more → b2.limit ≡ b1.limit → ((stream taken : List ℕ) → Holds stream taken b1 → Holds (stream ++ more) taken b2)
+    → b3.is_over ≡ b2.is_over → b3.fed ≡ b2.fed → b3.limit ≡ b2.limit → ((stream taken : List ℕ) → Holds stream taken b2 → Holds stream (taken ++ next) b3)
     → Waits setup (part ++ more) c0 c2 next b0 b3
-waits-on setup part more c0 c1 c2 last next b0 b1 b2 b3 a counts on fed holds going same takes = record {
+waits-on setup part more c0 c1 c2 last next b0 b1 b2 b3 a counts on fed wide holds going same kept takes = record {
   going = going ∙ on;
   fed = omega (arith, same, a.fed, fed, length-append part more);
+  limit = kept ∙ wide ∙ a.limit;
   start = counts.start ∙ a.start;
   within = λ before stream h.
       let counted = counts.within before (stream ++ part) b1 (a.within before stream h) in
@@ -135,19 +141,19 @@ feeds-none setup from v counting batcher going = record { part = []; read = read
 -- the batch that waited was counted while more was fed, and the next one was taken
 pub feeds-on : (setup : Setup) (from at to most : ℕ) (v w u : FilesView) (c0 c1 c2 : CountingSeen) (last next : List ℕ) (b0 b1 b2 b3 : BatcherSeen) → from ≤ at → at ≤ to
     → FeedsBehind setup from at v w c0 c1 last b0 b1 → FillsBehind setup at most to w u c1 c2 last b1 b2
-    → b3.is_over ≡ b2.is_over → b3.fed ≡ b2.fed → ((stream taken : List ℕ) → Holds stream taken b2 → Holds stream (taken ++ next) b3)
+    → b3.is_over ≡ b2.is_over → b3.fed ≡ b2.fed → b3.limit ≡ b2.limit → ((stream taken : List ℕ) → Holds stream taken b2 → Holds stream (taken ++ next) b3)
     → FeedsBehind setup from to v u c0 c2 next b0 b3
-feeds-on setup from at to most v w u c0 c1 c2 last next b0 b1 b2 b3 begun on a b going fed takes =
+feeds-on setup from at to most v w u c0 c1 c2 last next b0 b1 b2 b3 begun on a b going fed kept takes =
     let fills = b.fills.fills in
     record {
       part = a.part ++ fills.part;
       read = read-then from at to v w u a.part fills.part begun on a.read fills.read;
-      waits = waits-on setup a.part fills.part c0 c1 c2 last next b0 b1 b2 b3 a.waits b.counts fills.going fills.fed (λ s taken. fills.holds s taken) going fed takes;
+      waits = waits-on setup a.part fills.part c0 c1 c2 last next b0 b1 b2 b3 a.waits b.counts fills.going fills.fed fills.limit (λ s taken. fills.holds s taken) going fed kept takes;
     }
 
 -- what stays once a batch was taken
-pub after-taking : (b b' : BatcherSeen) → b' ≡ record b { batch = [] } → (b'.is_over ≡ b.is_over) × (b'.fed ≡ b.fed) × (length b'.batch ≡ 0)
-after-taking b b' value = (ap (λ (v : BatcherSeen). v.is_over) value, ap (λ (v : BatcherSeen). v.fed) value, ap (λ (v : BatcherSeen). length v.batch) value)
+pub after-taking : (b b' : BatcherSeen) → b' ≡ record b { batch = [] } → (b'.is_over ≡ b.is_over) × (b'.fed ≡ b.fed) × (b'.limit ≡ b.limit) × (length b'.batch ≡ 0)
+after-taking b b' value = (ap (λ (v : BatcherSeen). v.is_over) value, ap (λ (v : BatcherSeen). v.fed) value, ap (λ (v : BatcherSeen). v.limit) value, ap (λ (v : BatcherSeen). length v.batch) value)
 
 -- the last one was counted
 pub within-all : (setup : Setup) (part : List ℕ) (c0 c1 c2 : CountingSeen) (last : List ℕ) (b0 b1 : BatcherSeen) → Waits setup part c0 c1 last b0 b1
@@ -164,6 +170,7 @@ feeds-all setup from to v w c0 c1 c2 last b0 b1 a start counts = record {
   read = a.read;
   going = a.waits.going;
   fed = a.waits.fed;
+  limit = a.waits.limit;
   start = start ∙ a.waits.start;
   within = within-all setup a.part c0 c1 c2 last b0 b1 a.waits counts;
 }

@@ -10,7 +10,8 @@ use Rattle.ga_ports.specs.Files.{Contents, FilesView, told, is_absent}
 use Rattle.ga_resume.specs.Entries.{IsChoice}
 use Rattle.ga_resume.specs.declared.fault.PlaceFault.{PlaceFault}
 use Rattle.ga_resume.specs.declared.fault.PlaceFault.TheVariants.{FileFault, FileShort, NoMemory}
-use Rattle.ga_logs.specs.Portions.{Begins, Follows, IsPortionOf}
+use Rattle.ga_resume.specs.declared.segment.Segment.{Segment}
+use Rattle.ga_logs.specs.Portions.{Begins, Follows, IsPortionOf, front_size}
 use Rattle.ga_logs.specs.declared.follow.Follow.{Follow}
 use Rattle.ga_logs.specs.declared.follow.Follow.TheVariants.{Whole, ToEnd, ToLastLine}
 use Rattle.ga_logs.specs.declared.portion.Portion.{Portion}
@@ -38,6 +39,12 @@ pub record AsksFor (follow : Follow) (entries : List Entry) (name : List ℕ) (o
   -- nothing else changed but which file is open and the counts
   pub others : new ≡ record old { is_open = new.is_open; bytes = new.bytes; measured = new.measured; counts = new.counts }
 
+-- handed out was what a run reads of the log, and nothing else: the first bytes by which it is known again, and those from where
+-- the run begins it to its end. This holds of contents that aren't told too
+abbrev pub HandsOutFrom : Follow → Segment → FilesView → FilesView → Type 0
+HandsOutFrom follow segment old new =
+    new.counts.given ≡ raised old.counts.given (front_size follow segment.end + (segment.end - segment.from))
+
 -- a portion of the log was read, and no call failed in between
 pub record ReadsPortion (follow : Follow) (entries : List Entry) (name : List ℕ) (old new : FilesView) (portion : Portion) : Type 0 where
   pub asks : AsksFor follow entries name old new
@@ -45,6 +52,7 @@ pub record ReadsPortion (follow : Follow) (entries : List Entry) (name : List �
   pub long : portion.segment.from + length portion.bytes ≡ portion.segment.end
   pub told : IfSome (told name old.contents) (λ log. IsPortionOf follow entries log portion)
   pub size : new.measured ≡ Some portion.segment.end
+  pub given : HandsOutFrom follow portion.segment old new
   pub faults : new.counts.faults ≡ old.counts.faults
   pub shorts : new.counts.shorts ≡ old.counts.shorts
   pub short_at : new.counts.short_at ≡ old.counts.short_at

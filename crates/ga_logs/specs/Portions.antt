@@ -1,5 +1,5 @@
 -- Which part of a log a run counts, by the entries that the runs before it left, and what becomes of these.
-use Rattle.std.specs.Prelude.{◌≡◌, ℕ, ◌+◌, ◌≤◌, Bool, true, false, List, [], length, take, drop, ◌++◌, Option, Some, None}
+use Rattle.std.specs.Prelude.{◌≡◌, ℕ, ◌+◌, ◌≤◌, Bool, true, false, List, [], length, min, take, drop, ◌++◌, Option, Some, None}
 use Rattle.std.specs.List.{flat_map}
 use Rattle.ga_base.specs.declared.entry.Entry.{Entry}
 use Rattle.ga_generate.specs.Lines.{generated}
@@ -24,6 +24,12 @@ abbrev pub front_of : Follow → List ℕ → List ℕ
 front_of Whole log = []
 front_of ToEnd log = take FRONT log
 front_of ToLastLine log = take FRONT log
+
+-- how many they are, of a log of this size
+abbrev pub front_size : Follow → ℕ → ℕ
+front_size Whole size = 0
+front_size ToEnd size = min size FRONT
+front_size ToLastLine size = min size FRONT
 
 -- the part of this log that a run reads
 pub record IsPortionOf (follow : Follow) (entries : List Entry) (log : List ℕ) (portion : Portion) : Type 0 where

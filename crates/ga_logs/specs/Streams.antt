@@ -1,5 +1,5 @@
 -- What was counted of a stream so far, behind the lines of the streams before it.
-use Rattle.std.specs.Prelude.{ℕ, true, List, ◌++◌}
+use Rattle.std.specs.Prelude.{ℕ, true, List, [], ◌∷◌, ◌++◌}
 use Rattle.ga_batches.specs.Batches.{BatcherSeen, Holds}
 use Rattle.ga_base.specs.Lines.{IsEnded}
 use Rattle.ga_line.specs.Lines.{lines}
@@ -18,3 +18,8 @@ pub record IsBehind (setup : Setup) (before : List (List ℕ)) (stream : List �
   pub whole : IsEnded taken
   pub holds : Holds stream (taken ++ last) batcher
   pub counted : HasCounted setup (before ++ lines taken true) counting
+
+-- the lines of batches, one behind the other
+abbrev pub batch_lines : List (List ℕ) → List (List ℕ)
+batch_lines [] = []
+batch_lines (batch ∷ batches) = lines batch true ++ batch_lines batches

@@ -3,6 +3,7 @@ ghost use Rattle.ga_ports.specs.Trace.{FilesTrace};
 ghost use Rattle.ga_resume.specs.declared.fault.PlaceFault.TheVariants.{FileFault};
 ghost use Rattle.ga_workers.specs.Workers.{AreWorkers};
 ghost use Rattle.ga_base.specs.Totals.{LinesAdd, TotalsFit};
+ghost use Rattle.ga_logs.specs.Counting.{IsCountedBy};
 ghost use Rattle.ga_logs.specs.Following.{CanServe, CanServeOne};
 ghost use Rattle.ga_logs.specs.Logs.{CountsLogs, NoneFailed, StopsLogs};
 ghost use Rattle.ga_logs.specs.Portions.{Begins, Follows, generated_lines};
@@ -42,9 +43,11 @@ pub fn count_logs<R: Threads + Sync, G: Gate, F: Files>(
     ensures stops { IfErr result (StopsLogs crew.now.setup.now start generated names.now entries.old (F.view files.old) (F.view files.new)) }
     ensures calls { FilesTrace (F.view files.old) (F.view files.new) }
     ensures sure { CanServe names.now (F.view files.old) → IfErr result NoneFailed }
+    // It is counted by the workers of the crew, a tally for each, and in batches of so many bytes at most.
+    ensures counted_by { IfOk result (IsCountedBy crew.now.workers start.totals) }
 {
     files_stay();
-    let mut counting = Counting::new(crew.alloc, start.totals);
+    let mut counting = Counting::new(crew.alloc, start.totals, crew.workers);
     count_generated(crew, generated, &mut counting)?;
     for (place, name) in names.iter().enumerate() {
         // No log is read once a counter is full.

@@ -1,5 +1,4 @@
 ghost use Rattle.std.specs.Prelude.{◌≡◌, ◌≢◌, ◌-◌, ◌+◌, ◌<◌, ◌≤◌, ◌++◌, ◌^◌, ℕ, List, [], true, false, IfOk, IfErr, IfSome, IsSome, IsTrue, OnOk, length};
-ghost use Rattle.ga_base.specs.declared.limits.TheConstants.{MAX_BATCH};
 ghost use Rattle.ga_batches.specs.Batches.{Holds, held};
 ghost use Rattle.ga_line.specs.Lines.{lines};
 ghost use Rattle.ga_logs.specs.Steps.Streaming.{Adds, CanFeed, CanFill, CountsPart, CountsTaken, FeedsFront, FeedsPart, FillsBehind, FillsOrStops, FillsPart, HasCountedSome};
@@ -17,12 +16,9 @@ use ga_batches::Batcher;
 use ga_ports::laws::files_stay;
 use ga_ports::{Files, Gate};
 use ga_resume::{PlaceFault, read_slice, slice_buffer};
-use ga_workers::{Crew, Workers};
+use ga_workers::{Crew, JOB_BATCH};
 use std::alloc::Global;
 use std::thread::Threads;
-
-/// How many bytes a batch has for each worker.
-const JOB: u64 = 1_048_576;
 
 /// A part of the open file.
 #[derive(Clone, Copy)]
@@ -42,7 +38,7 @@ pub(crate) fn count_text<R: Threads + Sync, G: Gate>(
     requires { AreWorkers crew.now.workers }
     ensures { OnOk result (Adds crew.now.setup.now (lines text.now true) counting.old counting.new) }
 {
-    let mut batcher = batcher_for(crew.alloc, crew.workers)?;
+    let mut batcher = counting.batcher(crew.alloc)?;
     feed_text(crew, text, counting, &mut batcher)?;
     end(crew, text.len() as u64, counting, &mut batcher, true)?;
     Ok(())
@@ -58,8 +54,10 @@ fn feed_text<R: Threads + Sync, G: Gate>(
     requires workers { AreWorkers crew.now.workers }
     requires going { batcher.old.is_over ≡ false }
     requires fed { batcher.old.fed ≡ 0 }
+    requires limit { batcher.old.limit ≡ counting.old.start.limit }
     requires room { length (held batcher.old) < batcher.old.limit }
     ensures going { OnOk result (batcher.new.is_over ≡ false) }
+    ensures limit { OnOk result (batcher.new.limit ≡ batcher.old.limit) }
     ensures start { OnOk result (counting.new.start ≡ counting.old.start) }
     ensures within { OnOk result ((before : List (List ℕ)) (stream : List ℕ) → IsWithin crew.now.setup.now before stream counting.old batcher.old
         → IsWithin crew.now.setup.now before (stream ++ text.now) counting.new batcher.new) }
@@ -88,7 +86,7 @@ fn feed_and_count<R: Threads + Sync, G: Gate>(
 ) -> (Result<(), NoMemory>, u64)
     requires workers { AreWorkers crew.now.workers }
     requires can_feed { CanFeed text.now batcher.old }
-    requires small { length taken.now ≤ MAX_BATCH }
+    requires small { length taken.now ≤ counting.old.start.limit }
     ensures counts { OnOk result.0 (CountsTaken crew.now.setup.now taken.now counting.old counting.new) }
     ensures feeds { FeedsFront result.1 text.now batcher.old batcher.new }
 {
@@ -121,21 +119,10 @@ pub(crate) fn count_part<R: Threads + Sync, G: Gate, F: Files>(
     ensures sure { NoneDue (F.view files.old).listed (F.view files.old).counts.calls → IfErr result (λ fault. fault ≢ FileFault) }
 {
     let mut buffer = slice_buffer(crew.alloc)?;
-    let mut batcher = batcher_for(crew.alloc, crew.workers)?;
+    let mut batcher = counting.batcher(crew.alloc)?;
     feed_part(crew, part, &mut buffer, files, counting, &mut batcher)?;
     let ended = end(crew, part.to, counting, &mut batcher, keep)?;
     Ok(ended)
-}
-
-/// A batcher for a stream that these workers count.
-fn batcher_for(alloc: Global, workers: Workers) -> Result<Batcher, NoMemory>
-    requires { AreWorkers workers }
-    ensures going { IfOk result (λ batcher. batcher.is_over ≡ false) }
-    ensures fed { IfOk result (λ batcher. batcher.fed ≡ 0) }
-    ensures room { IfOk result (λ batcher. length (held batcher) < batcher.limit) }
-    ensures stream { IfOk result (λ batcher. Holds [] [] batcher) }
-{
-    Batcher::new(alloc, u64::from(workers.jobs) * JOB)
 }
 
 /// Feeds a part of the open file to a batcher, and counts each batch but the last while the next is read.
@@ -156,6 +143,7 @@ fn feed_part<R: Threads + Sync, G: Gate, F: Files>(
     requires some { 0 < length buffer.old }
     requires going { batcher.old.is_over ≡ false }
     requires fed { batcher.old.fed ≡ 0 }
+    requires limit { batcher.old.limit ≡ counting.old.start.limit }
     requires room { length (held batcher.old) < batcher.old.limit }
     ensures ok { OnOk result (FeedsPart crew.now.setup.now part.from part.to (F.view files.old) (F.view files.new) counting.old counting.new batcher.old batcher.new) }
     ensures failed { IfErr result (λ fault. StopsWithin (part.to - part.from) (F.view files.old) (F.view files.new) fault) }
@@ -189,7 +177,7 @@ fn fill_and_count<R: Threads + Sync, G: Gate, F: Files>(
 ) -> Result<u64, PlaceFault>
     requires workers { AreWorkers crew.now.workers }
     requires can_fill { CanFill part.from part.to buffer.old (F.view files.old) batcher.old }
-    requires small { length taken.now ≤ MAX_BATCH }
+    requires small { length taken.now ≤ counting.old.start.limit }
     ensures ok { IfOk result (λ end. FillsBehind crew.now.setup.now part.from part.to end (F.view files.old) (F.view files.new) counting.old counting.new taken.now batcher.old batcher.new) }
     ensures failed { IfErr result (λ fault. StopsWithin (part.to - part.from) (F.view files.old) (F.view files.new) fault) }
     ensures calls { FilesTrace (F.view files.old) (F.view files.new) }
@@ -213,7 +201,7 @@ fn side_by_side<R: Threads + Sync, G: Gate, F: Files>(
 ) -> (Result<(), NoMemory>, Result<u64, PlaceFault>)
     requires workers { AreWorkers crew.now.workers }
     requires can_fill { CanFill part.from part.to buffer.old (F.view files.old) batcher.old }
-    requires small { length taken.now ≤ MAX_BATCH }
+    requires small { length taken.now ≤ counting.old.start.limit }
     ensures counts { OnOk result.0 (CountsTaken crew.now.setup.now taken.now counting.old counting.new) }
     ensures fills { FillsOrStops part.from part.to (F.view files.old) (F.view files.new) batcher.old batcher.new result.1 }
 {
@@ -241,7 +229,7 @@ fn fill<F: Files>(
     // That the number of calls doesn't fall, for the proof alone.
     files_stay();
     let mut at = part.from;
-    while at < part.to && batcher.room() > 0 && !(is_alone && at - part.from >= JOB) {
+    while at < part.to && batcher.room() > 0 && !(is_alone && at - part.from >= JOB_BATCH) {
         at += fill_slice(at, part.to, buffer, files, batcher)? as u64;
     }
     Ok(at)

@@ -1,7 +1,6 @@
 ghost use Rattle.std.specs.Prelude.{◌≡◌, ◌≤◌, ◌++◌, ℕ, List, false, IfOk, OnOk, length};
 ghost use Rattle.ga_batches.specs.Batches.{BatcherSeen};
 ghost use Rattle.ga_base.specs.Lines.{AreEnded};
-ghost use Rattle.ga_base.specs.declared.limits.TheConstants.{MAX_BATCH};
 ghost use Rattle.ga_line.specs.Lines.{lines};
 ghost use Rattle.ga_logs.specs.Counting.{HasCounted};
 ghost use Rattle.ga_workers.specs.Workers.{AreWorkers};
@@ -26,7 +25,7 @@ pub(crate) fn count_taken<R: Threads + Sync, G: Gate, F: FnMut() -> X, X>(
     meanwhile: &mut F,
 ) -> (Result<(), NoMemory>, X)
     requires workers { AreWorkers crew.now.workers }
-    requires small { length taken.now ≤ MAX_BATCH }
+    requires small { length taken.now ≤ counting.old.start.limit }
     requires meanwhile { F.pre meanwhile.old }
     ensures start { OnOk result.0 (counting.new.start ≡ counting.old.start) }
     ensures within { OnOk result.0 ((before : List (List ℕ)) (stream : List ℕ) (batcher : BatcherSeen)
@@ -49,6 +48,7 @@ pub(crate) fn end<R: Threads + Sync, G: Gate>(
 ) -> Result<u64, NoMemory>
     requires workers { AreWorkers crew.now.workers }
     requires going { batcher.old.is_over ≡ false }
+    requires limit { batcher.old.limit ≡ counting.old.start.limit }
     ensures start { OnOk result (counting.new.start ≡ counting.old.start) }
     ensures ended { IfOk result (λ ended. (before : List (List ℕ)) (stream : List ℕ) → IsWithin crew.now.setup.now before stream counting.old batcher.old
         → AreEnded stream ended × HasCounted crew.now.setup.now (before ++ lines stream keep) counting.new) }

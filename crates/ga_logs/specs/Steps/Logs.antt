@@ -42,7 +42,7 @@ pub record HasCountedLogs (setup : Setup) (start : Start) (generated : Option �
     (files files' : FilesView) (counting : CountingSeen) : Type 0 where
   pub portions : List Portion
   pub read : ReadsAll start.follow names entries entries' files files' portions
-  pub begun : counting.start ≡ start.totals
+  pub begun : counting.start.totals ≡ start.totals
   pub counted : HasCounted setup (counted_lines generated start.follow portions) counting
 
 -- the fault of the log at a place, and of counting

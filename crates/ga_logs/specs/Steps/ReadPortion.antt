@@ -1,23 +1,15 @@
 -- Where a run begins the open file, and what it leaves where that fails.
-use Rattle.std.specs.Prelude.{◌≡◌, ℕ, true, false, List, length, min, None, IfSome}
-use Rattle.ga_base.specs.declared.limits.TheConstants.{FRONT}
+use Rattle.std.specs.Prelude.{◌≡◌, ℕ, true, false, List, length, None, IfSome}
 use Rattle.ga_base.specs.declared.entry.Entry.{Entry}
-use Rattle.ga_base.specs.declared.limits.TheConstants.{FRONT}
 use Rattle.ga_ports.specs.Files.{FilesView, Fails, asks, calls_once, is_absent, told}
 use Rattle.ga_resume.specs.ReadPart.{after_reads}
 use Rattle.ga_resume.specs.Segment.{MissesPlace, measured_as}
 use Rattle.ga_resume.specs.declared.fault.PlaceFault.{PlaceFault}
 use Rattle.ga_resume.specs.declared.fault.PlaceFault.TheVariants.{FileFault}
 use Rattle.ga_resume.specs.declared.segment.Segment.{Segment}
-use Rattle.ga_logs.specs.Portions.{Begins, front_of}
+use Rattle.ga_logs.specs.Portions.{Begins, front_of, front_size}
 use Rattle.ga_logs.specs.declared.follow.Follow.{Follow}
 use Rattle.ga_logs.specs.declared.follow.Follow.TheVariants.{Whole, ToEnd, ToLastLine}
-
--- so many bytes are read to know a log again
-abbrev pub front_size : Follow → ℕ → ℕ
-front_size Whole size = 0
-front_size ToEnd size = min size FRONT
-front_size ToLastLine size = min size FRONT
 
 -- the size of the open file was asked for once, and no more than its front was read
 pub record BeginsLog (follow : Follow) (entries : List Entry) (old new : FilesView) (segment : Segment) : Type 0 where

@@ -29,6 +29,7 @@ pub record FeedsPart (setup : Setup) (from end : ℕ) (files files' : FilesView)
   pub read : ReadsPart from end files files' part
   pub going : batcher'.is_over ≡ false
   pub fed : batcher'.fed ≡ batcher.fed + length part
+  pub limit : batcher'.limit ≡ batcher.limit
   pub start : counting'.start ≡ counting.start
   pub within : (before : List (List ℕ)) (stream : List ℕ) → IsWithin setup before stream counting batcher
       → IsWithin setup before (stream ++ part) counting' batcher'
@@ -39,6 +40,7 @@ pub record FillsPart (from end : ℕ) (files files' : FilesView) (batcher batche
   pub read : ReadsPart from end files files' part
   pub going : batcher'.is_over ≡ false
   pub fed : batcher'.fed ≡ batcher.fed + length part
+  pub limit : batcher'.limit ≡ batcher.limit
   pub holds : (stream taken : List ℕ) → Holds stream taken batcher → Holds (stream ++ part) taken batcher'
 
 -- the open file can be read between these places, into a batcher that has room
@@ -72,6 +74,7 @@ pub record FeedsFront (count : ℕ) (text : List ℕ) (batcher batcher' : Batche
   pub within : count ≤ length text
   pub going : batcher'.is_over ≡ false
   pub fed : batcher'.fed ≡ batcher.fed + count
+  pub limit : batcher'.limit ≡ batcher.limit
   pub holds : (stream taken : List ℕ) → Holds stream taken batcher → Holds (stream ++ take count text) taken batcher'
 
 -- it was, or reading stopped

@@ -1,6 +1,7 @@
 use Rattle.std.proofs.Common.{◌≡◌, ◌+◌, ◌∷◌, ◌++◌, ◌∙◌, [], suc, sym, ap, subst, take, drop, take_all, arith, Err, slice_index_or}
 use Rattle.std.proofs.lemmas.Result.{err_from_is_err_and}
 use Rattle.ga_ports.specs.Trace.FilesTrace.{no_files_call, files_then}
+use Rattle.ga_logs.specs.Counting.{CountingStart, HaveTallies}
 use Rattle.ga_logs.specs.Steps.Logs.{HasCountedLogs}
 use Rattle.ga_logs.proofs.LogsSteps.{take-more, split-at, split-there, taken-length, counted-none, counted-more, counts-logs, none-failed, none-failed-log, stops-full, stops-more, stops-sum, wants-none}
 use Rattle.ga_logs.proofs.ReadSteps.{serves-one}
@@ -9,7 +10,8 @@ use Rattle.ga_logs.proofs.logs.count_logs.Goals as goal
 pub loop-place-init : goal.loop-place-init
 loop-place-init g c = record {
   within = omega arith;
-  counted = counted-none c.args.crew.now.setup.now c.args.start c.args.generated c.args.entries.now _ c.new-counting.result c.count_generated.new.counting c.new-counting.ensures.start
+  start = c.in_ok-count_generated.ensures.start ∙ c.new-counting.ensures.start;
+  counted = counted-none c.args.crew.now.setup.now c.args.start c.args.generated c.args.entries.now _ c.new-counting.result c.count_generated.new.counting (ap (λ (s : CountingStart). s.totals) c.new-counting.ensures.start)
       (c.new-counting.ensures.none c.args.crew.now.setup.now) c.in_ok-count_generated.ensures;
   went = no_files_call;
 }
@@ -67,6 +69,7 @@ loop-place-preserved g c =
     take-more names place c.index-names-place.result c.loop-place-test.true ∙ ap (λ name. take place names ++ name ∷ []) at in
     record {
       within = omega arith;
+      start = c.in-Ok.ensures.ok.adds.start ∙ c.loop-place.invariant.start;
       counted = subst (λ front. HasCountedLogs c.args.crew.now.setup.now c.args.start c.args.generated front c.args.entries.now c.count_one.new.entries (view c.args.files.now) (view c.count_one.new.files) c.count_one.new.counting) (sym next)
           (counted-more c.args.crew.now.setup.now c.args.start c.args.generated (take place names) c.index-names-place.result c.args.entries.now c.loop-place.entries c.count_one.new.entries (view c.args.files.now) (view c.loop-place.files) (view c.count_one.new.files) c.loop-place.counting c.count_one.new.counting c.loop-place.invariant.counted c.in-Ok.ensures.ok);
       went = files_then c.loop-place.invariant.went c.count_one.ensures.calls;
@@ -94,3 +97,13 @@ returns-clause-ok g c =
     let counted = subst (λ front. HasCountedLogs c.args.crew.now.setup.now c.args.start c.args.generated front c.args.entries.now c.loop-place.entries (view c.args.files.now) (view c.loop-place.files) c.loop-place.counting) whole
     c.loop-place.invariant.counted in
     counts-logs c.args.crew.now.setup.now c.args.start c.args.generated names c.args.entries.now c.loop-place.entries (view c.args.files.now) (view c.loop-place.files) c.loop-place.counting c.in_ok-total.total counted c.in_ok-total.ensures.ok
+
+pub returns-clause-counted_by : goal.returns-clause-counted_by
+returns-clause-counted_by g c =
+    let start = c.loop-place.invariant.start in
+    record {
+      counting = c.loop-place.counting;
+      start = start;
+      tallies = subst (λ (s : CountingStart). HaveTallies s.workers.jobs c.loop-place.counting.tallies) start c.into_total.ensures.tallies;
+      together = c.in_ok-total.ensures.together;
+    }

@@ -1,4 +1,5 @@
-use Rattle.std.proofs.Common.{arith, ◌-◌}
+use Rattle.std.proofs.Common.{arith, ◌-◌, ap, sym, ◌∙◌}
+use Rattle.ga_logs.specs.Counting.{CountingStart}
 use Rattle.std.proofs.lemmas.Result.{err_from_is_err_and}
 use Rattle.ga_ports.specs.Trace.FilesTrace.{no_files_call}
 use Rattle.ga_logs.proofs.StreamSteps.{adds, are-ended, wants-after}
@@ -28,3 +29,8 @@ returns-clause-ok g c =
       adds = adds c.args.crew.now.setup.now fed.part c.args.keep c.in_ok-ended.ended c.args.counting.now c.feed_part.new.counting c.end.new.counting c.in_ok-batcher.batcher c.feed_part.new.batcher
           c.in_ok-batcher.ensures.stream fed.within end.ended fed.start end.start;
     }
+
+pub end-requires-clause-limit : goal.end-requires-clause-limit
+end-requires-clause-limit g c κs within =
+    let fed = c.in_ok-feed_part.ensures.ok in
+    fed.limit ∙ c.in_ok-batcher.ensures.limit ∙ sym (ap (λ (s : CountingStart). s.limit) fed.start)

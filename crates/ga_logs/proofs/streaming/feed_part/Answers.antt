@@ -1,6 +1,7 @@
-use Rattle.std.proofs.Common.{arith, ◌≡◌, ◌-◌, ap, length, length-append, List, ℕ, subst, sym}
+use Rattle.std.proofs.Common.{arith, ◌≡◌, ◌∙◌, ◌-◌, ap, length, length-append, List, ℕ, subst, sym}
 use Rattle.std.proofs.lemmas.Result.{err_from_is_err_and}
 use Rattle.ga_ports.specs.Trace.FilesTrace.{no_files_call, files_then}
+use Rattle.ga_logs.specs.Counting.{CountingStart}
 use Rattle.ga_logs.proofs.Batches.{on-value}
 use Rattle.ga_resume.proofs.PartReads.{stops-more-within}
 use Rattle.ga_logs.proofs.StreamSteps.{FeedsBehind, after-taking, feeds-all, feeds-none, feeds-on, read-then, wants-after}
@@ -17,6 +18,7 @@ loop-at-init g c =
       went = no_files_call;
       some = c.requires.some;
       small = omega (arith, ap (λ (xs : List ℕ). length xs) none);
+      limit = c.requires.limit;
       room = c.requires.room;
       feeds = subst (λ (xs : List ℕ). FeedsBehind c.args.crew.now.setup.now c.args.part.from c.args.part.from v v c.args.counting.now c.args.counting.now xs c.args.batcher.now c.args.batcher.now) (sym none)
           (feeds-none c.args.crew.now.setup.now c.args.part.from v c.args.counting.now c.args.batcher.now c.requires.going);
@@ -31,6 +33,7 @@ loop-at-preserved g c =
     let b = c.take_into.new.self in
     let batcher = c.take_into.ensures.batcher in
     let stays = after-taking c.fill_and_count.new.batcher b took.value in
+    let same = ap (λ (s : CountingStart). s.limit) ok.counts.start in
     let v = view c.args.files.now in
     let w = view c.loop-at.files in
     let feeds = subst (λ (xs : List ℕ). FeedsBehind c.args.crew.now.setup.now c.args.part.from c.loop-at.at v w c.args.counting.now c.loop-at.counting xs c.args.batcher.now c.loop-at.batcher)
@@ -40,11 +43,12 @@ loop-at-preserved g c =
       begun = omega (arith, was.begun, ok.fills.some);
       went = files_then was.went c.fill_and_count.ensures.calls;
       some = omega (arith, was.some, c.loop-at.auto.buffer, c.fill_and_count.auto.buffer);
-      small = took.small;
-      room = omega (arith, stays.2, length-append b.batch b.begun, batcher.short, batcher.limit.0);
+      small = omega (arith, took.within, ok.fills.fills.limit, was.limit, same);
+      limit = stays.2 ∙ ok.fills.fills.limit ∙ was.limit ∙ sym same;
+      room = omega (arith, stays.3, length-append b.batch b.begun, batcher.short, batcher.limit.0);
       feeds = feeds-on c.args.crew.now.setup.now c.args.part.from c.loop-at.at c.in_ok-at.at c.args.part.to v w (view c.fill_and_count.new.files) c.args.counting.now c.loop-at.counting
           c.fill_and_count.new.counting c.deref.result.now c.take_into.new.spare.items c.args.batcher.now c.loop-at.batcher c.fill_and_count.new.batcher b was.begun (omega (arith, ok.fills.some))
-          feeds ok stays.0 stays.1 took.stream;
+          feeds ok stays.0 stays.1 stays.2 took.stream;
     }
 
 pub returns-in_err-at-clause-failed : goal.returns-in_err-at-clause-failed

@@ -1,6 +1,5 @@
-use Rattle.std.proofs.Common.{◌-◌, ◌<◌, ◌≤◌, length}
+use Rattle.std.proofs.Common.{◌≡◌, ◌-◌, ◌<◌, ◌≤◌, length}
 use Rattle.ga_batches.specs.Batches.{held}
-use Rattle.ga_base.specs.declared.limits.TheConstants.{MAX_BATCH}
 use Rattle.ga_ports.specs.Trace.{FilesTrace}
 use Rattle.ga_logs.proofs.StreamSteps.{FeedsBehind}
 use Rattle.ga_logs.proofs.streaming.feed_part.Given as goal
@@ -13,7 +12,8 @@ invariant-loop-at g l =
       begun : l.part.from ≤ l.at;
       went : FilesTrace (view l.initial.files) (view l.files);
       some : 0 < length l.buffer;
-      small : length l.taken.items ≤ MAX_BATCH;
+      small : length l.taken.items ≤ l.counting.start.limit;
+      limit : l.batcher.limit ≡ l.counting.start.limit;
       room : length (held l.batcher) < l.batcher.limit;
       feeds : FeedsBehind l.crew.setup.now l.part.from l.at (view l.initial.files) (view l.files) l.initial.counting l.counting l.taken.items l.initial.batcher l.batcher;
     }

@@ -1,4 +1,5 @@
 use Rattle.std.proofs.Common.{◌≡◌, ◌+◌, ◌++◌, ◌∙◌, ◌-◌, ◌≤◌, [], List, ℕ, arith, ap, length, length-append, length-take, take, drop, take_all, subst, sym}
+use Rattle.ga_logs.specs.Counting.{CountingStart}
 use Rattle.ga_logs.proofs.Batches.{on-ok, on-value, taken-long, taken-more, taken-of}
 use Rattle.ga_logs.proofs.StreamSteps.{Waits, after-taking, waits-none, waits-on, within-all}
 use Rattle.ga_logs.proofs.streaming.feed_text.Goals as goal
@@ -9,6 +10,7 @@ loop-at-init g c =
     record {
       within = omega arith;
       small = omega (arith, ap (λ (xs : List ℕ). length xs) none);
+      limit = c.requires.limit;
       room = c.requires.room;
       waits = subst (λ (xs : List ℕ). Waits c.args.crew.now.setup.now [] c.args.counting.now c.args.counting.now xs c.args.batcher.now c.args.batcher.now) (sym none)
           (waits-none c.args.crew.now.setup.now c.args.counting.now c.args.batcher.now c.requires.going);
@@ -33,13 +35,15 @@ loop-at-preserved g c =
     let whole : take at text ++ take n rest ≡ take (at + n) text = taken-more [] text at n was.within in
     let was-waiting = subst (λ (xs : List ℕ). Waits setup (take at text) c.args.counting.now c.loop-at.counting xs c.args.batcher.now c.loop-at.batcher) (sym c.deref.ensures.value) was.waits in
     let counts = on-value both.result.0 tt c.in_ok-counted.was both.ensures.counts in
+    let same = ap (λ (s : CountingStart). s.limit) counts.start in
     record {
       within = within;
-      small = took.small;
-      room = omega (arith, stays.2, length-append b.batch b.begun, batcher.short, batcher.limit.0);
+      small = omega (arith, took.within, fed.limit, was.limit, same);
+      limit = stays.2 ∙ fed.limit ∙ was.limit ∙ sym same;
+      room = omega (arith, stays.3, length-append b.batch b.begun, batcher.short, batcher.limit.0);
       waits = subst (λ (part : List ℕ). Waits setup part c.args.counting.now both.new.counting c.take_into.new.spare.items c.args.batcher.now b) whole
           (waits-on setup (take at text) (take n rest) c.args.counting.now c.loop-at.counting both.new.counting last c.take_into.new.spare.items c.args.batcher.now c.loop-at.batcher both.new.batcher b
-          was-waiting counts fed.going (fed.fed ∙ ap (λ (k : ℕ). c.loop-at.batcher.fed + k) (sym (taken-long text at n fed.within))) (λ stream taken. fed.holds stream taken) stays.0 stays.1 took.stream);
+          was-waiting counts fed.going (fed.fed ∙ ap (λ (k : ℕ). c.loop-at.batcher.fed + k) (sym (taken-long text at n fed.within))) fed.limit (λ stream taken. fed.holds stream taken) stays.0 stays.1 stays.2 took.stream);
     }
 
 pub returns-clause-within : goal.returns-clause-within

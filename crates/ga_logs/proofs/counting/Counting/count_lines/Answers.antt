@@ -1,8 +1,8 @@
-use Rattle.std.proofs.Common.{◌++◌, Option, Err, ap, sym, subst, true, arith, length, ◌∙◌}
+use Rattle.std.proofs.Common.{◌++◌, Option, Err, ap, sym, subst, true, arith, length, ◌∙◌, inl}
 use Rattle.ga_line.specs.Lines.{lines}
 use Rattle.ga_workers.proofs.Answers.{told-ok}
 use Rattle.ga_workers.specs.declared.fault.PoolFault.{PoolFault}
-use Rattle.ga_logs.proofs.Counts.{all-fit, as-many-on, counted-on, fills-behind, none-counted, same-items, some-none, some-on, unfilled}
+use Rattle.ga_logs.proofs.Counts.{all-fit, as-many-on, counted-on, fills-behind, have-on, none-counted, same-items, some-none, some-on, unfilled}
 use Rattle.ga_logs.specs.Counting.{CountingSeen, HasCounted, HasCountedBy}
 use Rattle.ga_logs.specs.declared.full.Full.{Full}
 use Rattle.ga_logs.proofs.counting.Counting.count_lines.Goals as goal
@@ -27,6 +27,8 @@ invariant_of-self g c =
       c.self.invariant.1,
       omega (arith, many, more.ok, inside.tallies.ok, c.self.invariant.2),
       λ none. some-on setup inside.start all inside.tallies.items given.items more.items same on fit (c.self.invariant.3 none),
+      c.self.invariant.4,
+      have-on inside.workers.jobs inside.tallies.items more.items c.self.invariant.5 many,
     )
 
 pub invariant_of-self-in-NoMemory : goal.invariant_of-self-in-NoMemory
@@ -37,6 +39,8 @@ invariant_of-self-in-NoMemory g c =
       c.self.invariant.1,
       omega (arith, ap length none, left.ok),
       λ _. some-none c.self.inside.start left.items (none-counted left.items none),
+      c.self.invariant.4,
+      inl none,
     )
 
 pub returns-in-Ok-clause-counted : goal.returns-in-Ok-clause-counted
@@ -68,3 +72,8 @@ returns-in-CounterFull-clause-counted g c before has =
     let was = unfilled inside.full setup inside.start before inside.tallies.items none held in
     fills-behind setup inside.start before (lines c.args.batch.now true) inside.tallies.items given.items which value same was
     (c.count_on-counted.ensures.full which value (c.in-Err.is ∙ ap (λ (fault : PoolFault). Err fault) c.in-CounterFull.is))
+
+pub count_on-counted-requires-clause-small : goal.count_on-counted-requires-clause-small
+count_on-counted-requires-clause-small g c κs within =
+    let limit = ap (λ (v : CountingSeen). v.start.limit) c.self.view_is in
+    omega (arith, c.requires.small, limit, c.self.invariant.4.jobs)

@@ -1,4 +1,7 @@
-use Rattle.std.proofs.Common.{sym, subst}
+use Rattle.std.proofs.Common.{List, sym, subst}
+use Rattle.ga_summary.specs.Outcomes.{Outcome}
+use Rattle.ga_tallies.specs.Tallies.{IsTallyOf}
+use Rattle.ga_workers.specs.Together.{AreCounted}
 use Rattle.ga_logs.proofs.Counts.{unfilled}
 use Rattle.ga_logs.specs.Counting.{AreInTotal, CountingSeen, HasCounted}
 use Rattle.ga_logs.proofs.counting.Counting.into_total.Goals as goal
@@ -19,4 +22,9 @@ returns-in_ok-total_of-in-None-clause-ok g c setup all has =
       countable = was.tallied.countable;
       fits = was.tallied.fits;
     } in
-    subst (λ (v : CountingSeen). AreInTotal setup v.start all total) c.self.view_is is
+    subst (λ (v : CountingSeen). AreInTotal setup v.start.totals all total) c.self.view_is is
+
+pub returns-in_ok-total_of-in-None-clause-together : goal.returns-in_ok-total_of-in-None-clause-together
+returns-in_ok-total_of-in-None-clause-together g c =
+    let total = c.in_ok-total_of-in-None.field-0 in
+    subst (λ (v : CountingSeen). (outcomes : List Outcome) → AreCounted outcomes v.tallies → IsTallyOf outcomes total) c.self.view_is c.in_ok-total_of-in-None.ensures
