@@ -1,15 +1,17 @@
 -- What a commit of prepared work says of a run.
-use Rattle.std.proofs.Common.{◌≡◌, ◌+◌, Bool, true, false, List, refl, ap, sym, ◌∙◌, subst, Option, Some, None, IfSome, Result, Ok, Err, OnOk, IfErr, map, length}
+use Rattle.std.proofs.Common.{◌≡◌, ℕ, ◌+◌, Bool, true, false, List, refl, ap, sym, ◌∙◌, subst, Option, Some, None, IfSome, Result, Ok, Err, OnOk, IfErr, map, length}
 use Rattle.std.specs.Prelude.{if◌then◌else◌}
+use Rattle.std.specs.Option.{unwrap_or}
 use Rattle.ga_base.specs.declared.entry.Entry.{Entry}
 use Rattle.ga_codec.specs.Values.{entry_value}
 use Rattle.ga_disk.specs.Disk.{DiskView}
 use Rattle.ga_disk.specs.Images.{Images}
-use Rattle.ga_disk.specs.Sides.{Sides}
-use Rattle.ga_keep.specs.RunDatabase.{IsAfter, IsKept, IsNext, IsNextBy, Keeps, MayKeep, mode_of}
+use Rattle.ga_disk.specs.Sides.{Sides, of_side}
+use Rattle.ga_keep.specs.RunDatabase.{IsAfter, IsKept, IsNext, IsNextBy, Keeps, MayKeep, keeping_calls, keeping_calls_by, mode_of}
 use Rattle.ga_keep.specs.Faults.{IsUnkept}
-use Rattle.ga_store.specs.Commit.{Makes, Work, adds_record, after_run, passes_generations}
-use Rattle.ga_store.specs.Commits.{AllHave, Commits, CommitsFrom, HasEither}
+use Rattle.ga_codec.specs.Values.{EntryValue}
+use Rattle.ga_store.specs.Commit.{IsWorkBy, IsWorkOf, Makes, Work, adds_record, after_run, closing_calls, commit_calls, passes_generations, tail_calls}
+use Rattle.ga_store.specs.Commits.{AllHave, Commits, CommitsFrom, HasEither, Takes}
 use Rattle.ga_store.specs.Database.{DbOf, DbValue, of_snapshot}
 use Rattle.ga_store.specs.Database.Reading.{stored as reads_as}
 use Rattle.ga_store.specs.Holding.{Holds}
@@ -21,6 +23,17 @@ use Rattle.ga_words.specs.declared.settings.Settings.{Settings}
 if_some-map : {A : Type 0} (P Q : A → Type 0) → (o : Option A) → ((x : A) → P x → Q x) → IfSome o P → IfSome o Q
 if_some-map P Q None step p = tt
 if_some-map P Q (Some x) step p = step x p
+
+-- the calls of a commit are those of its side, its gate and its kind
+abbrev calls-at : Sides → ℕ × ℕ × Bool → ℕ
+calls-at sides at = closing_calls at.1 (of_side at.0 sides) + tail_calls at.2 + 2
+
+calls-by : (adds : Bool) (work : Work) (old : DbValue) (run whole : SummaryValue) (entries : List EntryValue) (sides : Sides) → IsWorkBy adds old run whole entries work
+    → commit_calls work (of_side work.side sides) ≡ keeping_calls_by adds old sides
+calls-by true work old run whole entries sides is =
+    let side = sym (ap (λ (o : Option ℕ). unwrap_or o 0) is.side) in
+    ap (calls-at sides) (λ i. (side i, is.gate i, is.kind i))
+calls-by false work old run whole entries sides is = ap (calls-at sides) (λ i. (is.side i, is.gate i, is.kind i))
 
 module _ (work : Work) (old : DbValue) (mode : Mode) (whole : SummaryValue) (entries : List Entry) (d d' : DiskView) (i i' : Images)
     (holds : Holds d i old) (makes : Makes work old (after_run mode old whole (map entry_value entries) work)) where
@@ -47,19 +60,27 @@ module _ (work : Work) (old : DbValue) (mode : Mode) (whole : SummaryValue) (ent
       let same : seen ≡ holds.sides = subst (λ (o : Option Sides). IfSome o (λ s. s ≡ holds.sides)) e holds.told in
       subst (λ (s : Sides). DbOf s (reads_as old)) (sym same) holds.has
 
-  pub kept : (s : Settings) → mode_of s ≡ mode → passes_generations mode old ≡ false → (r : Result (Unit {0}) StoreFault) → Commits work d d' i i' r → IfSome d'.seen i'.now
+  pub kept : (s : Settings) (run : SummaryValue) → mode_of s ≡ mode → IsWorkOf mode old run whole (map entry_value entries) work → passes_generations mode old ≡ false → (r : Result (Unit {0}) StoreFault) → Commits work d d' i i' r → IfSome d'.seen i'.now
       → OnOk r (IsKept s old whole entries d d' i i')
-  kept s is room (Err e) commits image = tt
-  kept s is room (Ok unit) commits image = record {
+  kept s run is prepared room (Err e) commits image = tt
+  kept s run is prepared room (Ok unit) commits image = record {
     new = after_run mode old whole (map entry_value entries) work;
     after = after;
     next = subst (λ (m : Mode). IsNext m old (after_run mode old whole (map entry_value entries) work)) (sym is) next;
     room = ap (λ (m : Mode). passes_generations m old) is ∙ room;
     keeps = by-seen d.seen refl;
     faults = commits.no_fault;
+    calls = counted d.seen refl;
     frames = commits.frames;
   }
     where
+      counted : (o : Option Sides) → d.seen ≡ o → IfSome o (λ seen. Takes (keeping_calls (mode_of s) old seen) d d')
+      counted None e = tt
+      counted (Some seen) e =
+          let from = commits.told seen e old (after_run mode old whole (map entry_value entries) work) (has-old seen e) makes in
+          let same = calls-by (adds_record mode old) work old run whole (map entry_value entries) seen prepared ∙ sym (ap (λ (m : Mode). keeping_calls m old seen) is) in
+          subst (λ (n : ℕ). Takes n d d') same from.calls
+
       by-seen : (o : Option Sides) → d.seen ≡ o → IfSome o (λ seen. Keeps old (after_run mode old whole (map entry_value entries) work) d d' i i')
       by-seen None e = tt
       by-seen (Some seen) e =

@@ -1,19 +1,21 @@
 -- The database of a run: what the settings say of it, what the run starts from, and what it leaves.
-use Rattle.std.specs.Prelude.{◌≡◌, ◌⊎◌, ℕ, ◌+◌, ◌||◌, ◌&&◌, Bool, true, false, if◌then◌else◌, List, Some, IfSome, map}
+use Rattle.std.specs.Prelude.{◌≡◌, ◌⊎◌, ℕ, ◌+◌, ◌||◌, ◌&&◌, Bool, true, false, not, if◌then◌else◌, List, Some, IfSome, map}
+use Rattle.std.specs.Option.{unwrap_or}
 use Rattle.ga_base.specs.declared.entry.Entry.{Entry}
 use Rattle.ga_codec.specs.Values.{entry_value}
 use Rattle.ga_disk.specs.Disk.{DiskView}
 use Rattle.ga_disk.specs.Images.{Images, LeavesOnly}
-use Rattle.ga_disk.specs.Sides.{Sides}
+use Rattle.ga_disk.specs.Sides.{Sides, of_side}
 use Rattle.ga_logs.specs.declared.follow.Follow.{Follow}
 use Rattle.ga_logs.specs.declared.follow.Follow.TheVariants.{Whole, ToEnd, ToLastLine}
 use Rattle.ga_logs.specs.declared.start.Start.{Start}
 use Rattle.ga_counters.specs.Counts.{raised}
-use Rattle.ga_store.specs.Commit.{IsLater, MergesBy, adds_record, passes_generations}
-use Rattle.ga_store.specs.Commits.{AllHave, Frames, HasEither}
+use Rattle.ga_store.specs.Commit.{IsLater, MergesBy, adds_record, closing_calls, other_side, passes_generations, tail_calls}
+use Rattle.ga_store.specs.Commits.{AllHave, Frames, HasEither, Takes}
 use Rattle.ga_store.specs.Database.{DbOf, DbValue, empty_db}
 use Rattle.ga_store.specs.Database.Reading.{stored as reads_as}
 use Rattle.ga_store.specs.Holding.{Holds}
+use Rattle.ga_store.specs.Store.{recovery_calls}
 use Rattle.ga_store.specs.declared.mode.Mode.{Mode}
 use Rattle.ga_store.specs.declared.mode.Mode.TheVariants.{Append, Overwrite}
 use Rattle.ga_summary.specs.SummaryRows.{SummaryValue}
@@ -86,6 +88,10 @@ pub record Looked (s : Settings) (disk disk' : DiskView) (images images' : Image
 abbrev pub LooksAtMost : Settings → DiskView → DiskView → Images → Images → Type 0
 LooksAtMost s disk disk' images images' = IsUntouched disk disk' images images' ⊎ Looked s disk disk' images images'
 
+-- the calls by which a database is found on these sides: the disk is opened, and then recovered
+abbrev pub finding_calls : Sides → ℕ
+finding_calls sides = 1 + recovery_calls sides
+
 -- the disk was opened once, and holds this database
 pub record Recovered (s : Settings) (disk disk' : DiskView) (images images' : Images) (stored : DbValue) : Type 0 where
   pub looks : OnlyLooks disk disk' images images'
@@ -94,6 +100,8 @@ pub record Recovered (s : Settings) (disk disk' : DiskView) (images images' : Im
   pub opened : disk'.counts.opened ≡ raised disk.counts.opened 1
   pub path : IsPathOf s disk'
   pub faults : disk'.counts.faults ≡ disk.counts.faults
+  -- it took these calls and no others
+  pub calls : IfSome disk.seen (λ seen. Takes (finding_calls seen) disk disk')
 
 -- the database that a run found; one that uses none leaves the disk alone
 abbrev pub Finds : Settings → DiskView → DiskView → Images → Images → DbValue → Type 0
@@ -122,6 +130,28 @@ pub record IsNextBy (adds : Bool) (stored new : DbValue) : Type 0 where
 abbrev pub IsNext : Mode → DbValue → DbValue → Type 0
 IsNext mode stored new = IsNextBy (adds_record mode stored) stored new
 
+-- ---- the calls by which it is kept
+
+-- a record goes to the side of its database, and a generation to the other one
+abbrev pub side_for : Bool → DbValue → ℕ
+side_for true stored = unwrap_or stored.side 0
+side_for false stored = other_side stored.side
+
+-- a record goes behind the last one, and a generation to the start
+abbrev pub gate_for : Bool → DbValue → ℕ
+gate_for true stored = stored.slot
+gate_for false stored = 0
+
+-- a gate is closed, what is behind it is written, and the gate is opened by a write and a sync
+abbrev pub keeping_calls_by : Bool → DbValue → Sides → ℕ
+keeping_calls_by adds stored sides = closing_calls (gate_for adds stored) (of_side (side_for adds stored) sides) + tail_calls (not adds) + 2
+
+-- the calls by which a run is kept on these sides
+abbrev pub keeping_calls : Mode → DbValue → Sides → ℕ
+keeping_calls mode stored sides = keeping_calls_by (adds_record mode stored) stored sides
+
+-- ---- what is kept
+
 -- the run was kept, on a disk that tells what it reads: every image has the new database, and none has had another than it or
 -- the old one
 pub record Keeps (stored new : DbValue) (disk disk' : DiskView) (images images' : Images) : Type 0 where
@@ -149,6 +179,8 @@ pub record IsKept (s : Settings) (stored : DbValue) (whole : SummaryValue) (entr
   pub room : passes_generations (mode_of s) stored ≡ false
   pub keeps : IfSome disk.seen (λ seen. Keeps stored new disk disk' images images')
   pub faults : disk'.counts.faults ≡ disk.counts.faults
+  -- it took these calls and no others
+  pub calls : IfSome disk.seen (λ seen. Takes (keeping_calls (mode_of s) stored seen) disk disk')
   pub frames : Frames disk disk'
 
 -- a call of the disk failed while it was
