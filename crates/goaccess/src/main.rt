@@ -1,21 +1,14 @@
-//! The program goaccess: real files, a real disk and real targets behind the traits of the outside, and `program`, which runs over them.
+//! The program goaccess: `program`, over the files, the disk and the targets of the system.
 #![tactic(auto)]
 
 mod answers;
-#[cfg(test)]
-mod disk_tests;
 mod program;
-mod real_disk;
-mod real_files;
-mod real_outs;
 #[cfg(test)]
 mod tests;
 mod words;
 
+use ga_real::{RealDisk, RealFiles, RealOuts};
 use program::program;
-use real_disk::RealDisk;
-use real_files::RealFiles;
-use real_outs::RealOuts;
 use std::env;
 use std::process::ExitCode;
 

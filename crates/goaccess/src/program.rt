@@ -4,7 +4,7 @@ ghost use Rattle.std.specs.Process.{exit_status};
 ghost use Rattle.goaccess.specs.Program.{EndsOver, EndsWith, Lacks, words_in};
 ghost use Rattle.goaccess.specs.Words.{words_line, words_code};
 ghost use Rattle.ga_ports.specs.declared.outs.To.TheVariants.{Stderr};
-ghost use Rattle.ga_run.specs.World.{world_of};
+ghost use Rattle.ga_run.specs.Outside.{outside_of};
 ghost use Rattle.ga_run.specs.Printing.{ChangesOnly, TakesOrStops};
 
 use crate::answers::{answer_to, show};
@@ -30,11 +30,11 @@ pub fn program<R: Threads + Sync, F: Files, D: Disk, O: Outs>(
     outs: &mut O,
 ) -> ExitCode
     ensures over { IfOk arguments (λ given. EndsWith (words_in (into_iter_items given))
-        (world_of (F.view files.old) (D.view disk.old) (D.images disk.old) (O.view outs.old))
-        (world_of (F.view files.new) (D.view disk.new) (D.images disk.new) (O.view outs.new)) (exit_status result)) }
+        (outside_of (F.view files.old) (D.view disk.old) (D.images disk.old) (O.view outs.old))
+        (outside_of (F.view files.new) (D.view disk.new) (D.images disk.new) (O.view outs.new)) (exit_status result)) }
     ensures lacking { IfErr arguments (λ error. Lacks error
-        (world_of (F.view files.old) (D.view disk.old) (D.images disk.old) (O.view outs.old))
-        (world_of (F.view files.new) (D.view disk.new) (D.images disk.new) (O.view outs.new)) (exit_status result)) }
+        (outside_of (F.view files.old) (D.view disk.old) (D.images disk.old) (O.view outs.old))
+        (outside_of (F.view files.new) (D.view disk.new) (D.images disk.new) (O.view outs.new)) (exit_status result)) }
 {
     let code = match arguments {
         Ok(given) => match words(alloc, given) {
@@ -56,8 +56,8 @@ fn over_words<R: Threads + Sync, F: Files, D: Disk, O: Outs>(
     outs: &mut O,
 ) -> u8
     ensures { EndsOver words.now
-        (world_of (F.view files.old) (D.view disk.old) (D.images disk.old) (O.view outs.old))
-        (world_of (F.view files.new) (D.view disk.new) (D.images disk.new) (O.view outs.new)) result }
+        (outside_of (F.view files.old) (D.view disk.old) (D.images disk.old) (O.view outs.old))
+        (outside_of (F.view files.new) (D.view disk.new) (D.images disk.new) (O.view outs.new)) result }
 {
     match answer_to(words.items()) {
         Some(answer) => show(outs, answer),

@@ -1,6 +1,6 @@
 ghost use Rattle.std.specs.Prelude.{◌≡◌, ◌≤◌, ◌<◌, ℕ, length, IfOk, OnErr};
 ghost use Rattle.ga_counters.specs.Counts.{raised};
-ghost use Rattle.goaccess.specs.Fresh.{nothing_taken};
+ghost use Rattle.ga_real.specs.Fresh.{nothing_taken};
 
 use ga_base::Text;
 use ga_ports::{Failed, Outs, TargetCounts, To};
@@ -35,7 +35,7 @@ pub struct RealOuts<'a, R: rt::Files, P: Print, E: Print> {
 impl<'a, R: rt::Files, P: Print, E: Print> Model for RealOuts<'a, R, P, E> {
     ghost use Rattle.std.specs.Prelude.{None, is_some};
     ghost use Rattle.ga_ports.specs.Outs.{OutsView};
-    ghost use Rattle.goaccess.specs.Targets.{target_view};
+    ghost use Rattle.ga_real.specs.Targets.{target_view};
 
     ghost Value = { OutsView };
 

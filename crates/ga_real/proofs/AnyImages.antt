@@ -3,7 +3,7 @@ use Rattle.std.proofs.Common.{ℕ, zero, suc, Bool, List, refl, inr, arith, Resu
 use Rattle.ga_disk.specs.Sides.{Sides}
 use Rattle.ga_disk.specs.Disk.{TornAt, CutAt, Steps}
 use Rattle.ga_disk.specs.Images.{AddsNone, LeavesSteps}
-use Rattle.goaccess.specs.FreshDisk.{any_images}
+use Rattle.ga_real.specs.FreshDisk.{any_images}
 
 -- a write or a cut may leave the bytes as they were
 torn-same : (at n : ℕ) (bytes : List ℕ) → TornAt at n bytes bytes

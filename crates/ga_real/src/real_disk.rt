@@ -1,7 +1,7 @@
 ghost use Rattle.std.specs.Prelude.{◌≡◌, ◌+◌, ◌≤◌, ◌<◌, length, IfOk, OnOk, OnErr, IsErr, IsTrue, Ok as OkSpec};
 ghost use Rattle.std.specs.Fs.{IsFile, IsDir, file_type};
 ghost use Rattle.ga_disk.specs.Disk.{calls_once, fails_once, max_size};
-ghost use Rattle.goaccess.specs.FreshDisk.{any_images, no_disk_open, reads-as-any};
+ghost use Rattle.ga_real.specs.FreshDisk.{any_images, no_disk_open, reads-as-any};
 
 use crate::real_files::only_regular;
 use ga_base::Text;

@@ -1,6 +1,6 @@
 ghost use Rattle.std.specs.Prelude.{◌≡◌, ◌↔◌, IfOk, IsErr};
 ghost use Rattle.std.specs.Fs.{IsFile, file_type};
-ghost use Rattle.goaccess.specs.Fresh.{no_files_open};
+ghost use Rattle.ga_real.specs.Fresh.{no_files_open};
 
 use ga_base::Text;
 use ga_ports::{Failed, FileCounts, Files, is_short};
