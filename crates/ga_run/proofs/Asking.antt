@@ -2,7 +2,6 @@
 use Rattle.std.proofs.Common.{◌≡◌, ℕ, ◌+◌, List, refl, ap, sym, subst, ◌∙◌, Option, Some, None}
 use Rattle.ga_agents.specs.declared.row.Rule.{Rule}
 use Rattle.ga_base.specs.declared.entry.Entry.{Entry}
-use Rattle.ga_disk.specs.Disk.{DiskView}
 use Rattle.ga_keep.specs.RunDatabase.{follow_of}
 use Rattle.ga_logs.specs.Following.{MissesAt, MissesLog, ReadsAll, ReadsPortion, ReadsSome}
 use Rattle.ga_logs.specs.Following.MissesAt.{misses_first, misses_later}
@@ -21,7 +20,6 @@ use Rattle.ga_run.specs.Inputs.{Walks, WalksInputs}
 use Rattle.ga_run.specs.Inputs.Walks.{walks_last, walks_none, walks_on}
 use Rattle.ga_run.specs.Inputs.WalksInputs.{asks_both, asks_logs, asks_none, asks_rules}
 use Rattle.ga_run.specs.Run.{SameFaults}
-use Rattle.ga_run.specs.Steps.Run.{WalksLogs}
 
 -- ---- logs asked for
 
@@ -43,18 +41,29 @@ walks-miss (misses_later reads follows rest) = let more = walks-miss rest in (1 
 
 -- ---- and the browsers file before them
 
-module _ (s : Settings) (disk : DiskView) where
+-- a count of logs that were asked for by entries of which this holds
+abbrev pub Asked : Settings → (List Entry → Type 0) → FilesView → FilesView → Type 0
+Asked s Followed a b = (count : ℕ) × WalksInputs s Followed a b count
+
+module _ (s : Settings) {Followed : List Entry → Type 0} where
   -- the rules were read, and then some logs were asked for
-  pub walks-behind : (file : Option (List ℕ)) → s.browsers_file ≡ file → (a mid b : FilesView) (rules : List Rule) → HasRules file a mid rules → WalksLogs s disk mid b
-      → (count : ℕ) × WalksInputs s disk a b count
-  walks-behind None named a mid b rules has h =
-      (h.count, asks_logs h.stored h.entries named h.is_stored h.begin (subst (λ (v : FilesView). Walks (follow_of s) s.logs h.entries v b h.count) has.0 h.walks))
-  walks-behind (Some name) named a mid b rules (text, reads, gives) h = (1 + h.count, asks_both name h.stored h.entries mid text named reads h.is_stored h.begin h.walks)
+  pub walks-behind : (file : Option (List ℕ)) → s.browsers_file ≡ file → (a mid b : FilesView) (rules : List Rule) → HasRules file a mid rules → (entries : List Entry) → Followed entries
+      → ((count : ℕ) × Walks (follow_of s) s.logs entries mid b count) → Asked s Followed a b
+  walks-behind None named a mid b rules has entries followed (count, walks) =
+      (count, asks_logs entries named followed (subst (λ (v : FilesView). Walks (follow_of s) s.logs entries v b count) has.0 walks))
+  walks-behind (Some name) named a mid b rules (text, reads, gives) entries followed (count, walks) = (1 + count, asks_both name entries mid text named reads followed walks)
 
   -- the rules were read, and no log was asked for
-  pub walks-rules : (file : Option (List ℕ)) → s.browsers_file ≡ file → (a b : FilesView) (rules : List Rule) → HasRules file a b rules → (count : ℕ) × WalksInputs s disk a b count
-  walks-rules None named a b rules has = (0, subst (λ (v : FilesView). WalksInputs s disk a v 0) (sym has.0) asks_none)
+  pub walks-rules : (file : Option (List ℕ)) → s.browsers_file ≡ file → (a b : FilesView) (rules : List Rule) → HasRules file a b rules → Asked s Followed a b
+  walks-rules None named a b rules has = (0, subst (λ (v : FilesView). WalksInputs s Followed a v 0) (sym has.0) asks_none)
   walks-rules (Some name) named a b rules (text, reads, gives) = (1, asks_rules name named reads.asks)
+
+-- what holds of entries too of which the other holds
+pub walks-as : {s : Settings} {P Q : List Entry → Type 0} {a b : FilesView} {count : ℕ} → ((entries : List Entry) → P entries → Q entries) → WalksInputs s P a b count → WalksInputs s Q a b count
+walks-as step asks_none = asks_none
+walks-as step (asks_rules name named asks) = asks_rules name named asks
+walks-as step (asks_logs entries named followed walks) = asks_logs entries named (step entries followed) walks
+walks-as step (asks_both name entries mid text named reads followed walks) = asks_both name entries mid text named reads (step entries followed) walks
 
 -- ---- faults
 

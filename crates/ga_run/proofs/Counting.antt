@@ -10,6 +10,7 @@ use Rattle.ga_keep.specs.RunDatabase.{AreBase, Finds, base_of, start_of}
 use Rattle.ga_outcomes.specs.LineOutcomes.{CountsLines}
 use Rattle.ga_logs.specs.Logs.{CountsLogs, StopsLogs}
 use Rattle.ga_logs.specs.declared.fault.CountFault.{CountFault}
+use Rattle.ga_logs.specs.declared.start.Start.{Start}
 use Rattle.ga_logs.specs.declared.fault.CountFault.TheVariants.{Failed as LogFailed, Short as LogShort, Full, NoMemory as CountNoMemory}
 use Rattle.ga_outcomes.specs.declared.setup.Setup.{Setup}
 use Rattle.ga_outcomes.proofs.Limits.{all-within, no-counter}
@@ -42,7 +43,7 @@ use Rattle.ga_agents.specs.declared.row.Rule.{Rule}
 use Rattle.ga_line.specs.declared.setup.LineSetup.{LineSetup}
 use Rattle.ga_run.specs.Course.{HasRules}
 use Rattle.ga_run.specs.Setups.{setup_of}
-use Rattle.ga_run.specs.World.{world_of as world}
+use Rattle.ga_run.specs.Outside.{outside_of as outside}
 use Rattle.ga_store.specs.Store.{db_value}
 use Rattle.std.specs.Prelude.{◌⊎◌}
 use Rattle.ga_run.proofs.Finishing.{reports-last}
@@ -114,6 +115,27 @@ sum-lines setup start all total sum h is = record { outcomes = h.outcomes; have_
 pub countable-total : (setup : Setup) (start : Totals) (all : List (List ℕ)) (total : TallySeen) → AreInTotal setup start all total → IsOfCountable total
 countable-total setup start all total h = record { outcomes = h.outcomes; tally = h.tally; countable = h.countable }
 
+-- ---- what the calls say, the start being that of the settings
+
+module _ (s : Settings) (stored : DbValue) (start : Start) (is : start ≡ start_of s stored) where
+  pub start-fits : IsSummary stored.summary → TotalsFit start.totals
+  start-fits sound = subst (λ (x : Start). TotalsFit x.totals) (sym is) (base-fits s stored sound)
+
+  pub start-adds : IsSummary stored.summary → LinesAdd start.totals
+  start-adds sound = subst (λ (x : Start). LinesAdd x.totals) (sym is) (base-adds s stored sound)
+
+  module _ (setup : Setup) (names : List (List ℕ)) (same : names ≡ s.logs) (entries : List Entry) (files files' : FilesView) where
+    pub counts-said : (entries' : List Entry) (total : TallySeen) → CountsLogs setup start s.generate names entries entries' files files' total
+        → CountsLogs setup (start_of s stored) s.generate s.logs entries entries' files files' total
+    counts-said entries' total h =
+        subst (λ (x : Start). CountsLogs setup x s.generate s.logs entries entries' files files' total) is
+        (subst (λ (ns : List (List ℕ)). CountsLogs setup start s.generate ns entries entries' files files' total) same h)
+
+    pub stops-said : (fault : CountFault) → StopsLogs setup start s.generate names entries files files' fault → StopsLogs setup (start_of s stored) s.generate s.logs entries files files' fault
+    stops-said fault h =
+        subst (λ (x : Start). StopsLogs setup x s.generate s.logs entries files files' fault) is
+        (subst (λ (ns : List (List ℕ)). StopsLogs setup start s.generate ns entries files files' fault) same h)
+
 -- ---- the calls
 
 module _ (setup : Setup) (s : Settings) (files files' : FilesView) (d d' : DiskView) (i i' : Images) (stored : DbValue) (finds : Finds s d d' i i' stored) (entries : List Entry)
@@ -183,7 +205,7 @@ module _ (setup : Setup) (s : Settings) (files files' : FilesView) (d : DiskView
 -- how it ended behind its setup says how it ended
 pub ends-alone : (line : LineSetup) (s : Settings) (files : FilesView) (d : DiskView) (i : Images) (o o' : OutsView) (mid files' : FilesView) (rules : List Rule) → HasRules s.browsers_file files mid rules → OnlyNow i
     → FilesTrace files mid → FilesStay files mid → uses_database s ≡ false → (status : Status) → EndsAlone (setup_of line s rules) s mid files' o o' status
-    → EndsInputs line s (world files d i o) (world files' d i o') status
+    → EndsInputs line s (outside files d i o) (outside files' d i o') status
 ends-alone line s files d i o o' mid files' rules has only went stay alone status h = by h.ends
   where
     setup : Setup
@@ -192,7 +214,7 @@ ends-alone line s files d i o o' mid files' rules has only went stay alone statu
     went' : FilesTrace files files'
     went' = files_then went h.files_trace
 
-    by : EndsTold setup s (db_value h.stored) mid files' o o' status ⊎ EndsUntold setup s (db_value h.stored) mid files' o o' status → EndsInputs line s (world files d i o) (world files' d i o') status
+    by : EndsTold setup s (db_value h.stored) mid files' o o' status ⊎ EndsUntold setup s (db_value h.stored) mid files' o o' status → EndsInputs line s (outside files d i o) (outside files' d i o') status
     by (inl t) =
         let counted : TheCounted = record { stored = h.stored; run = t.is_text.has.run; whole = t.is_text.has.whole; entries = t.is_text.has.entries' } in
         let value : CountsRun setup s counted mid files' d d i i =
@@ -200,5 +222,5 @@ ends-alone line s files d i o o' mid files' rules has only went stay alone statu
         ends-last line s files d i o mid files' rules has counted d i value only d i o' went' no_disk_call status
         (alone-last s counted d i o o' alone t.text t.is_text.is_text status t.ends t.errors t.outs_trace)
     by (inr u) =
-        subst (λ (outs : OutsView). EndsInputs line s (world files d i o) (world files' d i outs) status) (sym u.quiet)
+        subst (λ (outs : OutsView). EndsInputs line s (outside files d i o) (outside files' d i outs) status) (sym u.quiet)
         (ends-count line s files d i o mid files' rules has d i went' no_disk_call stay status (stops-alone setup s mid files' d i (db_value h.stored) alone h.empty status u.stops) u.sure)

@@ -12,7 +12,7 @@ use Rattle.ga_words.specs.declared.settings.Settings.{Settings}
 use Rattle.ga_run.specs.Ends.{Ends, HasReport, MissesInput}
 use Rattle.ga_run.specs.Keeping.{FindsThere, KeptSince}
 use Rattle.ga_run.specs.Run.{disk_faults_after}
-use Rattle.ga_run.specs.World.{World}
+use Rattle.ga_run.specs.Outside.{Outside}
 use Rattle.ga_run.specs.declared.status.Input.{Input}
 use Rattle.ga_run.specs.declared.status.Input.TheVariants.{Rules, Log}
 use Rattle.ga_run.specs.declared.status.Status.{Status}
@@ -28,7 +28,7 @@ pub found-faults : (s : Settings) (d d' : DiskView) (stored : DbValue) → Finds
 found-faults s d d' stored (inl (uses, h)) = h.faults
 found-faults s d d' stored (inr (none, left, empty)) = faults-of left
 
-module _ (line : LineSetup) (s : Settings) (old new : World) where
+module _ (line : LineSetup) (s : Settings) (old new : Outside) where
   abbrev Same : Type 0
   Same = new.disk.counts.faults ≡ old.disk.counts.faults
 

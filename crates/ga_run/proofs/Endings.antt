@@ -30,14 +30,14 @@ use Rattle.ga_store.specs.Database.Reading.{stored as reads_as}
 use Rattle.ga_words.specs.WordsOf.{WordsOf}
 use Rattle.ga_words.specs.declared.settings.Settings.{Settings}
 use Rattle.ga_run.specs.Course.{ReachesReport, HasRules}
-use Rattle.ga_run.specs.Ends.{Ends, FailsAtLast, FillsGenerations, HasReport, MissesInput, SaysOnly, StopsPrinting}
+use Rattle.ga_run.specs.Ends.{AreFollowed, Ends, FailsAtLast, FillsGenerations, HasReport, MissesInput, SaysOnly, StopsPrinting}
 use Rattle.ga_run.specs.Inputs.{inputs_of, place_of, rules_file}
 use Rattle.ga_run.specs.Keeping.{FindsThere, KeepsSince, KeptSince, MayKeepSince}
 use Rattle.ga_run.specs.Printing.{FailsWriting, OutputCanTake, Stops, TakesOrStops, but_errors, delivered, report_file, stopped, target_of, unmade}
-use Rattle.ga_run.specs.Run.{DiskServed, EndsBefore, FilesServed, HasGoodInput, LeavesDisk, LeavesEither, LeavesSides, OutputServed, SameFaults, faults_after}
+use Rattle.ga_run.specs.Run.{DiskServed, EndsBefore, FilesServed, HasGoodInput, OutputServed, SameFaults, faults_after}
 use Rattle.ga_run.specs.Statuses.{NamesFailed, NamesInput}
 use Rattle.ga_run.specs.Steps.Run.{EndsEarly, EndsRun, failed_name, input_name}
-use Rattle.ga_run.specs.World.{World, world_of as world}
+use Rattle.ga_run.specs.Outside.{Outside, outside_of as outside}
 use Rattle.ga_run.specs.declared.status.Input.{Input}
 use Rattle.ga_run.specs.declared.status.Input.TheVariants.{Rules, Log}
 use Rattle.ga_run.specs.declared.status.Status.{Status}
@@ -68,18 +68,18 @@ fails-after file text at outs mid outs' changed (inl (named, none, is)) = inl (n
 fails-after file text at outs mid outs' changed (inr (early, is)) = inr (early, along (stopped file text at outs) mid outs' changed is)
 
 -- how a run ended stands once the fault line is written
-module _ (line : LineSetup) (s : Settings) (old : World) (f : FilesView) (d : DiskView) (i : Images) (mid outs : OutsView) (changed : outs ≡ but_errors outs mid) (more : mid.starved ≤ outs.starved) where
-  abbrev has-written : HasReport line s old (world f d i mid) → HasReport line s old (world f d i outs)
+module _ (line : LineSetup) (s : Settings) (old : Outside) (f : FilesView) (d : DiskView) (i : Images) (mid outs : OutsView) (changed : outs ≡ but_errors outs mid) (more : mid.starved ≤ outs.starved) where
+  abbrev has-written : HasReport line s old (outside f d i mid) → HasReport line s old (outside f d i outs)
   has-written h = record { found = h.found; come = h.come; text = h.text; report = h.report; kept = h.kept }
 
-  misses-written : (file : Input) (fault : PlaceFault) → MissesInput line s old (world f d i mid) file fault → MissesInput line s old (world f d i outs) file fault
+  misses-written : (file : Input) (fault : PlaceFault) → MissesInput line s old (outside f d i mid) file fault → MissesInput line s old (outside f d i outs) file fault
   misses-written Rules fault h = h
   misses-written (Log place) fault h = record { mid = h.mid; begun = h.begun; misses = h.misses }
 
-  says : SaysOnly old (world f d i mid) → SaysOnly old (world f d i outs)
+  says : SaysOnly old (outside f d i mid) → SaysOnly old (outside f d i outs)
   says h = along old.outs mid outs changed h
 
-  pub written : (status : Status) → Ends line s old (world f d i mid) status → Ends line s old (world f d i outs) status
+  pub written : (status : Status) → Ends line s old (outside f d i mid) status → Ends line s old (outside f d i outs) status
   written Done h = record { has = has-written h.has; printed = along (delivered (report_file s.generate s.output.name) h.has.text old.outs) mid outs changed h.printed }
   written (BadWords fault) h = absurd h
   written (BadFormat which fault) h = absurd h
@@ -98,6 +98,26 @@ module _ (line : LineSetup) (s : Settings) (old : World) (f : FilesView) (d : Di
   written (CounterFull which total) (inl h, quiet) = (inl (record { mid = h.mid; begun = h.begun; portions = h.portions; read = h.read; fills = h.fills }), says quiet)
   written (CounterFull which total) (inr h, quiet) = (inr (record { come = h.come; moments = h.moments; lacks = h.lacks; counter = h.counter; value = h.value }), says quiet)
   written NoMemory (looks, quiet) = (looks, says quiet)
+
+  -- the entries are the same
+  pub followed-written : (status : Status) (h : Ends line s old (outside f d i mid) status) (entries : List Entry) → AreFollowed line s old (outside f d i mid) status h entries
+      → AreFollowed line s old (outside f d i outs) status (written status h) entries
+  unfolding written misses-written
+  followed-written Done h entries e = e
+  followed-written (BadWords fault) h entries e = absurd h
+  followed-written (BadFormat which fault) h entries e = absurd h
+  followed-written (BadRules at) h entries e = absurd e
+  followed-written (FileFault Rules) h entries e = absurd e
+  followed-written (FileFault (Log place)) h entries e = e
+  followed-written (FileShort Rules at) h entries e = absurd e
+  followed-written (FileShort (Log place) at) h entries e = e
+  followed-written DiskFault (inl h, quiet) entries e = absurd e
+  followed-written DiskFault (inr h, quiet) entries e = e
+  followed-written (DbDamaged side at) h entries e = absurd e
+  followed-written (OutFault to at) h entries e = e
+  followed-written (CounterFull which total) (inl h, quiet) entries e = e
+  followed-written (CounterFull which total) (inr h, quiet) entries e = e
+  followed-written NoMemory h entries e = e
 
 -- ---- what served
 
@@ -126,7 +146,7 @@ miss-untold : {follow : Follow} {names : List (List ℕ)} {entries : List Entry}
 miss-untold (misses_first misses) = misses.cause.2
 miss-untold (misses_later reads follows rest) = sym (kept-one reads) ∙ miss-untold rest
 
-short-untold : (line : LineSetup) (s : Settings) (old new : World) (file : Input) (at : ℕ) → MissesInput line s old new file (PlaceShort at) → old.files.contents ≡ None
+short-untold : (line : LineSetup) (s : Settings) (old new : Outside) (file : Input) (at : ℕ) → MissesInput line s old new file (PlaceShort at) → old.files.contents ≡ None
 short-untold line s old new Rules at (name, named, misses, left) = misses.cause.2
 short-untold line s old new (Log place) at h =
     sym (kept-rules s.browsers_file old.files h.mid h.begun.rules h.begun.has_rules) ∙ miss-untold h.misses.misses
@@ -141,7 +161,7 @@ behind : (file : Option (List ℕ)) (logs : List (List ℕ)) (place : ℕ) → s
 behind None logs place = ap (slice_get logs) (let e : 0 + place ≡ place = omega arith in e)
 behind (Some name) logs place = ap (slice_get (name ∷ logs)) (let e : 1 + place ≡ suc place = omega arith in e)
 
-some-input : (line : LineSetup) (s : Settings) (old new : World) (file : Input) (fault : PlaceFault) → MissesInput line s old new file fault → (name : List ℕ) × (slice_get (inputs_of s) (place_of s file) ≡ Some name)
+some-input : (line : LineSetup) (s : Settings) (old new : Outside) (file : Input) (fault : PlaceFault) → MissesInput line s old new file fault → (name : List ℕ) × (slice_get (inputs_of s) (place_of s file) ≡ Some name)
 some-input line s old new Rules fault (name, named, misses, left) = (name, ap (λ o. slice_get (rules_file o ++ s.logs) 0) named)
 some-input line s old new (Log place) fault h = let found = miss-name h.misses.misses in (found.0, behind s.browsers_file s.logs place ∙ found.1)
 
@@ -151,22 +171,22 @@ there files [] place name all stands gone = none-some stands
 there files (n ∷ names) zero name all stands gone = all.0 (ap (λ m. told m files.contents) (some-same stands) ∙ gone)
 there files (n ∷ names) (suc place) name all stands gone = there files names place name all.1 stands gone
 
-failed-not : (s : Settings) (old new : World) → ¬ CanServe (inputs_of s) old.files → new.files.counts.faults ≡ raised old.files.counts.faults 1 → FilesServed s old new → ⊥
+failed-not : (s : Settings) (old new : Outside) → ¬ CanServe (inputs_of s) old.files → new.files.counts.faults ≡ raised old.files.counts.faults 1 → FilesServed s old new → ⊥
 failed-not s old new unsure counted (inl can) = unsure can
 failed-not s old new unsure counted (inr still) = still.0 (rose-at _ _ counted)
 
-short-not : (line : LineSetup) (s : Settings) (old new : World) (file : Input) (at : ℕ) → MissesInput line s old new file (PlaceShort at) → new.files.counts.shorts ≡ raised old.files.counts.shorts 1 → FilesServed s old new → ⊥
+short-not : (line : LineSetup) (s : Settings) (old new : Outside) (file : Input) (at : ℕ) → MissesInput line s old new file (PlaceShort at) → new.files.counts.shorts ≡ raised old.files.counts.shorts 1 → FilesServed s old new → ⊥
 short-not line s old new file at misses counted (inl can) =
     let (name, stands) = some-input line s old new file (PlaceShort at) misses in
     there old.files (inputs_of s) (place_of s file) name can.present stands (ap (told name) (short-untold line s old new file at misses))
 short-not line s old new file at misses counted (inr still) = still.1 (rose-at _ _ counted)
 
-stopped-not : (line : LineSetup) (s : Settings) (old new : World) (to : To) (at : ℕ) → StopsPrinting line s old new to at → OutputServed line s old new → ⊥
+stopped-not : (line : LineSetup) (s : Settings) (old new : Outside) (to : To) (at : ℕ) → StopsPrinting line s old new to at → OutputServed line s old new → ⊥
 stopped-not line s old new to at h (inl (fits, fed)) =
     fed (h.unsure (subst (λ (t : To). OutputCanTake t (length h.has.text) old.outs) (sym h.target_is) (fits h.has)))
 stopped-not line s old new to at h (inr still) = still (fails-rose (report_file s.generate s.output.name) h.has.text at old.outs new.outs h.stops)
 
-pub complete-by : (line : LineSetup) (s : Settings) (old new : World) (status : Status) → Ends line s old new status → SameFaults (faults_after status old.files.counts) new.files.counts
+pub complete-by : (line : LineSetup) (s : Settings) (old new : Outside) (status : Status) → Ends line s old new status → SameFaults (faults_after status old.files.counts) new.files.counts
     → FilesServed s old new → DiskServed old new → OutputServed line s old new → HasGoodInput status → (status ≡ Done) ⊎ (status ≡ NoMemory)
 complete-by line s old new Done ends counted served disk took good = inl refl
 complete-by line s old new (BadWords fault) ends counted served disk took good = absurd ends
@@ -202,7 +222,7 @@ miss-place (misses_later reads follows rest) zero name stands gone = absurd (pre
 miss-place (misses_later reads follows rest) (suc place) name stands gone =
     let later = miss-place rest place name stands (ap (is_absent name) (kept-one reads) ∙ gone) in omega (arith, later)
 
-module _ (line : LineSetup) (s : Settings) (old new : World) where
+module _ (line : LineSetup) (s : Settings) (old new : Outside) where
   -- neither is the browsers file, where it was read
   past-rules : (file : Option (List ℕ)) (mid : FilesView) (rules : List Rule) → HasRules file old.files mid rules → (place : ℕ) (name : List ℕ) → slice_get (rules_file file ++ s.logs) place ≡ Some name
       → is_absent name old.files.contents ≡ true
@@ -238,114 +258,13 @@ module _ (line : LineSetup) (s : Settings) (old new : World) where
     absent-by (CounterFull which total) ends = tt
     absent-by NoMemory ends = tt
 
--- ---- what a crash may have left
-
--- a run that persists uses the database
-persists-uses : (s : Settings) → s.persist ≡ true → uses_database s ≡ true
-persists-uses s persists = ap (λ b. b || s.restore) persists
-
-module _ (s : Settings) (old new : World) (only : OnlyNow old.images) where
-  looked-leaves : LooksAtMost s old.disk new.disk old.images new.images → LeavesDisk old new
-  looked-leaves (inl left) = untouched-leaves old.disk new.disk old.images new.images only left
-  looked-leaves (inr looked) = looked.looks.moments
-
-  module _ (line : LineSetup) (sides : Sides) (reads : old.disk.seen ≡ Some sides) where
-    -- the database that was found
-    had : (d : DiskView) (stored : DbValue) → FindsThere s old.disk d stored → s.persist ≡ true → DbOf sides (reads_as stored)
-    had d stored finds persists = go (subst (λ (o : Option Sides). IfSome o (λ x. SidesHave s x stored)) reads (there-in s old.disk d stored finds))
-      where
-        go : SidesHave s sides stored → DbOf sides (reads_as stored)
-        go (inl (uses, has)) = has
-        go (inr (none, empty)) = absurd (false≢true (sym none ∙ persists-uses s persists))
-
-    found-seen : (d : DiskView) (stored : DbValue) → FindsThere s old.disk d stored → d.seen ≡ Some sides
-    found-seen d stored finds = seen-same s old.disk d stored finds ∙ reads
-
-    report-leaves : HasReport line s old new → LeavesDisk old new ⊎ LeavesEither sides old new
-    report-leaves h = go h.kept
-      where
-        go : KeptSince s h.come.stored h.come.counted.whole h.come.counted.entries' h.found new.disk old.images new.images → LeavesDisk old new ⊎ LeavesEither sides old new
-        go (inl (persists, k)) =
-            let keeps = subst (λ (o : Option Sides). IfSome o (λ seen. KeepsSince h.come.stored k.new new.disk old.images new.images)) (found-seen h.found h.come.stored h.come.finds) k.keeps in
-            inr (record { stored = h.come.stored; later = k.new; had = had h.found h.come.stored h.come.finds persists; rises = keeps.later; moments = keeps.moments })
-        go (inr (not, left)) = inl left.moments
-
-    fault-leaves : FailsAtLast line s old new → LeavesDisk old new ⊎ LeavesEither sides old new
-    fault-leaves h =
-        let may = subst (λ (o : Option Sides). IfSome o (λ seen. MayKeepSince h.come.stored h.fails.new h.found new.disk old.images new.images)) (found-seen h.found h.come.stored h.come.finds) h.fails.may in
-        inr (record { stored = h.come.stored; later = h.fails.new; had = had h.found h.come.stored h.come.finds h.persists; rises = may.later; moments = may.moments })
-
-    input-leaves : (file : Input) (fault : PlaceFault) → MissesInput line s old new file fault → LeavesDisk old new
-    input-leaves Rules fault (name, named, misses, left) = untouched-leaves old.disk new.disk old.images new.images only left
-    input-leaves (Log place) fault h = found-leaves s old.disk new.disk old.images new.images only h.begun.stored h.begun.finds
-
-    pub moments-by : (status : Status) → Ends line s old new status → LeavesDisk old new ⊎ LeavesEither sides old new
-    moments-by Done ends = report-leaves ends.has
-    moments-by (BadWords fault) ends = absurd ends
-    moments-by (BadFormat which fault) ends = absurd ends
-    moments-by (BadRules at) ends = inl (untouched-leaves old.disk new.disk old.images new.images only ends.0.disk)
-    moments-by (FileFault file) ends = inl (input-leaves file PlaceFailed ends.0.misses)
-    moments-by (FileShort file at) ends = inl (input-leaves file (PlaceShort at) ends.0)
-    moments-by DiskFault (inl h, quiet) = inl h.misses.looks.moments
-    moments-by DiskFault (inr h, quiet) = fault-leaves h
-    moments-by (DbDamaged side at) ends = inl ends.0.misses.looks.moments
-    moments-by (OutFault to at) ends = report-leaves ends.has
-    moments-by (CounterFull which total) (inl h, quiet) = inl (found-leaves s old.disk new.disk old.images new.images only h.begun.stored h.begun.finds)
-    moments-by (CounterFull which total) (inr h, quiet) = inl h.moments
-    moments-by NoMemory (looks, quiet) = inl (looked-leaves looks)
-
--- ---- without --persist
-
-module _ (s : Settings) (old new : World) (only : OnlyNow old.images) (line : LineSetup) (not : s.persist ≡ false) where
-  of-looks : OnlyLooks old.disk new.disk old.images new.images → LeavesSides old new
-  of-looks h = record { seen = ap (λ (d : DiskView). d.seen) h.view; moments = h.moments }
-
-  of-untouched : IsUntouched old.disk new.disk old.images new.images → LeavesSides old new
-  of-untouched h = record { seen = ap (λ (d : DiskView). d.seen) h.view; moments = untouched-leaves old.disk new.disk old.images new.images only h }
-
-  of-looked : LooksAtMost s old.disk new.disk old.images new.images → LeavesSides old new
-  of-looked (inl left) = of-untouched left
-  of-looked (inr looked) = of-looks looked.looks
-
-  of-finds : (stored : DbValue) → Finds s old.disk new.disk old.images new.images stored → LeavesSides old new
-  of-finds stored finds = of-looked (looked-at s old.disk new.disk old.images new.images stored finds)
-
-  of-report : HasReport line s old new → LeavesSides old new
-  of-report h = go h.kept
-    where
-      go : KeptSince s h.come.stored h.come.counted.whole h.come.counted.entries' h.found new.disk old.images new.images → LeavesSides old new
-      go (inl (persists, k)) = absurd (false≢true (sym not ∙ persists))
-      go (inr (none, left)) = record { seen = ap (λ (d : DiskView). d.seen) left.view ∙ seen-same s old.disk h.found h.come.stored h.come.finds; moments = left.moments }
-
-  of-input : (file : Input) (fault : PlaceFault) → MissesInput line s old new file fault → LeavesSides old new
-  of-input Rules fault (name, named, misses, left) = of-untouched left
-  of-input (Log place) fault h = of-finds h.begun.stored h.begun.finds
-
-  of-full : (which : Counter) (total : ℕ) → FillsGenerations line s old new which total → LeavesSides old new
-  of-full which total h = absurd (false≢true (sym (ap (λ b. b && passes_generations (mode_of s) h.come.stored) not) ∙ h.lacks))
-
-  pub unwritten-by : (status : Status) → Ends line s old new status → LeavesSides old new
-  unwritten-by Done ends = of-report ends.has
-  unwritten-by (BadWords fault) ends = absurd ends
-  unwritten-by (BadFormat which fault) ends = absurd ends
-  unwritten-by (BadRules at) ends = of-untouched ends.0.disk
-  unwritten-by (FileFault file) ends = of-input file PlaceFailed ends.0.misses
-  unwritten-by (FileShort file at) ends = of-input file (PlaceShort at) ends.0
-  unwritten-by DiskFault (inl h, quiet) = of-looks h.misses.looks
-  unwritten-by DiskFault (inr h, quiet) = absurd (false≢true (sym not ∙ h.persists))
-  unwritten-by (DbDamaged side at) ends = of-looks ends.0.misses.looks
-  unwritten-by (OutFault to at) ends = of-report ends.has
-  unwritten-by (CounterFull which total) (inl h, quiet) = of-finds h.begun.stored h.begun.finds
-  unwritten-by (CounterFull which total) (inr h, quiet) = of-full which total h
-  unwritten-by NoMemory (looks, quiet) = of-looked looks
-
 -- ---- what is said
 
 -- nothing but standard error changed, where nothing did
 pub same-but : (old new : OutsView) → new ≡ old → new ≡ but_errors new old
 same-but old new e = subst (λ (v : OutsView). v ≡ but_errors v old) (sym e) refl
 
-pub refused-by : (line : LineSetup) (s : Settings) (old new : World) (status : Status) → Ends line s old new status → status ≢ Done → ((to : To) (at : ℕ) → status ≢ OutFault to at) → SaysOnly old new
+pub refused-by : (line : LineSetup) (s : Settings) (old new : Outside) (status : Status) → Ends line s old new status → status ≢ Done → ((to : To) (at : ℕ) → status ≢ OutFault to at) → SaysOnly old new
 refused-by line s old new Done ends undone none = absurd (undone refl)
 refused-by line s old new (BadWords fault) ends undone none = absurd ends
 refused-by line s old new (BadFormat which fault) ends undone none = absurd ends
@@ -366,13 +285,13 @@ nothing-taken old new (inr (at, stops)) = absurd (omega (arith, stops.early))
 some-own : (found : Option (List ℕ)) (name : List ℕ) → found ≡ Some name → found ≡ Some (unwrap_or found [])
 some-own found name e = e ∙ sym (ap (λ o. Some (unwrap_or o [])) e)
 
-input-named : (words : List (List ℕ)) (line : LineSetup) (s : Settings) → WordsOf words (Ok s) → (old new : World) (file : Input) (fault : PlaceFault) → MissesInput line s old new file fault
+input-named : (words : List (List ℕ)) (line : LineSetup) (s : Settings) → WordsOf words (Ok s) → (old new : Outside) (file : Input) (fault : PlaceFault) → MissesInput line s old new file fault
     → NamesInput words file (input_name s file)
 input-named words line s says old new Rules fault (name, named, misses, left) = (s, says, some-own s.browsers_file name named)
 input-named words line s says old new (Log place) fault h = let found = miss-name h.misses.misses in (s, says, some-own (slice_get s.logs place) found.0 found.1)
 
 -- the name in a fault line is one that the words give
-pub named : (words : List (List ℕ)) (s : Settings) → WordsOf words (Ok s) → (old new : World) (status : Status) → EndsRun s old new status → NamesFailed words status (failed_name s status)
+pub named : (words : List (List ℕ)) (s : Settings) → WordsOf words (Ok s) → (old new : Outside) (status : Status) → EndsRun s old new status → NamesFailed words status (failed_name s status)
 named words s says old new Done ends = refl
 named words s says old new (BadWords fault) ends = refl
 named words s says old new (BadFormat which fault) ends = refl

@@ -9,7 +9,7 @@ use Rattle.ga_disk.specs.Images.{Images, LeavesOnly, OnlyImage}
 use Rattle.ga_disk.specs.Sides.{Sides}
 use Rattle.ga_disk.specs.Trace.{DiskTrace}
 use Rattle.ga_disk.specs.Trace.DiskTrace.{no_disk_call, disk_then}
-use Rattle.ga_keep.specs.RunDatabase.{FailsKeeping, Finds, IsUntouched, Keeps, KeptIf, LooksAtMost, MayKeep, OnlyLooks, Recovered, lacks_generation, mode_of, uses_database}
+use Rattle.ga_keep.specs.RunDatabase.{AreBase, FailsKeeping, Finds, IsUntouched, Keeps, KeptIf, LooksAtMost, MayKeep, OnlyLooks, Recovered, finding_calls, follow_of, lacks_generation, mode_of, uses_database}
 use Rattle.ga_line.specs.declared.setup.LineSetup.{LineSetup}
 use Rattle.ga_logs.specs.Following.{CanServe, MissesLog}
 use Rattle.ga_logs.specs.declared.follow.Follow.TheVariants.{Whole}
@@ -20,7 +20,7 @@ use Rattle.ga_ports.specs.Trace.{FilesStay, FilesTrace, no_outs_call}
 use Rattle.ga_resume.specs.declared.fault.PlaceFault.{PlaceFault}
 use Rattle.ga_resume.specs.declared.fault.PlaceFault.TheVariants.{FileFault as PlaceFailed, FileShort as PlaceShort, NoMemory as PlaceNoMemory}
 use Rattle.ga_store.specs.Commit.{passes_generations}
-use Rattle.ga_store.specs.Commits.{AllHave, HasEither}
+use Rattle.ga_store.specs.Commits.{AllHave, HasEither, Takes}
 use Rattle.ga_store.specs.Database.{DbOf, DbValue}
 use Rattle.ga_store.specs.Database.Reading.{stored as reads_as}
 use Rattle.ga_store.specs.Holding.{Holds}
@@ -28,8 +28,8 @@ use Rattle.ga_store.specs.Store.{db_value}
 use Rattle.ga_summary.specs.SummaryRows.{SummaryValue}
 use Rattle.ga_words.specs.declared.settings.Settings.{Settings}
 use Rattle.ga_run.specs.Course.{ReachesReport, HasRules}
-use Rattle.ga_run.specs.Ends.{Ends, HasBegun, HasReport}
-use Rattle.ga_run.specs.Inputs.{WalksInputs, rules_file}
+use Rattle.ga_run.specs.Ends.{AreFollowed, Ends, HasBegun, HasReport}
+use Rattle.ga_run.specs.Inputs.{IsStored, Walks, rules_file}
 use Rattle.ga_run.specs.Inputs.WalksInputs.{asks_rules}
 use Rattle.ga_run.specs.Keeping.{FailsSince, FindsThere, KeepsSince, KeptSince, MayKeepSince}
 use Rattle.ga_run.specs.Printing.{but_errors}
@@ -37,15 +37,15 @@ use Rattle.ga_run.specs.Reports.{IsTextOf}
 use Rattle.ga_run.specs.Run.{SameFaults, faults_after}
 use Rattle.ga_run.specs.Setups.{setup_of}
 use Rattle.ga_run.specs.Steps.Rules.{StopsNamed}
-use Rattle.ga_run.specs.Steps.Run.{CountsRun, Delivers, EndsInputs, EndsKeeping, EndsLast, HasFound, NoFileFailed, StopsAtLog, StopsCounting, WalksLogs, status_of_rules}
-use Rattle.ga_run.specs.World.{world_of as world}
+use Rattle.ga_run.specs.Steps.Run.{CountsRun, Delivers, EndsInputs, EndsKeeping, EndsLast, HasFound, NoFileFailed, StopsCounting, WalksLogs, status_of_rules}
+use Rattle.ga_run.specs.Outside.{outside_of as outside}
 use Rattle.ga_run.specs.declared.rules.RulesFault.{RulesFault}
 use Rattle.ga_run.specs.declared.rules.RulesFault.TheVariants.{Unread, Bad}
 use Rattle.ga_run.specs.declared.run.RunCounts.{RunCounts}
 use Rattle.ga_run.specs.declared.status.Input.TheVariants.{Rules, Log}
 use Rattle.ga_run.specs.declared.status.Status.{Status}
 use Rattle.ga_run.specs.declared.status.Status.TheVariants.{Done, BadWords, BadFormat, BadRules, FileFault, FileShort, DiskFault, DbDamaged, OutFault, CounterFull, NoMemory}
-use Rattle.ga_run.proofs.Asking.{miss-counts, miss-rules, same-all, same-files, same-read, same-rules, same-some, same-then, walks-all, walks-behind, walks-miss, walks-rules, walks-some}
+use Rattle.ga_run.proofs.Asking.{Asked, miss-counts, miss-rules, same-all, same-files, same-read, same-rules, same-some, same-then, walks-all, walks-behind, walks-miss, walks-rules, walks-some}
 use Rattle.ga_run.proofs.Moments.{OnlyNow, leaves-still, leaves-then, untouched-leaves}
 use Rattle.ga_run.proofs.Telling.{found-there, there-in}
 
@@ -95,6 +95,7 @@ module _ (s : Settings) (d : DiskView) (i : Images) (stored : DbValue) (d' d'' :
     opened = ap (λ (v : DiskView). v.counts.opened) u.view ∙ h.opened;
     path = subst (λ (v : DiskView). IfSome v.path (λ path. path ≡ Some s.db_path)) (sym u.view) h.path;
     faults = ap (λ (v : DiskView). v.counts.faults) u.view ∙ h.faults;
+    calls = subst (λ (v : DiskView). IfSome d.seen (λ seen. Takes (finding_calls seen) d v)) (sym u.view) h.calls;
   }
 
   pub finds-still : Finds s d d' i i' stored → Finds s d d'' i i'' stored
@@ -151,7 +152,7 @@ module _ (s : Settings) (d d' : DiskView) (i i' : Images) (only : OnlyNow i) (st
 
     pub kept-since : KeptIf s stored whole entries d' d'' i' i'' → KeptSince s stored whole entries d' d'' i i''
     kept-since (inl (persists, h)) =
-        inl (persists, record { new = h.new; after = h.after; next = h.next; room = h.room; keeps = if_some-map _ _ d'.seen (λ seen. keeps-since h.new) h.keeps; faults = h.faults; frames = h.frames })
+        inl (persists, record { new = h.new; after = h.after; next = h.next; room = h.room; keeps = if_some-map _ _ d'.seen (λ seen. keeps-since h.new) h.keeps; faults = h.faults; calls = h.calls; frames = h.frames })
     kept-since (inr (not, u)) = inr (not, record { view = u.view; moments = leaves-still d' d'' i.now i i' i'' found-leaves u; all = all-left u })
 
 -- ---- what is told of the files at first is told of some of them, and after calls that served
@@ -180,46 +181,48 @@ served-later names a b stay h = record {
 module _ (line : LineSetup) (s : Settings) (files : FilesView) (d : DiskView) (i : Images) (o : OutsView) where
   -- the run ended before its report
   module _ (files' : FilesView) (d' : DiskView) (i' : Images) (went : FilesTrace files files') (dwent : DiskTrace d d') where
-    pub stopped : (status : Status) → ((count : ℕ) × WalksInputs s d files files' count) → Ends line s (world files d i o) (world files' d' i' o) status
-        → SameFaults (faults_after status files.counts) files'.counts → EndsInputs line s (world files d i o) (world files' d' i' o) status
-    stopped status asks ends faults = record { asks = asks; ends = ends; faults = faults; errors = refl; files_trace = went; disk_trace = dwent; outs_trace = no_outs_call }
+    pub stopped : (status : Status) (ends : Ends line s (outside files d i o) (outside files' d' i' o) status)
+        → Asked s (AreFollowed line s (outside files d i o) (outside files' d' i' o) status ends) files files'
+        → SameFaults (faults_after status files.counts) files'.counts → EndsInputs line s (outside files d i o) (outside files' d' i' o) status
+    stopped status ends asks faults = record { ends = ends; asks = asks; faults = faults; errors = refl; files_trace = went; disk_trace = dwent; outs_trace = no_outs_call }
 
   -- ---- the browsers file
 
   module _ (files' : FilesView) (went : FilesTrace files files') where
-    rules-stop : (status : Status) → ((count : ℕ) × WalksInputs s d files files' count) → Ends line s (world files d i o) (world files' d i o) status
-        → SameFaults (faults_after status files.counts) files'.counts → EndsInputs line s (world files d i o) (world files' d i o) status
+    rules-stop : (status : Status) (ends : Ends line s (outside files d i o) (outside files' d i o) status)
+        → Asked s (AreFollowed line s (outside files d i o) (outside files' d i o) status ends) files files'
+        → SameFaults (faults_after status files.counts) files'.counts → EndsInputs line s (outside files d i o) (outside files' d i o) status
     rules-stop = stopped files' d i went no_disk_call
 
-    asked-of : (name : List ℕ) → s.browsers_file ≡ Some name → (fault : PlaceFault) → MissesLog Whole [] name files files' fault → (count : ℕ) × WalksInputs s d files files' count
+    asked-of : {Followed : List Entry → Type 0} (name : List ℕ) → s.browsers_file ≡ Some name → (fault : PlaceFault) → MissesLog Whole [] name files files' fault → Asked s Followed files files'
     asked-of name named fault misses = (1, asks_rules name named misses.asks)
 
     pub ends-rules : (file : Option (List ℕ)) → s.browsers_file ≡ file → (fault : RulesFault) → StopsNamed file files files' fault
-        → (CanServe (rules_file file) files → fault ≢ Unread PlaceFailed) → EndsInputs line s (world files d i o) (world files' d i o) (status_of_rules fault)
+        → (CanServe (rules_file file) files → fault ≢ Unread PlaceFailed) → EndsInputs line s (outside files d i o) (outside files' d i o) (status_of_rules fault)
     ends-rules None named fault stops sure = absurd stops
     ends-rules (Some name) named (Unread PlaceFailed) (inl misses) sure =
-        rules-stop (FileFault Rules) (asked-of name named PlaceFailed misses) (
+        rules-stop (FileFault Rules) (
           record {
             misses = (name, named, misses, untouched);
             unsure = λ can. sure (served-front (name ∷ []) s.logs files (subst (λ (o : Option (List ℕ)). CanServe (rules_file o ++ s.logs) files) named can)) refl;
           },
           refl,
-        ) (miss-rules PlaceFailed misses)
+        ) (asked-of name named PlaceFailed misses) (miss-rules PlaceFailed misses)
     ends-rules (Some name) named (Unread PlaceFailed) (inr (other, read)) sure = absurd (cc other)
     ends-rules (Some name) named (Unread (PlaceShort at)) (inl misses) sure =
-        rules-stop (FileShort Rules at) (asked-of name named (PlaceShort at) misses) ((name, named, misses, untouched), refl) (miss-rules (PlaceShort at) misses)
+        rules-stop (FileShort Rules at) ((name, named, misses, untouched), refl) (asked-of name named (PlaceShort at) misses) (miss-rules (PlaceShort at) misses)
     ends-rules (Some name) named (Unread (PlaceShort at)) (inr (other, read)) sure = absurd (cc other)
     ends-rules (Some name) named (Unread PlaceNoMemory) (inl misses) sure =
-        rules-stop NoMemory (asked-of name named PlaceNoMemory misses) (inl untouched, refl) (miss-rules PlaceNoMemory misses)
+        rules-stop NoMemory (inl untouched, refl) (asked-of name named PlaceNoMemory misses) (miss-rules PlaceNoMemory misses)
     ends-rules (Some name) named (Unread PlaceNoMemory) (inr (other, (text, reads))) sure =
-        rules-stop NoMemory (1, asks_rules name named reads.asks) (inl untouched, refl) (same-read reads)
+        rules-stop NoMemory (inl untouched, refl) (1, asks_rules name named reads.asks) (same-read reads)
     ends-rules (Some name) named (Bad at) (text, reads, bad) sure =
-        rules-stop (BadRules at) (1, asks_rules name named reads.asks) (record { name = name; named = named; text = text; read = reads; bad = bad; disk = untouched }, refl) (same-read reads)
+        rules-stop (BadRules at) (record { name = name; named = named; text = text; read = reads; bad = bad; disk = untouched }, refl) (1, asks_rules name named reads.asks) (same-read reads)
 
     -- no memory for the setup
-    pub ends-hungry : (rules : List Rule) → HasRules s.browsers_file files files' rules → EndsInputs line s (world files d i o) (world files' d i o) NoMemory
+    pub ends-hungry : (rules : List Rule) → HasRules s.browsers_file files files' rules → EndsInputs line s (outside files d i o) (outside files' d i o) NoMemory
     ends-hungry rules has =
-        rules-stop NoMemory (walks-rules s d s.browsers_file refl files files' rules has) (inl untouched, refl) (same-rules s.browsers_file files files' rules has)
+        rules-stop NoMemory (inl untouched, refl) (walks-rules s s.browsers_file refl files files' rules has) (same-rules s.browsers_file files files' rules has)
 
   -- ---- behind it
 
@@ -227,71 +230,51 @@ module _ (line : LineSetup) (s : Settings) (files : FilesView) (d : DiskView) (i
     same-before : SameFaults files.counts mid.counts
     same-before = same-rules s.browsers_file files mid rules has
 
-    asks-logs : WalksLogs s d mid files' → (count : ℕ) × WalksInputs s d files files' count
-    asks-logs h = walks-behind s d s.browsers_file refl files mid files' rules has h
+    asks-logs : {Followed : List Entry → Type 0} (entries : List Entry) → Followed entries → ((count : ℕ) × Walks (follow_of s) s.logs entries mid files' count) → Asked s Followed files files'
+    asks-logs entries followed walked = walks-behind s s.browsers_file refl files mid files' rules has entries followed walked
 
     module _ (d' : DiskView) (i' : Images) (went : FilesTrace files files') (dwent : DiskTrace d d') where
-      abbrev begun : HasFound s d d' i i' → HasBegun s (world files d i o) mid d' i'
+      abbrev begun : HasFound s d d' i i' → HasBegun s (outside files d i o) mid d' i'
       begun found = record { rules = rules; has_rules = has; stored = found.stored; finds = found.finds; entries = found.entries; begin = found.begin }
 
-      none-asked : files' ≡ mid → (count : ℕ) × WalksInputs s d files files' count
-      none-asked same = walks-rules s d s.browsers_file refl files files' rules (subst (λ (v : FilesView). HasRules s.browsers_file files v rules) (sym same) has)
+      none-asked : {Followed : List Entry → Type 0} → files' ≡ mid → Asked s Followed files files'
+      none-asked same = walks-rules s s.browsers_file refl files files' rules (subst (λ (v : FilesView). HasRules s.browsers_file files v rules) (sym same) has)
 
       rules-still : files' ≡ mid → HasRules s.browsers_file files files' rules
       rules-still same = subst (λ (v : FilesView). HasRules s.browsers_file files v rules) (sym same) has
 
-      miss-asked : (place : ℕ) (fault : PlaceFault) → StopsAtLog (setup_of line s rules) s mid files' d d' i i' place fault → (count : ℕ) × WalksInputs s d files files' count
-      miss-asked place fault h =
-          let walked = walks-miss h.misses.misses in
-          asks-logs (record {
-            stored = h.found.stored;
-            is_stored = there-in s d d' h.found.stored (found-there s d d' i i' h.found.stored h.found.finds);
-            entries = h.found.entries;
-            begin = h.found.begin;
-            count = walked.0;
-            walks = walked.1;
-          })
-
       pub ends-count : FilesStay files mid → (status : Status) → StopsCounting (setup_of line s rules) s mid files' d d' i i' status → (CanServe s.logs mid → NoFileFailed status)
-          → EndsInputs line s (world files d i o) (world files' d' i' o) status
+          → EndsInputs line s (outside files d i o) (outside files' d' i' o) status
       ends-count stay Done h sure = absurd h
       ends-count stay (BadWords fault) h sure = absurd h
       ends-count stay (BadFormat which fault) h sure = absurd h
       ends-count stay (BadRules at) h sure = absurd h
       ends-count stay (FileFault Rules) h sure = absurd h
       ends-count stay (FileFault (Log place)) h sure =
-          stopped files' d' i' went dwent (FileFault (Log place)) (miss-asked place PlaceFailed h) (
+          stopped files' d' i' went dwent (FileFault (Log place)) (
             record {
               misses = record { mid = mid; begun = begun h.found; misses = h.misses };
               unsure = λ can. sure (served-later s.logs files mid stay (served-back (rules_file s.browsers_file) s.logs files can));
             },
             refl,
-          ) (miss-counts files.counts PlaceFailed same-before h.misses.misses)
+          ) (asks-logs h.found.entries refl (walks-miss h.misses.misses)) (miss-counts files.counts PlaceFailed same-before h.misses.misses)
       ends-count stay (FileShort Rules at) h sure = absurd h
       ends-count stay (FileShort (Log place) at) h sure =
-          stopped files' d' i' went dwent (FileShort (Log place) at) (miss-asked place (PlaceShort at) h) (record { mid = mid; begun = begun h.found; misses = h.misses }, refl)
-          (miss-counts files.counts (PlaceShort at) same-before h.misses.misses)
+          stopped files' d' i' went dwent (FileShort (Log place) at) (record { mid = mid; begun = begun h.found; misses = h.misses }, refl)
+          (asks-logs h.found.entries refl (walks-miss h.misses.misses)) (miss-counts files.counts (PlaceShort at) same-before h.misses.misses)
       ends-count stay DiskFault (misses, same) sure =
-          stopped files' d' i' went dwent DiskFault (none-asked same) (inl (record { rules = rules; has_rules = rules-still same; misses = misses }), refl) (same-then same-before (same-files same))
+          stopped files' d' i' went dwent DiskFault (inl (record { rules = rules; has_rules = rules-still same; misses = misses }), refl) (none-asked same) (same-then same-before (same-files same))
       ends-count stay (DbDamaged side at) (misses, same) sure =
-          stopped files' d' i' went dwent (DbDamaged side at) (none-asked same) (record { rules = rules; has_rules = rules-still same; misses = misses }, refl) (same-then same-before (same-files same))
+          stopped files' d' i' went dwent (DbDamaged side at) (record { rules = rules; has_rules = rules-still same; misses = misses }, refl) (none-asked same) (same-then same-before (same-files same))
       ends-count stay (OutFault to at) h sure = absurd h
       ends-count stay (CounterFull which total) h sure =
-          let walked = walks-some h.read in
-          stopped files' d' i' went dwent (CounterFull which total)
-          (asks-logs (record {
-            stored = h.found.stored;
-            is_stored = there-in s d d' h.found.stored (found-there s d d' i i' h.found.stored h.found.finds);
-            entries = h.found.entries;
-            begin = h.found.begin;
-            count = walked.0;
-            walks = walked.1;
-          })) (inl (record { mid = mid; begun = begun h.found; portions = h.portions; read = h.read; fills = h.fills }), refl) (same-then same-before (same-some h.read))
-      ends-count stay NoMemory h sure = stopped files' d' i' went dwent NoMemory (asked h.asks) (h.looks, refl) (same-then same-before h.faults)
+          stopped files' d' i' went dwent (CounterFull which total) (inl (record { mid = mid; begun = begun h.found; portions = h.portions; read = h.read; fills = h.fills }), refl)
+          (asks-logs h.found.entries refl (walks-some h.read)) (same-then same-before (same-some h.read))
+      ends-count stay NoMemory h sure = stopped files' d' i' went dwent NoMemory (h.looks, refl) (asked h.asks) (same-then same-before h.faults)
         where
-          asked : (files' ≡ mid) ⊎ WalksLogs s d mid files' → (count : ℕ) × WalksInputs s d files files' count
+          asked : (files' ≡ mid) ⊎ WalksLogs s d mid files' → Asked s (λ entries. (stored : DbValue) × IsStored s d stored × AreBase s stored entries) files files'
           asked (inl same) = none-asked same
-          asked (inr walked) = asks-logs walked
+          asked (inr walked) = asks-logs walked.entries (walked.stored, walked.is_stored, walked.begin) (walked.count, walked.walks)
 
     -- ---- behind the counting
 
@@ -299,10 +282,8 @@ module _ (line : LineSetup) (s : Settings) (files : FilesView) (d : DiskView) (i
       abbrev stored : DbValue
       stored = db_value counted.stored
 
-      all-asked : (count : ℕ) × WalksInputs s d files files' count
-      all-asked =
-          let walked = walks-all value.has.read in
-          asks-logs (record { stored = stored; is_stored = there-in s d d' stored (found-there s d d' i i' stored value.finds); entries = value.has.entries; begin = value.has.begin; count = walked.0; walks = walked.1 })
+      all-asked : {Followed : List Entry → Type 0} → Followed value.has.entries → Asked s Followed files files'
+      all-asked followed = asks-logs value.has.entries followed (walks-all value.has.read)
 
       all-same : SameFaults files.counts files'.counts
       all-same = same-then same-before (same-all value.has.read)
@@ -321,7 +302,7 @@ module _ (line : LineSetup) (s : Settings) (files : FilesView) (d : DiskView) (i
         fails-as : FailsKeeping stored counted.whole counted.entries d' d'' i' i'' → FailsKeeping stored value.has.whole value.has.entries' d' d'' i' i''
         fails-as h = subst (λ (w : SummaryValue). FailsKeeping stored w value.has.entries' d' d'' i' i'') (sym value.whole) (subst (λ (es : List Entry). FailsKeeping stored counted.whole es d' d'' i' i'') (sym value.entries) h)
 
-        abbrev has-report : {status : Status} → Delivers s counted d' d'' i' i'' o o' status → HasReport line s (world files d i o) (world files' d'' i'' o')
+        abbrev has-report : {status : Status} → Delivers s counted d' d'' i' i'' o o' status → HasReport line s (outside files d i o) (outside files' d'' i'' o')
         has-report h = record {
           found = d';
           come = come d' there;
@@ -334,8 +315,9 @@ module _ (line : LineSetup) (s : Settings) (files : FilesView) (d : DiskView) (i
         lacks-of persists passes = ap (λ (b : Bool). b && passes_generations (mode_of s) stored) persists ∙ passes
 
         ends-as : (status : Status) → EndsKeeping s counted d' d'' i' i'' o o' status
-            → Ends line s (world files d i o) (world files' d'' i'' o') status × SameFaults (faults_after status files.counts) files'.counts
-        ends-as Done h = (record { has = has-report h; printed = h.report }, all-same)
+            → (ends : Ends line s (outside files d i o) (outside files' d'' i'' o') status) × Asked s (AreFollowed line s (outside files d i o) (outside files' d'' i'' o') status ends) files files'
+            × SameFaults (faults_after status files.counts) files'.counts
+        ends-as Done h = (record { has = has-report h; printed = h.report }, all-asked refl, all-same)
         ends-as (BadWords fault) h = absurd h
         ends-as (BadFormat which fault) h = absurd h
         ends-as (BadRules at) h = absurd h
@@ -351,10 +333,11 @@ module _ (line : LineSetup) (s : Settings) (files : FilesView) (d : DiskView) (i
             }),
             quiet-as o o' quiet,
           ),
+          all-asked refl,
           all-same,
         )
         ends-as (DbDamaged side at) h = absurd h
-        ends-as (OutFault to at) h = (record { target_is = h.report.target_is; has = has-report h; stops = h.report.stops; unsure = h.report.unsure }, all-same)
+        ends-as (OutFault to at) h = (record { target_is = h.report.target_is; has = has-report h; stops = h.report.stops; unsure = h.report.unsure }, all-asked refl, all-same)
         ends-as (CounterFull which total) (persists, counter, value-is, passes, left, quiet) =
             let finds = finds-still s d i stored d' d'' i' i'' left value.finds in (
               (
@@ -367,18 +350,19 @@ module _ (line : LineSetup) (s : Settings) (files : FilesView) (d : DiskView) (i
                 }),
                 quiet-as o o' quiet,
               ),
+              all-asked refl,
               all-same,
             )
-        ends-as NoMemory (left, quiet) = ((looked-at s d d'' i i'' stored (finds-still s d i stored d' d'' i' i'' left value.finds), quiet-as o o' quiet), all-same)
+        ends-as NoMemory (left, quiet) = ((looked-at s d d'' i i'' stored (finds-still s d i stored d' d'' i' i'' left value.finds), quiet-as o o' quiet), all-asked (stored, there-in s d d' stored there, value.has.begin), all-same)
 
         pub ends-last : FilesTrace files files' → DiskTrace d d' → (status : Status) → EndsLast s counted d' d'' i' i'' o o' status
-            → EndsInputs line s (world files d i o) (world files' d'' i'' o') status
+            → EndsInputs line s (outside files d i o) (outside files' d'' i'' o') status
         ends-last went dwent status h =
-            let both = ends-as status h.ends in
+            let all = ends-as status h.ends in
             record {
-              asks = all-asked;
-              ends = both.0;
-              faults = both.1;
+              ends = all.0;
+              asks = all.1;
+              faults = all.2;
               errors = h.errors;
               files_trace = went;
               disk_trace = disk_then dwent h.disk_trace;

@@ -1,3 +1,4 @@
+pub mod Agreeing
 pub mod Asking
 pub mod Counting
 pub mod DiskFaults
@@ -5,6 +6,7 @@ pub mod Endings
 pub mod Finishing
 pub mod FormatLemmas
 pub mod InputsEnds
+pub mod Leaving
 pub mod Moments
 pub mod OneAnswer
 pub mod OneCount

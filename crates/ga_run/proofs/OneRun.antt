@@ -24,7 +24,7 @@ use Rattle.ga_agents.specs.declared.row.Rule.{Rule}
 use Rattle.ga_run.specs.Ends.{Ends, HasReport, SaysOnly}
 use Rattle.ga_run.specs.Inputs.{inputs_of, rules_file}
 use Rattle.ga_run.specs.Keeping.{FindsThere, IsKeptSince, KeepsSince, KeptSince}
-use Rattle.ga_run.specs.OneRun.{Alike, DifferInWorkers, HasDatabase, HaveSameInputs, IsUntroubled, RunView, SameDatabase, Wrote, with_workers}
+use Rattle.ga_run.specs.OneRun.{Alike, DifferInWorkers, HasDatabase, HaveSameInputs, IsUntroubled, RunView, SameDatabase, SidesAgree, Wrote, with_workers}
 use Rattle.ga_run.specs.Printing.{TakesOrStops, but_errors, delivered, report_file, target_of}
 use Rattle.ga_run.specs.Run.{AreRefused, HasGoodInput, HaveRefused, HaveSetup, IsTrouble, NothingWasRead, RunsOver}
 use Rattle.ga_run.specs.Setups.{IsLineSetup, IsRefused}
@@ -38,6 +38,7 @@ use Rattle.ga_run.specs.declared.status.Which.{Which}
 use Rattle.ga_run.specs.declared.status.Which.TheVariants.{Log, Date, Time}
 use Rattle.ga_run.specs.declared.status.Status.{Status}
 use Rattle.ga_run.specs.declared.status.Status.TheVariants.{Done, BadWords, BadFormat, BadRules, FileFault, FileShort, DiskFault, DbDamaged, OutFault, CounterFull, NoMemory}
+use Rattle.ga_run.proofs.Agreeing.{answers-on}
 use Rattle.ga_run.proofs.Endings.{stops-rose}
 use Rattle.ga_run.proofs.OneAnswer.{OneDatabase}
 use Rattle.ga_run.proofs.WordLaw.{OneWords}
@@ -281,12 +282,13 @@ module _ (law : ReadAsTold) (database : OneDatabase) (words : List (List ℕ)) (
 -- ---- two of them
 
 -- the same database is left where none was changed
-still-same : OneDatabase → (sides : Sides) (a b : RunView) → a.new.disk.seen ≡ a.old.disk.seen → b.new.disk.seen ≡ b.old.disk.seen → a.old.disk.seen ≡ Some sides → b.old.disk.seen ≡ Some sides
-    → SameDatabase a.new b.new
-still-same database sides a b h k reads reads' db db' (x, is, has) (y, is', has') =
+still-same : OneDatabase → (sides sides' : Sides) → SidesAgree sides sides' → (a b : RunView) → a.new.disk.seen ≡ a.old.disk.seen → b.new.disk.seen ≡ b.old.disk.seen → a.old.disk.seen ≡ Some sides
+    → b.old.disk.seen ≡ Some sides' → SameDatabase a.new b.new
+still-same database sides sides' agree a b h k reads reads' db db' (x, is, has) (y, is', has') =
     let same-x : x ≡ sides = let e = sym is ∙ h ∙ reads in cc in
-    let same-y : y ≡ sides = let e = sym is' ∙ k ∙ reads' in cc in
-    let same : db ≡ db' = let e = database sides (reads_as db) (reads_as db') (subst (λ (z : Sides). DbOf z (reads_as db)) same-x has) (subst (λ (z : Sides). DbOf z (reads_as db')) same-y has') in cc in
+    let same-y : y ≡ sides' = let e = sym is' ∙ k ∙ reads' in cc in
+    let there : DbOf sides (reads_as db') = (agree (reads_as db')).1 (subst (λ (z : Sides). DbOf z (reads_as db')) same-y has') in
+    let same : db ≡ db' = let e = database sides (reads_as db) (reads_as db') (subst (λ (z : Sides). DbOf z (reads_as db)) same-x has) there in cc in
     record {
       summary = ap (λ (v : DbValue). v.summary) same;
       entries = ap (λ (v : DbValue). v.entries) same;
@@ -300,10 +302,11 @@ next-same s x y db db' e h k =
     let h' = subst (λ (v : DbValue). IsNext (mode_of s) v db) e h in
     (h'.generation ∙ sym k.generation, h'.records ∙ sym k.records)
 
-module _ (database : OneDatabase) (words words' : List (List ℕ)) (sides : Sides) (a b : RunView) (u : IsUntroubled words sides a) (v : IsUntroubled words' sides b) where
+module _ (database : OneDatabase) (words words' : List (List ℕ)) (sides sides' : Sides) (agree : SidesAgree sides sides') (a b : RunView) (u : IsUntroubled words sides a)
+    (v : IsUntroubled words' sides' b) where
   -- with one status and one report, all is alike
   alike : (status : Status) → Nameless status → a.status ≡ status → b.status ≡ status → (report : Option (Option (List ℕ) × List ℕ)) → Wrote report a.old.outs a.new.outs → Wrote report b.old.outs b.new.outs
-      → (a.old.disk.seen ≡ Some sides → b.old.disk.seen ≡ Some sides → SameDatabase a.new b.new) → Alike sides a b
+      → (a.old.disk.seen ≡ Some sides → b.old.disk.seen ≡ Some sides' → SameDatabase a.new b.new) → Alike sides sides' a b
   alike status unnamed e f report output output' left =
       let here = u.is_run.reports.line in
       let there = v.is_run.reports.line in
@@ -322,11 +325,11 @@ module _ (database : OneDatabase) (words words' : List (List ℕ)) (sides : Side
 
   -- both refuse the words
   refused-alike : (status : Status) → Nameless status → status ≢ Done → ((to : _) (at : ℕ) → status ≢ OutFault to at) → a.status ≡ status → b.status ≡ status → NothingWasRead a.old a.new → NothingWasRead b.old b.new
-      → Alike sides a b
+      → Alike sides sides' a b
   refused-alike status unnamed undone unfailed e f still still' =
       alike status unnamed e f None (u.is_run.reports.refused (λ done. undone (sym e ∙ done)) (λ to at failed. unfailed to at (sym e ∙ failed)))
       (v.is_run.reports.refused (λ done. undone (sym f ∙ done)) (λ to at failed. unfailed to at (sym f ∙ failed)))
-      (still-same database sides a b (ap (λ (d : DiskView). d.seen) still.disk.view) (ap (λ (d : DiskView). d.seen) still'.disk.view))
+      (still-same database sides sides' agree a b (ap (λ (d : DiskView). d.seen) still.disk.view) (ap (λ (d : DiskView). d.seen) still'.disk.view))
 
 -- ---- other workers
 
@@ -383,26 +386,26 @@ abbrev pub OneAnswer : Type 0
 OneAnswer = (s : Settings) (line : LineSetup) → IsLineSetup s line → (files : FilesView) (sides : Sides) (a b : Status) (yielded other : Option Yield) → Answers line s files sides a yielded
     → Answers line s files sides b other → (a ≡ b) × (yielded ≡ other)
 
-module _ (answer : OneAnswer) (law : ReadAsTold) (database : OneDatabase) (words words' : List (List ℕ)) (sides : Sides) (a b : RunView) (u : IsUntroubled words sides a)
-    (v : IsUntroubled words' sides b) (same : HaveSameInputs words a b) where
+module _ (answer : OneAnswer) (law : ReadAsTold) (database : OneDatabase) (words words' : List (List ℕ)) (sides sides' : Sides) (agree : SidesAgree sides sides') (a b : RunView)
+    (u : IsUntroubled words sides a) (v : IsUntroubled words' sides' b) (same : HaveSameInputs words a b) where
   -- both ran over their inputs, by the same settings but for the workers
   module _ (s : Settings) (line : LineSetup) (jobs chunk : ℕ) (says : WordsOf words (Ok s)) (is : IsLineSetup s line) (says' : WordsOf words' (Ok (with_workers jobs chunk s))) where
     is' : IsLineSetup (with_workers jobs chunk s) line
     is' = setup-by line s jobs chunk is
 
-    shown-alike : (yield : Option Yield) → a.status ≡ b.status → Shows s a yield → Shows s b yield → Alike sides a b
+    shown-alike : (yield : Option Yield) → a.status ≡ b.status → Shows s a yield → Shows s b yield → Alike sides sides' a b
     shown-alike None e (quiet, still) (quiet', still') =
-        alike database words words' sides a b u v b.status (nameless b.status (settled law database words' sides (with_workers jobs chunk s) line says' is' b v b.status refl)) e refl None quiet quiet'
-        (still-same database sides a b still still')
+        alike database words words' sides sides' agree a b u v b.status (nameless b.status (settled law database words' sides' (with_workers jobs chunk s) line says' is' b v b.status refl)) e refl None quiet quiet'
+        (still-same database sides sides' agree a b still still')
     shown-alike (Some yield) e (printed, left) (printed', left') =
-        alike database words words' sides a b u v b.status (nameless b.status (settled law database words' sides (with_workers jobs chunk s) line says' is' b v b.status refl)) e refl
+        alike database words words' sides sides' agree a b u v b.status (nameless b.status (settled law database words' sides' (with_workers jobs chunk s) line says' is' b v b.status refl)) e refl
         (Some (report_file s.generate s.output.name, yield.text)) printed printed' (by left left')
       where
-        by : Left s a yield → Left s b yield → a.old.disk.seen ≡ Some sides → b.old.disk.seen ≡ Some sides → SameDatabase a.new b.new
+        by : Left s a yield → Left s b yield → a.old.disk.seen ≡ Some sides → b.old.disk.seen ≡ Some sides' → SameDatabase a.new b.new
         by (inl (persists, h)) (inl (persists', k)) reads reads' db db' has has' =
             let x = h sides reads db has in
-            let y = k sides reads' db' has' in
-            let stored : x.stored ≡ y.stored = let e = database sides (reads_as x.stored) (reads_as y.stored) x.had y.had in cc in
+            let y = k sides' reads' db' has' in
+            let stored : x.stored ≡ y.stored = let e = database sides (reads_as x.stored) (reads_as y.stored) x.had ((agree (reads_as y.stored)).1 y.had) in cc in
             let next = next-same s x.stored y.stored db db' stored x.next y.next in
             record {
               summary = x.summary ∙ sym y.summary;
@@ -412,55 +415,55 @@ module _ (answer : OneAnswer) (law : ReadAsTold) (database : OneDatabase) (words
             }
         by (inl (persists, h)) (inr (not, k)) reads reads' db db' has has' = absurd (false≢true (sym not ∙ persists))
         by (inr (not, h)) (inl (persists, k)) reads reads' db db' has has' = absurd (false≢true (sym not ∙ persists))
-        by (inr (not, h)) (inr (not', k)) reads reads' db db' has has' = still-same database sides a b h k reads reads' db db' has has'
+        by (inr (not, h)) (inr (not', k)) reads reads' db db' has has' = still-same database sides sides' agree a b h k reads reads' db db' has has'
 
-    both-alike : Alike sides a b
+    both-alike : Alike sides sides' a b
     both-alike =
         let (yield, answers-a, shows-a) = ended law database words sides s line says is a u in
-        let (other, answers-b, shows-b) = ended law database words' sides (with_workers jobs chunk s) line says' is' b v in
-        let alike-b = answers-by line s jobs chunk b.old.files sides b.status other answers-b in
+        let (other, answers-b, shows-b) = ended law database words' sides' (with_workers jobs chunk s) line says' is' b v in
+        let alike-b = answers-on agree line s b.old.files b.status other (answers-by line s jobs chunk b.old.files sides' b.status other answers-b) in
         let one = answer s line is a.old.files sides a.status b.status yield other answers-a (answers-along line s a.old.files b.old.files (same s says) sides b.status other alike-b) in
         shown-alike yield one.0 shows-a (subst (λ (y : Option Yield). Shows s b y) (sym one.1) shows-b)
 
 -- both have the same words
-module _ (answer : OneAnswer) (law : ReadAsTold) (database : OneDatabase) (words : List (List ℕ)) (sides : Sides) (a b : RunView) (u : IsUntroubled words sides a) (v : IsUntroubled words sides b)
-    (same : HaveSameInputs words a b) where
-  pub one-run : Alike sides a b
+module _ (answer : OneAnswer) (law : ReadAsTold) (database : OneDatabase) (words : List (List ℕ)) (sides sides' : Sides) (agree : SidesAgree sides sides') (a b : RunView)
+    (u : IsUntroubled words sides a) (v : IsUntroubled words sides' b) (same : HaveSameInputs words a b) where
+  pub one-run : Alike sides sides' a b
   one-run = by u.is_run.reads.decided
     where
-      refused : AreRefused words → Alike sides a b
+      refused : AreRefused words → Alike sides sides' a b
       refused (inl (fault, bad)) =
-          refused-alike database words words sides a b u v (BadWords fault) (λ ws name e. e) (λ e. cc) (λ to at e. cc) ((u.is_run.reads.bad_words fault).1 (bad, u.fed)) ((v.is_run.reads.bad_words fault).1 (bad, v.fed))
+          refused-alike database words words sides sides' agree a b u v (BadWords fault) (λ ws name e. e) (λ e. cc) (λ to at e. cc) ((u.is_run.reads.bad_words fault).1 (bad, u.fed)) ((v.is_run.reads.bad_words fault).1 (bad, v.fed))
           (u.is_run.reads.untouched (inl (fault, bad))) (v.is_run.reads.untouched (inl (fault, bad)))
       refused (inr (which, fault, bad)) =
-          refused-alike database words words sides a b u v (BadFormat which fault) (λ ws name e. e) (λ e. cc) (λ to at e. cc) ((u.is_run.reads.bad_format which fault).1 (bad, u.fed))
+          refused-alike database words words sides sides' agree a b u v (BadFormat which fault) (λ ws name e. e) (λ e. cc) (λ to at e. cc) ((u.is_run.reads.bad_format which fault).1 (bad, u.fed))
           ((v.is_run.reads.bad_format which fault).1 (bad, v.fed)) (u.is_run.reads.untouched (inr (which, fault, bad))) (v.is_run.reads.untouched (inr (which, fault, bad)))
 
-      by : AreRefused words ⊎ HaveSetup words ⊎ (a.status ≡ NoMemory) → Alike sides a b
+      by : AreRefused words ⊎ HaveSetup words ⊎ ((a.status ≡ NoMemory) × NothingWasRead a.old a.new) → Alike sides sides' a b
       by (inl h) = refused h
-      by (inr (inl (s, says, (line, is)))) = both-alike answer law database words words sides a b u v same s line s.jobs s.chunk says is says
-      by (inr (inr e)) = absurd (u.fed e)
+      by (inr (inl (s, says, (line, is)))) = both-alike answer law database words words sides sides' agree a b u v same s line s.jobs s.chunk says is says
+      by (inr (inr e)) = absurd (u.fed e.0)
 
 -- their words say the same but for the workers
-module _ (reading : OneWords) (answer : OneAnswer) (law : ReadAsTold) (database : OneDatabase) (words words' : List (List ℕ)) (sides : Sides) (a b : RunView) (u : IsUntroubled words sides a)
-    (v : IsUntroubled words' sides b) (same : HaveSameInputs words a b) (say : DifferInWorkers words words') where
+module _ (reading : OneWords) (answer : OneAnswer) (law : ReadAsTold) (database : OneDatabase) (words words' : List (List ℕ)) (sides sides' : Sides) (agree : SidesAgree sides sides') (a b : RunView)
+    (u : IsUntroubled words sides a) (v : IsUntroubled words' sides' b) (same : HaveSameInputs words a b) (say : DifferInWorkers words words') where
   one-settings : (s : Settings) → WordsOf words (Ok s) → s ≡ say.settings
   one-settings s says = let e = reading words (Ok s) (Ok say.settings) says say.says in cc
 
-  pub one-run-by : Alike sides a b
+  pub one-run-by : Alike sides sides' a b
   one-run-by = by u.is_run.reads.decided
     where
-      refused : AreRefused words → Alike sides a b
+      refused : AreRefused words → Alike sides sides' a b
       refused (inl (fault, bad)) = let e = reading words (Ok say.settings) (Err fault) say.says bad in absurd (cc e)
       refused (inr (which, fault, (s, says, bad))) =
           let bad' : IsRefused say.settings which fault = subst (λ (s : Settings). IsRefused s which fault) (one-settings s says) bad in
           let here : HaveRefused words which fault = (say.settings, say.says, bad') in
           let there : HaveRefused words' which fault = (with_workers say.jobs say.chunk say.settings, say.says', refused-by say.settings say.jobs say.chunk which fault bad') in
-          refused-alike database words words' sides a b u v (BadFormat which fault) (λ ws name e. e) (λ e. cc) (λ to at e. cc) ((u.is_run.reads.bad_format which fault).1 (here, u.fed))
+          refused-alike database words words' sides sides' agree a b u v (BadFormat which fault) (λ ws name e. e) (λ e. cc) (λ to at e. cc) ((u.is_run.reads.bad_format which fault).1 (here, u.fed))
           ((v.is_run.reads.bad_format which fault).1 (there, v.fed)) (u.is_run.reads.untouched (inr (which, fault, here))) (v.is_run.reads.untouched (inr (which, fault, there)))
 
-      by : AreRefused words ⊎ HaveSetup words ⊎ (a.status ≡ NoMemory) → Alike sides a b
+      by : AreRefused words ⊎ HaveSetup words ⊎ ((a.status ≡ NoMemory) × NothingWasRead a.old a.new) → Alike sides sides' a b
       by (inl h) = refused h
       by (inr (inl (s, says, (line, is)))) =
-          both-alike answer law database words words' sides a b u v same say.settings line say.jobs say.chunk say.says (subst (λ (s : Settings). IsLineSetup s line) (one-settings s says) is) say.says'
-      by (inr (inr e)) = absurd (u.fed e)
+          both-alike answer law database words words' sides sides' agree a b u v same say.settings line say.jobs say.chunk say.says (subst (λ (s : Settings). IsLineSetup s line) (one-settings s says) is) say.says'
+      by (inr (inr e)) = absurd (u.fed e.0)

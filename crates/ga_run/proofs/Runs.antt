@@ -15,24 +15,27 @@ use Rattle.ga_words.specs.WordsOf.{WordsOf}
 use Rattle.ga_words.specs.declared.fault.WordFault.{WordFault}
 use Rattle.ga_words.specs.declared.fault.WordFault.TheVariants.{UnknownOption, MissingValue, BadValue, NoFormat, NoInput, Conflict, NoMemory as WordNoMemory}
 use Rattle.ga_words.specs.declared.settings.Settings.{Settings}
-use Rattle.ga_run.specs.Ends.{Ends, SaysOnly}
+use Rattle.ga_run.specs.Ends.{AreFollowed, Ends, SaysOnly}
 use Rattle.ga_run.specs.Inputs.{WalksInputs}
 use Rattle.ga_run.specs.Inputs.WalksInputs.{asks_none}
+use Rattle.ga_run.specs.Leaves.{Leaves}
 use Rattle.ga_run.specs.Printing.{ChangesOnly, TakesOrStops, but_errors}
 use Rattle.ga_run.specs.Run.{AreRefused, HaveRefused, IsRun, NothingWasRead, ReadsWords, RunsOver, SameFaults, faults_after}
 use Rattle.ga_run.specs.Setups.{IsLineSetup, IsRefused}
 use Rattle.ga_run.specs.Statuses.{fault_line, NamesFailed}
 use Rattle.ga_run.specs.Steps.Run.{EndsEarly, EndsInputs, EndsRun, failed_name, status_of_words}
 use Rattle.ga_run.specs.Steps.Setups.{GivesLineSetup}
-use Rattle.ga_run.specs.World.{World, world_of as world}
+use Rattle.ga_run.specs.Outside.{Outside, outside_of as outside}
 use Rattle.ga_run.specs.declared.setups.SetupFault.{SetupFault}
 use Rattle.ga_run.specs.declared.setups.SetupFault.TheVariants.{Refused}
 use Rattle.ga_run.specs.declared.status.Status.{Status}
 use Rattle.ga_run.specs.declared.status.Status.TheVariants.{Done, BadWords, BadFormat, BadRules, FileFault, FileShort, DiskFault, DbDamaged, OutFault, CounterFull, NoMemory}
 use Rattle.ga_run.specs.declared.status.Which.{Which}
+use Rattle.ga_run.proofs.Asking.{walks-as}
 use Rattle.ga_run.proofs.DiskFaults.{alone-by, disk-faults-by}
-use Rattle.ga_run.proofs.Endings.{absent-by, along, complete-by, early-faults, moments-by, named, nothing-taken, refused-by, same-but, unwritten-by, written}
-use Rattle.ga_run.proofs.Moments.{OnlyNow, untouched-leaves}
+use Rattle.ga_run.proofs.Endings.{absent-by, along, complete-by, early-faults, followed-written, named, nothing-taken, refused-by, same-but, written}
+use Rattle.ga_run.proofs.Leaving.{leaves-by, of-untouched, unwritten-by}
+use Rattle.ga_run.proofs.Moments.{OnlyNow}
 use Rattle.ga_run.proofs.Telling.{ReadAsTold, answers}
 
 -- what the laws of words and of formats say
@@ -43,16 +46,16 @@ abbrev pub OneOutcome : Type 0
 OneOutcome = (s : Settings) (a b : Result LineSetup SetupFault) → GivesLineSetup s a → GivesLineSetup s b → a ≡ b
 
 -- what a status says of the words, and the run over the inputs
-record Decides (words : List (List ℕ)) (old new : World) (status : Status) : Type 0 where
+record Decides (words : List (List ℕ)) (old new : Outside) (status : Status) : Type 0 where
   reads : ReadsWords words old new status
   runs : (s : Settings) (line : LineSetup) → WordsOf words (Ok s) → IsLineSetup s line → RunsOver line s old new status
 
 -- the rest of a run, once its fault line is written
-assembled : (words : List (List ℕ)) (name : List ℕ) (old : World) (f : FilesView) (d : DiskView) (i : Images) (mid outs : OutsView) (status : Status) → Decides words old (world f d i outs) status
+assembled : (words : List (List ℕ)) (name : List ℕ) (old : Outside) (f : FilesView) (d : DiskView) (i : Images) (mid outs : OutsView) (status : Status) → Decides words old (outside f d i outs) status
     → SameFaults (faults_after status old.files.counts) f.counts → mid.stderr ≡ old.outs.stderr
     → (status ≢ Done → ((to : To) (at : ℕ) → status ≢ OutFault to at) → mid ≡ but_errors mid old.outs)
     → NamesFailed words status name → TakesOrStops (fault_line name status) mid.stderr outs.stderr → ChangesOnly Stderr mid outs → FilesTrace old.files f → DiskTrace old.disk d
-    → OutsTrace old.outs outs → IsRun words old (world f d i outs) status
+    → OutsTrace old.outs outs → IsRun words old (outside f d i outs) status
 assembled words name old f d i mid outs status decides counted errors kept names line changed asked touched wrote =
     let told_line : TakesOrStops (fault_line name status) old.outs.stderr outs.stderr =
     subst (λ (t : TargetView). TakesOrStops (fault_line name status) t outs.stderr) errors line in
@@ -123,7 +126,7 @@ module _ (one : OneWords) (outcome : OneOutcome) (words : List (List ℕ)) where
     not-said : (s : Settings) → WordsOf words (Ok s) → ⊥
     not-said s h = ok-err (one words (Ok s) (Err fault) h bad)
 
-    decides-words : (old new : World) → NothingWasRead old new → Decides words old new (BadWords fault)
+    decides-words : (old new : Outside) → NothingWasRead old new → Decides words old new (BadWords fault)
     decides-words old new still = record {
       reads = record {
         bad_words = λ other. (
@@ -150,7 +153,7 @@ module _ (one : OneWords) (outcome : OneOutcome) (words : List (List ℕ)) where
     line-is other line h is = subst (λ t. IsLineSetup t line) (one-settings one words other s h says) is
 
     -- a format of them is refused
-    decides-refused : (which : Which) (fault : FormatFault) → IsRefused s which fault → (old new : World) → NothingWasRead old new → Decides words old new (BadFormat which fault)
+    decides-refused : (which : Which) (fault : FormatFault) → IsRefused s which fault → (old new : Outside) → NothingWasRead old new → Decides words old new (BadFormat which fault)
     decides-refused which fault h old new still =
         let come : GivesLineSetup s (Err (Refused which fault)) = (h, λ e. cc) in
         record {
@@ -168,31 +171,34 @@ module _ (one : OneWords) (outcome : OneOutcome) (words : List (List ℕ)) where
         }
 
     -- the run over the inputs, read so
-    module _ (line : LineSetup) (is : IsLineSetup s line) (law : ReadAsTold) (old : World) (only : OnlyNow old.images) (f : FilesView) (d : DiskView) (i : Images) (mid outs : OutsView) (status : Status)
-        (ended : EndsInputs line s old (world f d i mid) status) (changed : ChangesOnly Stderr mid outs) (more : mid.starved ≤ outs.starved) where
-      ends-now : Ends line s old (world f d i outs) status
+    module _ (line : LineSetup) (is : IsLineSetup s line) (law : ReadAsTold) (old : Outside) (only : OnlyNow old.images) (f : FilesView) (d : DiskView) (i : Images) (mid outs : OutsView) (status : Status)
+        (ended : EndsInputs line s old (outside f d i mid) status) (changed : ChangesOnly Stderr mid outs) (more : mid.starved ≤ outs.starved) where
+      abbrev ends-now : Ends line s old (outside f d i outs) status
       ends-now = written line s old f d i mid outs changed more status ended.ends
 
-      at : (st : Status) → status ≡ st → Ends line s old (world f d i outs) st
-      at st e = subst (λ (x : Status). Ends line s old (world f d i outs) x) e ends-now
+      at : (st : Status) → status ≡ st → Ends line s old (outside f d i outs) st
+      at st e = subst (λ (x : Status). Ends line s old (outside f d i outs) x) e ends-now
 
-      runs-over : RunsOver line s old (world f d i outs) status
+      leaves-now : Leaves line s old (outside f d i outs) status
+      leaves-now = leaves-by line s old (outside f d i outs) only status ends-now
+
+      runs-over : RunsOver line s old (outside f d i outs) status
       runs-over = record {
-        asks = ended.asks;
         ends = ends-now;
-        told = λ sides some tells. answers law line s old (world f d i outs) sides some tells status ends-now;
-        absent = λ place name stands gone. absent-by line s old (world f d i outs) place name stands gone status ends-now;
-        complete = complete-by line s old (world f d i outs) status ends-now ended.faults;
-        moments = λ sides reads. moments-by s old (world f d i outs) only line sides reads status ends-now;
-        unwritten = λ not. unwritten-by s old (world f d i outs) only line not status ends-now;
-        alone = λ none. alone-by line s old (world f d i outs) none status ends-now;
-        disk_faults = disk-faults-by line s old (world f d i outs) status ends-now;
+        asks = (ended.asks.0, walks-as (followed-written line s old f d i mid outs changed more status ended.ends) ended.asks.1);
+        told = λ sides some tells. answers law line s old (outside f d i outs) sides some tells status ends-now;
+        absent = λ place name stands gone. absent-by line s old (outside f d i outs) place name stands gone status ends-now;
+        complete = complete-by line s old (outside f d i outs) status ends-now ended.faults;
+        leaves = leaves-now;
+        unwritten = unwritten-by line s old (outside f d i outs) status leaves-now;
+        alone = λ none. alone-by line s old (outside f d i outs) none status ends-now;
+        disk_faults = disk-faults-by line s old (outside f d i outs) status ends-now;
       }
 
       come : GivesLineSetup s (Ok line)
       come = is
 
-      decides-inputs : Decides words old (world f d i outs) status
+      decides-inputs : Decides words old (outside f d i outs) status
       decides-inputs = record {
         reads = record {
           bad_words = λ fault. (λ e. absurd (at (BadWords fault) e), λ p. absurd (not-bad fault p.0));
@@ -204,7 +210,7 @@ module _ (one : OneWords) (outcome : OneOutcome) (words : List (List ℕ)) where
         runs = λ other line' say of.
             let same : s ≡ other = one-settings one words s other says say in
             let lines : line ≡ line' = line-same (outcome s (Ok line) (Ok line') come (line-is other line' say of)) in
-            subst (λ (t : Settings). RunsOver line' t old (world f d i outs) status) same (subst (λ (l : LineSetup). RunsOver l s old (world f d i outs) status) lines runs-over);
+            subst (λ (t : Settings). RunsOver line' t old (outside f d i outs) status) same (subst (λ (l : LineSetup). RunsOver l s old (outside f d i outs) status) lines runs-over);
       }
         where
           not-either : AreRefused words → ⊥
@@ -212,30 +218,30 @@ module _ (one : OneWords) (outcome : OneOutcome) (words : List (List ℕ)) where
           not-either (inr (which, fault, h)) = not-set (outcome s (Ok line) (Err (Refused which fault)) come (refused-is which fault h, λ e. cc))
 
 -- memory ran out before any file was asked for
-decides-nothing : (words : List (List ℕ)) (old new : World) → OnlyNow old.images → SaysOnly old new → NothingWasRead old new → Decides words old new NoMemory
+decides-nothing : (words : List (List ℕ)) (old new : Outside) → OnlyNow old.images → SaysOnly old new → NothingWasRead old new → Decides words old new NoMemory
 decides-nothing words old new only quiet still = record {
   reads = record {
     bad_words = λ fault. (λ e. absurd (cc e), λ p. absurd (p.1 refl));
     bad_format = λ which fault. (λ e. absurd (cc e), λ p. absurd (p.1 refl));
     untouched = λ h. still;
     unsaid = λ h. still;
-    decided = inr (inr refl);
+    decided = inr (inr (refl, still));
   };
   runs = λ s line say is. record {
-    asks = (0, subst (λ (f : FilesView). WalksInputs s old.disk old.files f 0) (sym still.files) asks_none);
     ends = (inl still.disk, quiet);
+    asks = (0, subst (λ (f : FilesView). WalksInputs s (AreFollowed line s old new NoMemory (inl still.disk, quiet)) old.files f 0) (sym still.files) asks_none);
     told = λ sides some tells. inl tt;
     absent = λ place name stands gone. tt;
     complete = λ served disk took good. inr refl;
-    moments = λ sides reads. inl (untouched-leaves old.disk new.disk old.images new.images only still.disk);
-    unwritten = λ not. record { seen = ap (λ (d : DiskView). d.seen) still.disk.view; moments = untouched-leaves old.disk new.disk old.images new.images only still.disk };
+    leaves = inl (of-untouched line s old new only still.disk);
+    unwritten = λ not. of-untouched line s old new only still.disk;
     alone = λ none. still.disk.view;
     disk_faults = ap (λ (d : DiskView). d.counts.faults) still.disk.view;
   };
 }
 
 module _ (one : OneWords) (outcome : OneOutcome) (law : ReadAsTold) (words : List (List ℕ)) where
-  decides-early : (s : Settings) → WordsOf words (Ok s) → (old new : World) → OnlyNow old.images → SaysOnly old new → NothingWasRead old new → (status : Status) → EndsEarly s status
+  decides-early : (s : Settings) → WordsOf words (Ok s) → (old new : Outside) → OnlyNow old.images → SaysOnly old new → NothingWasRead old new → (status : Status) → EndsEarly s status
       → Decides words old new status
   decides-early s says old new only quiet still Done h = absurd h
   decides-early s says old new only quiet still (BadWords fault) h = absurd h
@@ -249,27 +255,27 @@ module _ (one : OneWords) (outcome : OneOutcome) (law : ReadAsTold) (words : Lis
   decides-early s says old new only quiet still (CounterFull which total) h = absurd h
   decides-early s says old new only quiet still NoMemory h = decides-nothing words old new only quiet still
 
-  module _ (old : World) (only : OnlyNow old.images) where
+  module _ (old : Outside) (only : OnlyNow old.images) where
     -- a run that the words say
     pub run-of : (s : Settings) (f : FilesView) (d : DiskView) (i : Images) (mid outs : OutsView) (status : Status) → WordsOf words (Ok s)
-        → EndsRun s old (world f d i mid) status → TakesOrStops (fault_line (failed_name s status) status) mid.stderr outs.stderr → ChangesOnly Stderr mid outs
-        → OutsTrace mid outs → mid.starved ≤ outs.starved → IsRun words old (world f d i outs) status
+        → EndsRun s old (outside f d i mid) status → TakesOrStops (fault_line (failed_name s status) status) mid.stderr outs.stderr → ChangesOnly Stderr mid outs
+        → OutsTrace mid outs → mid.starved ≤ outs.starved → IsRun words old (outside f d i outs) status
     run-of s f d i mid outs status says (inl (early, still, quiet)) line changed wrote more =
         let unsaid : mid ≡ but_errors mid old.outs = same-but old.outs mid quiet in
         assembled words (failed_name s status) old f d i mid outs status
-        (decides-early s says old (world f d i outs) only (along old.outs mid outs changed unsaid) (record { files = still.files; disk = still.disk }) status early)
+        (decides-early s says old (outside f d i outs) only (along old.outs mid outs changed unsaid) (record { files = still.files; disk = still.disk }) status early)
         (subst (λ (v : FilesView). SameFaults (faults_after status old.files.counts) v.counts) (sym still.files) (early-faults s old.files.counts status early))
-        (ap (λ (v : OutsView). v.stderr) quiet) (λ undone none. unsaid) (named words s says old (world f d i mid) status (inl (early, still, quiet))) line changed
+        (ap (λ (v : OutsView). v.stderr) quiet) (λ undone none. unsaid) (named words s says old (outside f d i mid) status (inl (early, still, quiet))) line changed
         (subst (λ (v : FilesView). FilesTrace old.files v) (sym still.files) no_files_call) (subst (λ (v : DiskView). DiskTrace old.disk v) (sym still.disk.view) no_disk_call)
         (subst (λ (v : OutsView). OutsTrace v outs) quiet wrote)
     run-of s f d i mid outs status says (inr (reads, is, ended)) line changed wrote more =
         assembled words (failed_name s status) old f d i mid outs status
         (decides-inputs one outcome words s says reads is law old only f d i mid outs status ended changed more) ended.faults ended.errors
-        (λ undone none. refused-by reads s old (world f d i mid) status ended.ends undone none) (named words s says old (world f d i mid) status (inr (reads, is, ended))) line changed
+        (λ undone none. refused-by reads s old (outside f d i mid) status ended.ends undone none) (named words s says old (outside f d i mid) status (inr (reads, is, ended))) line changed
         ended.files_trace ended.disk_trace (outs_then ended.outs_trace wrote)
 
-    abbrev after : OutsView → World
-    after outs = world old.files old.disk old.images outs
+    abbrev after : OutsView → Outside
+    after outs = outside old.files old.disk old.images outs
 
     nothing-read : (outs : OutsView) → NothingWasRead old (after outs)
     nothing-read outs = record { files = refl; disk = record { view = refl; moment = refl; now = λ image h. h; since = λ t image h. h } }

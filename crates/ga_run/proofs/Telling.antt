@@ -32,7 +32,7 @@ use Rattle.ga_run.specs.Run.{IsTrouble, TellsSides}
 use Rattle.ga_run.specs.Setups.{setup_of}
 use Rattle.ga_run.specs.Told.{Answers, CountsTold, FillsTold, RulesAreTold, Yield}
 use Rattle.ga_run.specs.Told.Answers.{answers_rules, answers_damage, answers_full, answers_generation, answers_done}
-use Rattle.ga_run.specs.World.{World}
+use Rattle.ga_run.specs.Outside.{Outside}
 use Rattle.ga_run.specs.declared.status.Status.{Status}
 use Rattle.ga_run.specs.declared.status.Status.TheVariants.{Done, BadWords, BadFormat, BadRules, FileFault, FileShort, DiskFault, DbDamaged, OutFault, CounterFull, NoMemory}
 
@@ -73,7 +73,7 @@ rules-told (Some name) a b rules some (text, reads, gives) = (text.bytes, told-i
 
 -- what was found of a disk was there
 pub found-there : (s : Settings) (d d' : DiskView) (i i' : Images) (stored : DbValue) → Finds s d d' i i' stored → FindsThere s d d' stored
-found-there s d d' i i' stored (inl (uses, r)) = inl (uses, record { view = r.looks.view; has = go d.seen refl; opened = r.opened; path = r.path; faults = r.faults })
+found-there s d d' i i' stored (inl (uses, r)) = inl (uses, record { view = r.looks.view; has = go d.seen refl; opened = r.opened; path = r.path; faults = r.faults; calls = r.calls })
   where
     go : (o : Option Sides) → d.seen ≡ o → IfSome o (λ sides. DbOf sides (reads_as stored))
     go None e = tt
@@ -107,7 +107,7 @@ module _ (s : Settings) (d d' : DiskView) (stored : DbValue) where
 -- damage that was found is that of the sides
 damage-told : (s : Settings) (d d' : DiskView) (i i' : Images) (side at : ℕ) (sides : Sides) → TellsSides s d sides → Misses s d d' i i' (Damaged side at) → DbOf sides (damaged side at)
 damage-told s d d' i i' side at sides tells h =
-    let cause : HasDamage s d d' side at = h.cause in
+    let cause : HasDamage s d d' i' side at = h.cause in
     let seen : d'.seen ≡ Some sides = ap (λ (v : DiskView). v.seen) h.looks.view ∙ tells h.uses in
     let same : sides ≡ cause.damaged.sides = subst (λ (o : Option Sides). IfSome o (λ x. x ≡ cause.damaged.sides)) seen cause.damaged.told in
     subst (λ (x : Sides). DbOf x (damaged side at)) (sym same) cause.damaged.has
@@ -126,7 +126,7 @@ has-room s stored whole entries d d' i i' (inr (not, h)) = left-right s.persist 
 -- ---- the answer
 
 module _ (law : ReadAsTold) (line : LineSetup) (s : Settings) where
-  module _ (old new : World) (sides : Sides) (some : old.files.contents ≢ None) (tells : TellsSides s old.disk sides) where
+  module _ (old new : Outside) (sides : Sides) (some : old.files.contents ≢ None) (tells : TellsSides s old.disk sides) where
     module _ (mid : FilesView) (rules : List Rule) (has : HasRules s.browsers_file old.files mid rules) where
       same-contents : mid.contents ≡ old.files.contents
       same-contents = kept-rules s.browsers_file old.files mid rules has
@@ -147,7 +147,7 @@ module _ (law : ReadAsTold) (line : LineSetup) (s : Settings) where
         is_whole = h.is_whole;
       }
 
-  module _ (old new : World) (sides : Sides) (some : old.files.contents ≢ None) (tells : TellsSides s old.disk sides) where
+  module _ (old new : Outside) (sides : Sides) (some : old.files.contents ≢ None) (tells : TellsSides s old.disk sides) where
     abbrev pub yield-of : Finishes line s old new → Yield
     yield-of h = record { text = h.has.text; whole = h.has.come.counted.whole; entries = h.has.come.counted.entries' }
 

@@ -2,7 +2,7 @@
 use Rattle.std.specs.Prelude.{◌≡◌, ℕ, ◌+◌, List, [], ◌∷◌, ◌++◌, length, Option, Some, None, IfSome}
 use Rattle.ga_base.specs.declared.entry.Entry.{Entry}
 use Rattle.ga_disk.specs.Disk.{DiskView}
-use Rattle.ga_keep.specs.RunDatabase.{AreBase, SidesHave, follow_of}
+use Rattle.ga_keep.specs.RunDatabase.{SidesHave, follow_of}
 use Rattle.ga_logs.specs.Following.{AsksFor, ReadsPortion}
 use Rattle.ga_logs.specs.Portions.{Follows}
 use Rattle.ga_logs.specs.declared.follow.Follow.{Follow}
@@ -40,15 +40,13 @@ pub data Walks (follow : Follow) : List (List ℕ) → List Entry → FilesView 
 abbrev pub IsStored : Settings → DiskView → DbValue → Type 0
 IsStored s disk stored = IfSome disk.seen (λ sides. SidesHave s sides stored)
 
--- the same of a run's files: the browsers file is read whole, and the logs from where the entries lead that are stored
-pub data WalksInputs (s : Settings) (disk : DiskView) : FilesView → FilesView → ℕ → Type 0 where
-  asks_none : {files : FilesView} → WalksInputs s disk files files 0
+-- the same of a run's files: the browsers file is read whole, and the logs from where entries lead of which this holds
+pub data WalksInputs (s : Settings) (Followed : List Entry → Type 0) : FilesView → FilesView → ℕ → Type 0 where
+  asks_none : {files : FilesView} → WalksInputs s Followed files files 0
   asks_rules : (name : List ℕ) {files files' : FilesView} → s.browsers_file ≡ Some name → AsksFor Whole [] name files files'
-      → WalksInputs s disk files files' 1
-  asks_logs : (stored : DbValue) (entries : List Entry) {files files' : FilesView} {count : ℕ} → s.browsers_file ≡ None
-      → IsStored s disk stored → AreBase s stored entries → Walks (follow_of s) s.logs entries files files' count
-      → WalksInputs s disk files files' count
-  asks_both : (name : List ℕ) (stored : DbValue) (entries : List Entry) (mid : FilesView) (text : Portion) {files files' : FilesView} {count : ℕ}
+      → WalksInputs s Followed files files' 1
+  asks_logs : (entries : List Entry) {files files' : FilesView} {count : ℕ} → s.browsers_file ≡ None
+      → Followed entries → Walks (follow_of s) s.logs entries files files' count → WalksInputs s Followed files files' count
+  asks_both : (name : List ℕ) (entries : List Entry) (mid : FilesView) (text : Portion) {files files' : FilesView} {count : ℕ}
       → s.browsers_file ≡ Some name → ReadsPortion Whole [] name files mid text
-      → IsStored s disk stored → AreBase s stored entries → Walks (follow_of s) s.logs entries mid files' count
-      → WalksInputs s disk files files' (1 + count)
+      → Followed entries → Walks (follow_of s) s.logs entries mid files' count → WalksInputs s Followed files files' (1 + count)

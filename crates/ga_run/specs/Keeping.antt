@@ -4,10 +4,10 @@ use Rattle.ga_base.specs.declared.entry.Entry.{Entry}
 use Rattle.ga_disk.specs.Disk.{DiskView}
 use Rattle.ga_disk.specs.Images.{Images, LeavesOnly}
 use Rattle.ga_disk.specs.Sides.{Sides}
-use Rattle.ga_keep.specs.RunDatabase.{IsAfter, IsNext, IsPathOf, mode_of, uses_database}
+use Rattle.ga_keep.specs.RunDatabase.{IsAfter, IsNext, IsPathOf, finding_calls, keeping_calls, mode_of, uses_database}
 use Rattle.ga_counters.specs.Counts.{raised}
 use Rattle.ga_store.specs.Commit.{IsLater, passes_generations}
-use Rattle.ga_store.specs.Commits.{AllHave, Frames, HasEither}
+use Rattle.ga_store.specs.Commits.{AllHave, Frames, HasEither, Takes}
 use Rattle.ga_store.specs.Database.{DbOf, DbValue, empty_db}
 use Rattle.ga_store.specs.Database.Reading.{stored as reads_as}
 use Rattle.ga_summary.specs.SummaryRows.{SummaryValue}
@@ -22,6 +22,8 @@ pub record FoundThere (s : Settings) (disk disk' : DiskView) (stored : DbValue) 
   pub opened : disk'.counts.opened ≡ raised disk.counts.opened 1
   pub path : IsPathOf s disk'
   pub faults : disk'.counts.faults ≡ disk.counts.faults
+  -- it took these calls and no others
+  pub calls : IfSome disk.seen (λ seen. Takes (finding_calls seen) disk disk')
 
 -- a run that uses no database leaves the disk alone
 abbrev pub FindsThere : Settings → DiskView → DiskView → DbValue → Type 0
@@ -48,6 +50,8 @@ pub record IsKeptSince (s : Settings) (stored : DbValue) (whole : SummaryValue) 
   pub room : passes_generations (mode_of s) stored ≡ false
   pub keeps : IfSome disk.seen (λ seen. KeepsSince stored new disk' images images')
   pub faults : disk'.counts.faults ≡ disk.counts.faults
+  -- it took these calls and no others
+  pub calls : IfSome disk.seen (λ seen. Takes (keeping_calls (mode_of s) stored seen) disk disk')
   pub frames : Frames disk disk'
 
 -- no side was changed; each image has the database that was found

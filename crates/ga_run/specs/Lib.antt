@@ -2,7 +2,9 @@ pub mod Course
 pub mod Ends
 pub mod Inputs
 pub mod Keeping
+pub mod Leaves
 pub mod OneRun
+pub mod Outside
 pub mod Printing
 pub mod Reports
 pub mod Run
@@ -10,4 +12,3 @@ pub mod Setups
 pub mod Statuses
 pub mod Steps
 pub mod Told
-pub mod World

@@ -1,28 +1,28 @@
 -- When two runs have to end alike.
-use Rattle.std.specs.Prelude.{◌≡◌, ◌≢◌, ℕ, List, Option, Some, None, Ok}
+use Rattle.std.specs.Prelude.{◌≡◌, ◌≢◌, ◌↔◌, ℕ, List, Option, Some, None, Ok}
 use Rattle.std.specs.List.{AllByRecursion}
 use Rattle.ga_disk.specs.Sides.{Sides}
 use Rattle.ga_counters.specs.Counts.{Rose}
 use Rattle.ga_ports.specs.Files.{told}
 use Rattle.ga_ports.specs.Outs.{OutsView, takes}
-use Rattle.ga_store.specs.Database.{DbOf, DbValue}
+use Rattle.ga_store.specs.Database.{DbOf, DbValue, Reading}
 use Rattle.ga_store.specs.Database.Reading.{stored as reads_as}
 use Rattle.ga_words.specs.WordsOf.{WordsOf}
 use Rattle.ga_words.specs.declared.settings.Settings.{Settings}
 use Rattle.ga_run.specs.Inputs.{inputs_of}
 use Rattle.ga_run.specs.Printing.{but_errors, delivered}
 use Rattle.ga_run.specs.Run.{IsRun, TellsSides}
-use Rattle.ga_run.specs.World.{World}
+use Rattle.ga_run.specs.Outside.{Outside}
 use Rattle.ga_run.specs.declared.status.Status.{Status}
 use Rattle.ga_run.specs.declared.status.Status.TheVariants.{NoMemory}
 
 -- a run: what it stood in before and after it, and its status
 pub record RunView : Type 1 where
-  pub old : World
-  pub new : World
+  pub old : Outside
+  pub new : Outside
   pub status : Status
 
-abbrev pub run_of : World → World → Status → RunView
+abbrev pub run_of : Outside → Outside → Status → RunView
 run_of old new status = record { old = old; new = new; status = status }
 
 -- the run was over told files, and over told sides where it uses them; no count of a fault rose, and no memory was wanted
@@ -61,8 +61,8 @@ Wrote None old new = new ≡ but_errors new old
 Wrote (Some (file, text)) old new = new ≡ but_errors new (delivered file text old)
 
 -- the disk reads as this database
-abbrev pub HasDatabase : World → DbValue → Type 0
-HasDatabase world db = (sides : Sides) × (world.disk.seen ≡ Some sides) × DbOf sides (reads_as db)
+abbrev pub HasDatabase : Outside → DbValue → Type 0
+HasDatabase outside db = (sides : Sides) × (outside.disk.seen ≡ Some sides) × DbOf sides (reads_as db)
 
 -- two databases say the same, in the same generation with as many records
 pub record SayTheSame (a b : DbValue) : Type 0 where
@@ -72,11 +72,15 @@ pub record SayTheSame (a b : DbValue) : Type 0 where
   pub records : a.records ≡ b.records
 
 -- the databases of two worlds do
-abbrev pub SameDatabase : World → World → Type 0
+abbrev pub SameDatabase : Outside → Outside → Type 0
 SameDatabase a b = (db db' : DbValue) → HasDatabase a db → HasDatabase b db' → SayTheSame db db'
 
--- one status, the same report in the same place, the same fault line, and from the same sides on the same database
-pub record Alike (sides : Sides) (a b : RunView) : Type 0 where
+-- two sides say the same: one database, or one damage
+abbrev pub SidesAgree : Sides → Sides → Type 0
+SidesAgree sides sides' = (reading : Reading) → DbOf sides reading ↔ DbOf sides' reading
+
+-- one status, the same report in the same place, the same fault line, and over disks that read as these sides the same database
+pub record Alike (sides sides' : Sides) (a b : RunView) : Type 0 where
   pub status : a.status ≡ b.status
   pub report : Option (Option (List ℕ) × List ℕ)
   pub line : List ℕ
@@ -84,4 +88,4 @@ pub record Alike (sides : Sides) (a b : RunView) : Type 0 where
   pub output' : Wrote report b.old.outs b.new.outs
   pub errors : a.new.outs.stderr ≡ takes line a.old.outs.stderr
   pub errors' : b.new.outs.stderr ≡ takes line b.old.outs.stderr
-  pub database : a.old.disk.seen ≡ Some sides → b.old.disk.seen ≡ Some sides → SameDatabase a.new b.new
+  pub database : a.old.disk.seen ≡ Some sides → b.old.disk.seen ≡ Some sides' → SameDatabase a.new b.new

@@ -4,7 +4,6 @@ use Rattle.std.specs.Prelude.{◌≡◌, ◌≢◌, ℕ, ◌⊎◌, ◌↔◌, �
 use Rattle.ga_base.specs.declared.counts.Counter.{Counter}
 use Rattle.ga_base.specs.declared.formats.FormatFault.{FormatFault}
 use Rattle.ga_disk.specs.Disk.{DiskView}
-use Rattle.ga_disk.specs.Images.{LeavesOnly}
 use Rattle.ga_disk.specs.Sides.{Sides}
 use Rattle.ga_disk.specs.Trace.{DiskTrace}
 use Rattle.ga_keep.specs.RunDatabase.{IsUntouched, uses_database}
@@ -16,20 +15,17 @@ use Rattle.ga_ports.specs.Outs.{OutsView, target}
 use Rattle.ga_ports.specs.Trace.{FilesTrace, OutsTrace}
 use Rattle.ga_ports.specs.declared.file_counts.FileCounts.{FileCounts}
 use Rattle.ga_ports.specs.declared.outs.To.{To}
-use Rattle.ga_store.specs.Commit.{IsLater}
-use Rattle.ga_store.specs.Commits.{HasEither}
-use Rattle.ga_store.specs.Database.{DbOf, DbValue}
-use Rattle.ga_store.specs.Database.Reading.{stored as reads_as}
 use Rattle.ga_words.specs.WordsOf.{WordsOf}
 use Rattle.ga_words.specs.declared.fault.WordFault.{WordFault}
 use Rattle.ga_words.specs.declared.settings.Settings.{Settings}
-use Rattle.ga_run.specs.Ends.{Ends, HasReport}
+use Rattle.ga_run.specs.Ends.{AreFollowed, Ends, HasReport}
+use Rattle.ga_run.specs.Leaves.{Leaves, LeavesSides}
 use Rattle.ga_run.specs.Inputs.{WalksInputs, inputs_of, place_of}
 use Rattle.ga_run.specs.Printing.{OutputCanTake, TakesOrStops, but_errors, report_file, target_of}
 use Rattle.ga_run.specs.Setups.{IsLineSetup, IsRefused}
 use Rattle.ga_run.specs.Statuses.{IsFaultLine}
 use Rattle.ga_run.specs.Told.{Answers, Yield}
-use Rattle.ga_run.specs.World.{World}
+use Rattle.ga_run.specs.Outside.{Outside}
 use Rattle.ga_run.specs.declared.status.Status.{Status}
 use Rattle.ga_run.specs.declared.status.Status.TheVariants.{Done, BadWords, BadFormat, BadRules, FileFault, FileShort, DiskFault, DbDamaged, OutFault, CounterFull, NoMemory}
 use Rattle.ga_run.specs.declared.status.Which.{Which}
@@ -49,11 +45,11 @@ abbrev pub HaveSetup : List (List ℕ) → Type 0
 HaveSetup words = (s : Settings) × WordsOf words (Ok s) × ((line : LineSetup) × IsLineSetup s line)
 
 -- no file was asked for, and the disk wasn't touched
-pub record NothingWasRead (old new : World) : Type 0 where
+pub record NothingWasRead (old new : Outside) : Type 0 where
   pub files : new.files ≡ old.files
   pub disk : IsUntouched old.disk new.disk old.images new.images
 
-pub record ReadsWords (words : List (List ℕ)) (old new : World) (status : Status) : Type 0 where
+pub record ReadsWords (words : List (List ℕ)) (old new : Outside) (status : Status) : Type 0 where
   -- words are refused exactly where they say no settings, with the fault that they have, unless memory runs out
   pub bad_words : (fault : WordFault) → (status ≡ BadWords fault) ↔ (WordsOf words (Err fault) × (status ≢ NoMemory))
   -- a format is refused exactly where it is the first bad one
@@ -62,22 +58,22 @@ pub record ReadsWords (words : List (List ℕ)) (old new : World) (status : Stat
   pub untouched : AreRefused words → NothingWasRead old new
   -- nor does a run read anything whose words say no setup
   pub unsaid : (HaveSetup words → ⊥) → NothingWasRead old new
-  -- all other words say a run whose formats are good, unless memory runs out
-  pub decided : AreRefused words ⊎ HaveSetup words ⊎ (status ≡ NoMemory)
+  -- all other words say a run whose formats are good, unless memory ran out before anything was read
+  pub decided : AreRefused words ⊎ HaveSetup words ⊎ ((status ≡ NoMemory) × NothingWasRead old new)
 
 -- ---- what served
 
 -- the files served: it was told that they can, or no count of their failed or short calls rose
-abbrev pub FilesServed : Settings → World → World → Type 0
+abbrev pub FilesServed : Settings → Outside → Outside → Type 0
 FilesServed s old new = CanServe (inputs_of s) old.files
     ⊎ (¬ Rose old.files.counts.faults new.files.counts.faults × ¬ Rose old.files.counts.shorts new.files.counts.shorts)
 
-abbrev pub DiskServed : World → World → Type 0
+abbrev pub DiskServed : Outside → Outside → Type 0
 DiskServed old new = ¬ Rose old.disk.counts.faults new.disk.counts.faults
 
 -- the report's target served: it was told that it can take the report that the run came to, and no call wanted memory, or
 -- no count of its faults rose
-abbrev pub OutputServed : LineSetup → Settings → World → World → Type 0
+abbrev pub OutputServed : LineSetup → Settings → Outside → Outside → Type 0
 OutputServed line s old new = let to = target_of (report_file s.generate s.output.name) in
     (((has : HasReport line s old new) → OutputCanTake to (length has.text) old.outs) × ¬ Rose old.outs.starved new.outs.starved)
     ⊎ (¬ Rose (target to old.outs).faults (target to new.outs).faults)
@@ -109,25 +105,6 @@ EndsBefore s place _ = Unit {0}
 abbrev pub TellsSides : Settings → DiskView → Sides → Type 0
 TellsSides s disk sides = uses_database s ≡ true → disk.seen ≡ Some sides
 
--- ---- the database at each moment
-
--- each image is one that the disk had at the start
-abbrev pub LeavesDisk : World → World → Type 0
-LeavesDisk old new = LeavesOnly old.images new.images old.images.now
-
--- no side was changed, and each image is one that the disk had at the start
-pub record LeavesSides (old new : World) : Type 0 where
-  pub seen : new.disk.seen ≡ old.disk.seen
-  pub moments : LeavesDisk old new
-
--- or has what was stored or the database after the run, which is a later one
-pub record LeavesEither (sides : Sides) (old new : World) : Type 0 where
-  pub stored : DbValue
-  pub later : DbValue
-  pub had : DbOf sides (reads_as stored)
-  pub rises : IsLater stored later
-  pub moments : LeavesOnly old.images new.images (λ image. old.images.now image ⊎ HasEither stored later image)
-
 -- the count of the disk's failed calls after a run with this status
 abbrev pub disk_faults_after : Status → ℕ → ℕ
 disk_faults_after DiskFault faults = raised faults 1
@@ -135,12 +112,12 @@ disk_faults_after _ faults = faults
 
 -- ---- the run over its inputs
 
-pub record RunsOver (line : LineSetup) (s : Settings) (old new : World) (status : Status) : Type 0 where
-  -- the files are asked for in their order, each once, and no more of them is handed out than is read from where they are
-  -- begun
-  pub asks : (count : ℕ) × WalksInputs s old.disk old.files new.files count
+pub record RunsOver (line : LineSetup) (s : Settings) (old new : Outside) (status : Status) : Type 0 where
   -- what each status shows
   pub ends : Ends line s old new status
+  -- the files are asked for in their order, each once, the logs by the entries that the ending names, and no more of them is
+  -- handed out than is read from where these lead
+  pub asks : (count : ℕ) × WalksInputs s (AreFollowed line s old new status ends) old.files new.files count
   -- over told files, and told sides where it uses them, it is their answer, or the outside failed, or memory ran out
   pub told : (sides : Sides) → old.files.contents ≢ None → TellsSides s old.disk sides
       → IsTrouble status ⊎ ((yield : Option Yield) × Answers line s old.files sides status yield)
@@ -150,8 +127,8 @@ pub record RunsOver (line : LineSetup) (s : Settings) (old new : World) (status 
   -- where all served and the input is good, the run is done, or memory ran out
   pub complete : FilesServed s old new → DiskServed old new → OutputServed line s old new → HasGoodInput status
       → (status ≡ Done) ⊎ (status ≡ NoMemory)
-  -- what a crash may have left since the start
-  pub moments : (sides : Sides) → old.disk.seen ≡ Some sides → LeavesDisk old new ⊎ LeavesEither sides old new
+  -- what is left of the disk, and what a crash may have left since the start
+  pub leaves : Leaves line s old new status
   -- without --persist no side is changed, with any status, also of a disk that doesn't tell
   pub unwritten : s.persist ≡ false → LeavesSides old new
   -- and without --restore too the disk isn't touched
@@ -182,7 +159,7 @@ pub record Reports (words : List (List ℕ)) (old new : OutsView) (status : Stat
   -- nothing is said where the run is done
   pub quiet : status ≡ Done → new.stderr ≡ old.stderr
 
-pub record IsRun (words : List (List ℕ)) (old new : World) (status : Status) : Type 0 where
+pub record IsRun (words : List (List ℕ)) (old new : Outside) (status : Status) : Type 0 where
   pub reads : ReadsWords words old new status
   -- the run is over what the words name
   pub runs : (s : Settings) (line : LineSetup) → WordsOf words (Ok s) → IsLineSetup s line → RunsOver line s old new status

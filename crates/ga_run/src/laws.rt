@@ -13,12 +13,12 @@ ghost use Rattle.ga_ports.specs.Outs.{OutsView};
 ghost use Rattle.ga_summary.specs.SummaryRows.{SummaryValue};
 ghost use Rattle.ga_words.specs.WordsOf.{WordsOf};
 ghost use Rattle.ga_words.specs.declared.settings.Settings.{Settings as TheSettings};
-ghost use Rattle.ga_run.specs.OneRun.{Alike, DifferInWorkers, HaveSameInputs, IsUntroubled, RunView, run_of};
+ghost use Rattle.ga_run.specs.OneRun.{Alike, DifferInWorkers, HaveSameInputs, IsUntroubled, RunView, SidesAgree, run_of};
 ghost use Rattle.ga_run.specs.Reports.{IsTextOf};
 ghost use Rattle.ga_run.specs.Setups.{IsLineSetup, setup_of};
 ghost use Rattle.ga_run.specs.Steps.Setups.{GivesLineSetup};
 ghost use Rattle.ga_run.specs.Told.{Answers, Yield};
-ghost use Rattle.ga_run.specs.World.{world_of};
+ghost use Rattle.ga_run.specs.Outside.{outside_of};
 ghost use Rattle.ga_run.specs.declared.setups.SetupFault.{SetupFault as TheFault};
 ghost use Rattle.ga_run.specs.declared.status.Status.{Status as TheStatus};
 
@@ -93,14 +93,15 @@ pub fn one_answer()
 }
 
 /// A run ends alike by any workers: two runs whose words say the same but for `--jobs` and `--chunk-size`, over told files with
-/// the same contents and the same told sides, have one status, the same report in the same place, the same bytes written to
-/// standard error, and the same database, where no count of a fault rose and no memory was wanted.
+/// the same contents and told sides that say one database or one damage, have one status, the same report in the same place, the
+/// same bytes written to standard error, and the same database, where no count of a fault rose and no memory was wanted.
 pub fn one_run_by_any_workers<D: Disk, E: Disk>()
-    ensures { (words words' : List (List ℕ)) (sides : Sides) (files files' others others' : FilesView) (disk disk' : D) (other other' : E)
+    ensures { (words words' : List (List ℕ)) (sides sides' : Sides) (files files' others others' : FilesView) (disk disk' : D) (other other' : E)
         (outs outs' targets targets' : OutsView) (status end : TheStatus)
-        → let a : RunView = run_of (world_of files (D.view disk) (D.images disk) outs) (world_of files' (D.view disk') (D.images disk') outs') status in
-        let b : RunView = run_of (world_of others (E.view other) (E.images other) targets) (world_of others' (E.view other') (E.images other') targets') end in
-        DifferInWorkers words words' → IsUntroubled words sides a → IsUntroubled words' sides b → HaveSameInputs words a b → Alike sides a b }
+        → let a : RunView = run_of (outside_of files (D.view disk) (D.images disk) outs) (outside_of files' (D.view disk') (D.images disk') outs') status in
+        let b : RunView = run_of (outside_of others (E.view other) (E.images other) targets) (outside_of others' (E.view other') (E.images other') targets') end in
+        DifferInWorkers words words' → IsUntroubled words sides a → IsUntroubled words' sides' b → SidesAgree sides sides'
+        → HaveSameInputs words a b → Alike sides sides' a b }
 {
     one_answer();
     one_database();
@@ -108,15 +109,17 @@ pub fn one_run_by_any_workers<D: Disk, E: Disk>()
     read_as_told();
 }
 
-/// Two runs with the same words, over told files with the same contents and the same told sides, end alike where no count of a
-/// fault rose and no memory was wanted: with one status, the same report in the same place, the same bytes written to standard
-/// error, and the same database.
+/// Two runs with the same words, over told files with the same contents and told sides that say one database or one damage, end
+/// alike where no count of a fault rose and no memory was wanted: with one status, the same report in the same place, the same
+/// bytes written to standard error, and the same database. So a run is a function of the database that it finds, and not of the
+/// bytes that hold it.
 pub fn one_run<D: Disk, E: Disk>()
-    ensures { (words : List (List ℕ)) (sides : Sides) (files files' others others' : FilesView) (disk disk' : D) (other other' : E)
+    ensures { (words : List (List ℕ)) (sides sides' : Sides) (files files' others others' : FilesView) (disk disk' : D) (other other' : E)
         (outs outs' targets targets' : OutsView) (status end : TheStatus)
-        → let a : RunView = run_of (world_of files (D.view disk) (D.images disk) outs) (world_of files' (D.view disk') (D.images disk') outs') status in
-        let b : RunView = run_of (world_of others (E.view other) (E.images other) targets) (world_of others' (E.view other') (E.images other') targets') end in
-        IsUntroubled words sides a → IsUntroubled words sides b → HaveSameInputs words a b → Alike sides a b }
+        → let a : RunView = run_of (outside_of files (D.view disk) (D.images disk) outs) (outside_of files' (D.view disk') (D.images disk') outs') status in
+        let b : RunView = run_of (outside_of others (E.view other) (E.images other) targets) (outside_of others' (E.view other') (E.images other') targets') end in
+        IsUntroubled words sides a → IsUntroubled words sides' b → SidesAgree sides sides' → HaveSameInputs words a b
+        → Alike sides sides' a b }
 {
     one_answer();
     one_database();

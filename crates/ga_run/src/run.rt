@@ -15,7 +15,7 @@ ghost use Rattle.ga_run.specs.Printing.{report_file, target_of};
 ghost use Rattle.ga_run.specs.Reports.{IsTextTold, text_as};
 ghost use Rattle.ga_run.specs.Run.{IsRun};
 ghost use Rattle.ga_run.specs.Statuses.{target_name};
-ghost use Rattle.ga_run.specs.World.{world_of};
+ghost use Rattle.ga_run.specs.Outside.{outside_of};
 ghost use Rattle.ga_run.specs.Steps.Run.{CountsRun, EndsAlone, EndsInputs, EndsLast, EndsReport, EndsRun, IsReady, IsTextAlone, NoFileFailed, StopsAlone, StopsCounting, failed_name, input_name, workers_said};
 
 use crate::faults::tell;
@@ -43,6 +43,15 @@ use ga_workers::{Crew, Workers};
 use std::alloc::Global;
 use std::mem;
 use std::thread::Threads;
+
+/// What a run works with: threads, the gate that its workers pass, memory, and what the words say.
+#[derive(Drop)]
+struct RunContext<'a, R, G> {
+    rt: &'a R,
+    gate: &'a G,
+    alloc: Global,
+    settings: &'a Settings,
+}
 
 /// What a run counted, and what it began with.
 #[derive(Debug, Drop)]
@@ -73,8 +82,8 @@ pub fn goaccess_run<R: Threads + Sync, F: Files, D: Disk, O: Outs, G: Gate>(
     gate: &G,
 ) -> Status
     ensures { IsRun words.now
-        (world_of (F.view files.old) (D.view disk.old) (D.images disk.old) (O.view outs.old))
-        (world_of (F.view files.new) (D.view disk.new) (D.images disk.new) (O.view outs.new)) result }
+        (outside_of (F.view files.old) (D.view disk.old) (D.images disk.old) (O.view outs.old))
+        (outside_of (F.view files.new) (D.view disk.new) (D.images disk.new) (O.view outs.new)) result }
 {
     // What is known of words, formats and lines, for the proof alone: the calls do nothing.
     laws::one_outcome();
@@ -87,7 +96,13 @@ pub fn goaccess_run<R: Threads + Sync, F: Files, D: Disk, O: Outs, G: Gate>(
             status
         }
         Ok(settings) => {
-            let status = run_settings(rt, gate, alloc, &settings, files, disk, outs);
+            let context = RunContext {
+                rt,
+                gate,
+                alloc,
+                settings: &settings,
+            };
+            let status = run_settings(&context, files, disk, outs);
             tell(outs, failed_name(&settings, &status), &status);
             status
         }
@@ -143,20 +158,17 @@ fn report_file(settings: &Settings) -> Option<&Text>
 
 /// Runs as the settings say: their formats first, then the inputs.
 fn run_settings<R: Threads + Sync, G: Gate, F: Files, D: Disk, O: Outs>(
-    rt: &R,
-    gate: &G,
-    alloc: Global,
-    settings: &Settings,
+    context: &RunContext<'_, R, G>,
     files: &mut F,
     disk: &mut D,
     outs: &mut O,
 ) -> Status
-    ensures { EndsRun settings.now
-        (world_of (F.view files.old) (D.view disk.old) (D.images disk.old) (O.view outs.old))
-        (world_of (F.view files.new) (D.view disk.new) (D.images disk.new) (O.view outs.new)) result }
+    ensures { EndsRun context.now.settings.now
+        (outside_of (F.view files.old) (D.view disk.old) (D.images disk.old) (O.view outs.old))
+        (outside_of (F.view files.new) (D.view disk.new) (D.images disk.new) (O.view outs.new)) result }
 {
-    match line_setup(alloc, settings) {
-        Ok(line) => run_inputs(rt, gate, alloc, line, settings, files, disk, outs),
+    match line_setup(context.alloc, context.settings) {
+        Ok(line) => run_inputs(context, line, files, disk, outs),
         Err(SetupFault::Refused { which, fault }) => Status::BadFormat { which, fault },
         Err(SetupFault::NoMemory) => Status::NoMemory,
     }
@@ -164,88 +176,81 @@ fn run_settings<R: Threads + Sync, G: Gate, F: Files, D: Disk, O: Outs>(
 
 /// Reads the inputs that the settings name, keeps the run and delivers the report.
 fn run_inputs<R: Threads + Sync, G: Gate, F: Files, D: Disk, O: Outs>(
-    rt: &R,
-    gate: &G,
-    alloc: Global,
+    context: &RunContext<'_, R, G>,
     line: LineSetup,
-    settings: &Settings,
     files: &mut F,
     disk: &mut D,
     outs: &mut O,
 ) -> Status
-    ensures { EndsInputs line settings.now
-        (world_of (F.view files.old) (D.view disk.old) (D.images disk.old) (O.view outs.old))
-        (world_of (F.view files.new) (D.view disk.new) (D.images disk.new) (O.view outs.new)) result }
+    ensures { EndsInputs line context.now.settings.now
+        (outside_of (F.view files.old) (D.view disk.old) (D.images disk.old) (O.view outs.old))
+        (outside_of (F.view files.new) (D.view disk.new) (D.images disk.new) (O.view outs.new)) result }
 {
     // What is known of calls of the files, for the proof alone: the call does nothing.
     files_stay();
-    let rules = match rules_of(alloc, settings.browsers_file.as_ref(), files) {
+    let settings = context.settings;
+    let rules = match rules_of(context.alloc, settings.browsers_file.as_ref(), files) {
         Ok(rules) => rules,
         Err(fault) => return Status::from(fault),
     };
-    let Ok(panels) = panel_setup(alloc, settings, rules) else {
+    let Ok(panels) = panel_setup(context.alloc, settings, rules) else {
         return Status::NoMemory;
     };
     let setup = Setup { line, panels };
     if !uses_database(settings) {
-        return run_alone(rt, gate, alloc, &setup, settings, files, outs);
+        return run_alone(context, &setup, files, outs);
     }
-    match count(rt, gate, alloc, &setup, settings, files, disk) {
-        Ok(counted) => finish(rt, alloc, settings, &counted, disk, outs),
+    match count(context, &setup, files, disk) {
+        Ok(counted) => finish(context, &counted, disk, outs),
         Err(status) => status,
     }
 }
 
 /// Counts the logs of a run that uses no database, and delivers the report.
 fn run_alone<R: Threads + Sync, G: Gate, F: Files, O: Outs>(
-    rt: &R,
-    gate: &G,
-    alloc: Global,
+    context: &RunContext<'_, R, G>,
     setup: &Setup,
-    settings: &Settings,
     files: &mut F,
     outs: &mut O,
 ) -> Status
-    requires { database.uses_database settings.now ≡ false }
-    ensures { EndsAlone setup.now settings.now (F.view files.old) (F.view files.new) (O.view outs.old) (O.view outs.new) result }
+    requires { database.uses_database context.now.settings.now ≡ false }
+    ensures { EndsAlone setup.now context.now.settings.now (F.view files.old) (F.view files.new) (O.view outs.old) (O.view outs.new) result }
 {
-    let stored = Db::empty(alloc);
-    match text_alone(rt, gate, alloc, setup, settings, &stored, files) {
-        Ok(text) => report(settings, text.bytes(), outs),
+    let stored = Db::empty(context.alloc);
+    match text_alone(context, setup, &stored, files) {
+        Ok(text) => report(context.settings, text.bytes(), outs),
         Err(status) => status,
     }
 }
 
 /// Counts the logs of a run that uses no database, and gives the text of its report. No names are made for it.
 fn text_alone<R: Threads + Sync, G: Gate, F: Files>(
-    rt: &R,
-    gate: &G,
-    alloc: Global,
+    context: &RunContext<'_, R, G>,
     setup: &Setup,
-    settings: &Settings,
     stored: &Db,
     files: &mut F,
 ) -> Result<Bytes, Status>
-    requires { database.uses_database settings.now ≡ false }
-    ensures ok { IfOk result (IsTextAlone setup.now settings.now (db_value stored.now) (F.view files.old) (F.view files.new)) }
-    ensures stops { IfErr result (StopsAlone setup.now settings.now (db_value stored.now) (F.view files.old) (F.view files.new)) }
-    ensures sure { CanServe settings.now.logs (F.view files.old) → IfErr result NoFileFailed }
+    requires { database.uses_database context.now.settings.now ≡ false }
+    ensures ok { IfOk result (IsTextAlone setup.now context.now.settings.now (db_value stored.now) (F.view files.old) (F.view files.new)) }
+    ensures stops { IfErr result (StopsAlone setup.now context.now.settings.now (db_value stored.now) (F.view files.old) (F.view files.new)) }
+    ensures sure { CanServe context.now.settings.now.logs (F.view files.old) → IfErr result NoFileFailed }
     ensures files_trace { FilesTrace (F.view files.old) (F.view files.new) }
 {
-    let mut entries = base_entries(alloc, settings, stored)?;
-    let start = start(alloc, settings, stored);
+    let settings = context.settings;
+    let mut entries = base_entries(context.alloc, settings, stored)?;
+    let start = start(context.alloc, settings, stored);
     summary_is_sound(&stored.summary);
     let names = settings.logs.items();
     let crew = Crew {
-        rt,
-        gate,
-        alloc,
+        rt: context.rt,
+        gate: context.gate,
+        alloc: context.alloc,
         setup,
         workers: workers_of(settings),
     };
     let total = count_logs(&crew, start, settings.generate, names, &mut entries, files)?;
-    let told = total.source(rt, alloc, crew.workers.jobs)?;
-    let text = text_of(rt, alloc, settings, &told)?;
+    let told = total.source(context.rt, context.alloc, crew.workers.jobs)?;
+    let text = text_of(context.rt, context.alloc, settings, &told)?;
     drop(told);
     // Behind the report the program ends, and the system takes the total's memory back at once: piece by piece it takes long.
     mem::forget(total);
@@ -254,34 +259,32 @@ fn text_alone<R: Threads + Sync, G: Gate, F: Files>(
 
 /// Finds the database, where it is used, and counts the logs from there on.
 fn count<R: Threads + Sync, G: Gate, F: Files, D: Disk>(
-    rt: &R,
-    gate: &G,
-    alloc: Global,
+    context: &RunContext<'_, R, G>,
     setup: &Setup,
-    settings: &Settings,
     files: &mut F,
     disk: &mut D,
 ) -> Result<RunCounts, Status>
-    ensures ok { IfOk result (λ counted. CountsRun setup.now settings.now counted (F.view files.old) (F.view files.new) (D.view disk.old) (D.view disk.new) (D.images disk.old) (D.images disk.new)) }
-    ensures stops { IfErr result (StopsCounting setup.now settings.now (F.view files.old) (F.view files.new) (D.view disk.old) (D.view disk.new) (D.images disk.old) (D.images disk.new)) }
-    ensures sure { CanServe settings.now.logs (F.view files.old) → IfErr result NoFileFailed }
+    ensures ok { IfOk result (λ counted. CountsRun setup.now context.now.settings.now counted (F.view files.old) (F.view files.new) (D.view disk.old) (D.view disk.new) (D.images disk.old) (D.images disk.new)) }
+    ensures stops { IfErr result (StopsCounting setup.now context.now.settings.now (F.view files.old) (F.view files.new) (D.view disk.old) (D.view disk.new) (D.images disk.old) (D.images disk.new)) }
+    ensures sure { CanServe context.now.settings.now.logs (F.view files.old) → IfErr result NoFileFailed }
     ensures files_trace { FilesTrace (F.view files.old) (F.view files.new) }
     ensures disk_trace { DiskTrace (D.view disk.old) (D.view disk.new) }
 {
-    let stored = find(alloc, settings, disk)?;
-    let mut entries = base_entries(alloc, settings, &stored)?;
-    let start = start(alloc, settings, &stored);
+    let settings = context.settings;
+    let stored = find(context.alloc, settings, disk)?;
+    let mut entries = base_entries(context.alloc, settings, &stored)?;
+    let start = start(context.alloc, settings, &stored);
     summary_is_sound(&stored.summary);
     let names = settings.logs.items();
     let crew = Crew {
-        rt,
-        gate,
-        alloc,
+        rt: context.rt,
+        gate: context.gate,
+        alloc: context.alloc,
         setup,
         workers: workers_of(settings),
     };
     let total = count_logs(&crew, start, settings.generate, names, &mut entries, files)?;
-    let run = total.summary(alloc)?;
+    let run = total.summary(context.alloc)?;
     let whole = whole_summary(settings, &stored, &run)?;
     Ok(RunCounts {
         stored,
@@ -310,19 +313,18 @@ fn summary_is_sound(summary: &Summary)
 }
 
 /// Keeps the run, where it persists, and delivers the report. All memory is taken before the disk is written.
-fn finish<R: Threads + Sync, D: Disk, O: Outs>(
-    rt: &R,
-    alloc: Global,
-    settings: &Settings,
+fn finish<R: Threads + Sync, G, D: Disk, O: Outs>(
+    context: &RunContext<'_, R, G>,
     counted: &RunCounts,
     disk: &mut D,
     outs: &mut O,
 ) -> Status
-    requires ready { IsTrue settings.now.persist → IsReady (D.view disk.old) (D.images disk.old) counted.now.stored }
-    requires whole { IsWhole settings.now (db_value counted.now.stored) counted.now.run counted.now.whole }
-    ensures { EndsLast settings.now counted.now (D.view disk.old) (D.view disk.new) (D.images disk.old) (D.images disk.new) (O.view outs.old) (O.view outs.new) result }
+    requires ready { IsTrue context.now.settings.now.persist → IsReady (D.view disk.old) (D.images disk.old) counted.now.stored }
+    requires whole { IsWhole context.now.settings.now (db_value counted.now.stored) counted.now.run counted.now.whole }
+    ensures { EndsLast context.now.settings.now counted.now (D.view disk.old) (D.view disk.new) (D.images disk.old) (D.images disk.new) (O.view outs.old) (O.view outs.new) result }
 {
-    let Ok(text) = text_of(rt, alloc, settings, &counted.whole) else {
+    let settings = context.settings;
+    let Ok(text) = text_of(context.rt, context.alloc, settings, &counted.whole) else {
         return Status::NoMemory;
     };
     if settings.persist {
@@ -332,7 +334,7 @@ fn finish<R: Threads + Sync, D: Disk, O: Outs>(
             whole,
             entries,
         } = counted;
-        if let Err(fault) = keep(alloc, settings, stored, run, whole, entries, disk) {
+        if let Err(fault) = keep(context.alloc, settings, stored, run, whole, entries, disk) {
             return Status::from(fault);
         }
     }

@@ -39,14 +39,14 @@ use Rattle.ga_words.specs.declared.fault.WordFault.{WordFault}
 use Rattle.ga_words.specs.declared.fault.WordFault.TheVariants.{NoMemory as WordNoMemory}
 use Rattle.ga_words.specs.declared.settings.Settings.{Settings}
 use Rattle.ga_run.specs.Course.{HasCounted}
-use Rattle.ga_run.specs.Ends.{Ends}
+use Rattle.ga_run.specs.Ends.{AreFollowed, Ends}
 use Rattle.ga_run.specs.Inputs.{IsStored, Walks, WalksInputs}
 use Rattle.ga_run.specs.Printing.{FailsWriting, OutputCanTake, but_errors, delivered, report_file, target_of}
 use Rattle.ga_run.specs.Reports.{IsTextOf}
 use Rattle.ga_run.specs.Run.{NothingWasRead, SameFaults, faults_after}
 use Rattle.ga_run.specs.Setups.{IsLineSetup, IsRefused}
 use Rattle.ga_run.specs.Statuses.{target_name}
-use Rattle.ga_run.specs.World.{World}
+use Rattle.ga_run.specs.Outside.{Outside}
 use Rattle.ga_run.specs.declared.rules.RulesFault.{RulesFault}
 use Rattle.ga_run.specs.declared.rules.RulesFault.TheVariants.{Unread, Bad}
 use Rattle.ga_run.specs.declared.run.RunCounts.{RunCounts}
@@ -255,9 +255,9 @@ pub record EndsAlone (setup : Setup) (s : Settings) (files files' : FilesView) (
 
 -- ---- the run over its inputs
 
-pub record EndsInputs (line : LineSetup) (s : Settings) (old new : World) (status : Status) : Type 0 where
-  pub asks : (count : ℕ) × WalksInputs s old.disk old.files new.files count
+pub record EndsInputs (line : LineSetup) (s : Settings) (old new : Outside) (status : Status) : Type 0 where
   pub ends : Ends line s old new status
+  pub asks : (count : ℕ) × WalksInputs s (AreFollowed line s old new status ends) old.files new.files count
   pub faults : SameFaults (faults_after status old.files.counts) new.files.counts
   pub errors : new.outs.stderr ≡ old.outs.stderr
   pub files_trace : FilesTrace old.files new.files
@@ -271,7 +271,7 @@ EndsEarly s NoMemory = Unit {0}
 EndsEarly s _ = ⊥
 
 -- how a run ended that the words say: early, or over its inputs
-abbrev pub EndsRun : Settings → World → World → Status → Type 0
+abbrev pub EndsRun : Settings → Outside → Outside → Status → Type 0
 EndsRun s old new status =
     (EndsEarly s status × NothingWasRead old new × (new.outs ≡ old.outs))
     ⊎ ((line : LineSetup) × IsLineSetup s line × EndsInputs line s old new status)

@@ -1,12 +1,9 @@
-use Rattle.std.proofs.Common.{ℕ, List, refl, subst, sym}
+use Rattle.std.proofs.Common.{refl}
 use Rattle.std.proofs.lemmas.Result.{err_from_is_err_and}
-use Rattle.ga_logs.specs.Logs.{CountsLogs, StopsLogs}
-use Rattle.ga_logs.specs.declared.start.Start.{Start}
 use Rattle.ga_ports.specs.Trace.{no_files_call}
 use Rattle.ga_store.specs.Store.{db_value}
-use Rattle.ga_base.specs.Totals.{LinesAdd, TotalsFit}
 use Rattle.ga_keep.specs.RunDatabase.{start_of}
-use Rattle.ga_run.proofs.Counting.{base-adds, base-fits, countable-total, hungry-last, sum-lines, stops-as, whole-fits}
+use Rattle.ga_run.proofs.Counting.{countable-total, counts-said, hungry-last, start-adds, start-fits, stops-as, stops-said, sum-lines, whole-fits}
 use Rattle.ga_run.proofs.run.count.Goals as goal
 
 pub returns-in_err-stored-clause-files_trace : goal.returns-in_err-stored-clause-files_trace
@@ -16,21 +13,19 @@ pub returns-in_err-entries-clause-files_trace : goal.returns-in_err-entries-clau
 returns-in_err-entries-clause-files_trace g c = no_files_call
 
 pub count_logs-requires-clause-fit : goal.count_logs-requires-clause-fit
-count_logs-requires-clause-fit g c = λ _ _. subst (λ (start : Start). TotalsFit start.totals) (sym c.start-start.ensures) (base-fits c.args.settings.now (db_value c.in_ok-stored.stored) c.summary_is_sound.ensures)
+count_logs-requires-clause-fit g c = λ _ _. start-fits c.args.context.now.settings.now (db_value c.in_ok-stored.stored) c.start-start.result c.start-start.ensures c.summary_is_sound.ensures
 
 pub count_logs-requires-clause-lines : goal.count_logs-requires-clause-lines
-count_logs-requires-clause-lines g c = λ _ _. subst (λ (start : Start). LinesAdd start.totals) (sym c.start-start.ensures) (base-adds c.args.settings.now (db_value c.in_ok-stored.stored) c.summary_is_sound.ensures)
+count_logs-requires-clause-lines g c = λ _ _. start-adds c.args.context.now.settings.now (db_value c.in_ok-stored.stored) c.start-start.result c.start-start.ensures c.summary_is_sound.ensures
 
 pub returns-in_err-total-clause-stops : goal.returns-in_err-total-clause-stops
 returns-in_err-total-clause-stops g c =
-    let s = c.args.settings.now in
+    let s = c.args.context.now.settings.now in
     let before = g.F.Files.view c.args.files.now in
     let after = g.F.Files.view c.count_logs.new.files in
     let fault = c.in_err-total.field-0.0 in
     let entries = c.in_ok-entries.entries in
-    let stops =
-    subst (λ (start : Start). StopsLogs c.args.setup.now start s.generate s.logs entries before after fault) c.start-start.ensures
-    (subst (λ (names : List (List ℕ)). StopsLogs c.args.setup.now c.start-start.result s.generate names entries before after fault) c.items-names.ensures c.in_err-total.ensures.stops) in
+    let stops = stops-said s (db_value c.in_ok-stored.stored) c.start-start.result c.start-start.ensures c.args.setup.now c.items-names.result.now c.items-names.ensures entries before after fault c.in_err-total.ensures.stops in
     let p = err_from_is_err_and c.from_residual-in_err-total.result c.from_residual-in_err-total.ensures.1 in
     rw (p.1, p.2) (stops-as c.args.setup.now s before after _ _ _ _ (db_value c.in_ok-stored.stored) c.in_ok-stored.ensures.ok entries c.in_ok-entries.ensures fault stops)
 
@@ -44,23 +39,20 @@ returns-in_err-run-clause-sure g c = λ _.
 
 pub returns-in_err-run-clause-stops : goal.returns-in_err-run-clause-stops
 returns-in_err-run-clause-stops g c =
-    let s = c.args.settings.now in
+    let s = c.args.context.now.settings.now in
     let before = g.F.Files.view c.args.files.now in
     let after = g.F.Files.view c.count_logs.new.files in
     let entries = c.in_ok-entries.entries in
     let total = c.in_ok-total.total in
-    let counts =
-    subst (λ (start : Start). CountsLogs c.args.setup.now start s.generate s.logs entries c.count_logs.new.entries before after total) c.start-start.ensures
-    (subst (λ (names : List (List ℕ)). CountsLogs c.args.setup.now c.start-start.result s.generate names entries c.count_logs.new.entries before after total) c.items-names.ensures c.in_ok-total.ensures.ok) in
+    let counts = counts-said s (db_value c.in_ok-stored.stored) c.start-start.result c.start-start.ensures c.args.setup.now c.items-names.result.now c.items-names.ensures entries before after c.count_logs.new.entries total c.in_ok-total.ensures.ok in
     let p = err_from_is_err_and c.from_residual-in_err-run.result c.from_residual-in_err-run.ensures.1 in
     rw (p.1, p.2) (hungry-last c.args.setup.now s before after _ _ _ _ (db_value c.in_ok-stored.stored) c.in_ok-stored.ensures.ok entries c.in_ok-entries.ensures c.count_logs.new.entries total counts)
 
 pub whole_summary-requires : goal.whole_summary-requires
 whole_summary-requires g c =
-    let s = c.args.settings.now in
+    let s = c.args.context.now.settings.now in
     let stored = db_value c.in_ok-stored.stored in
-    let counts =
-    subst (λ (start : Start). CountsLogs c.args.setup.now start s.generate c.items-names.result.now c.in_ok-entries.entries c.count_logs.new.entries (g.F.Files.view c.args.files.now) (g.F.Files.view c.count_logs.new.files) c.in_ok-total.total) c.start-start.ensures
+    let counts = counts-said s stored c.start-start.result c.start-start.ensures c.args.setup.now c.items-names.result.now c.items-names.ensures c.in_ok-entries.entries (g.F.Files.view c.args.files.now) (g.F.Files.view c.count_logs.new.files) c.count_logs.new.entries c.in_ok-total.total
     c.in_ok-total.ensures.ok in
     whole-fits c.args.setup.now s stored _ c.in_ok-run.run' c.summary_is_sound.ensures (sum-lines c.args.setup.now (start_of s stored).totals _ c.in_ok-total.total c.in_ok-run.run' counts.counts c.in_ok-run.ensures)
 
@@ -71,28 +63,24 @@ returns-in_err-whole-clause-sure g c = λ _.
 
 pub returns-in_err-whole-clause-stops : goal.returns-in_err-whole-clause-stops
 returns-in_err-whole-clause-stops g c =
-    let s = c.args.settings.now in
+    let s = c.args.context.now.settings.now in
     let before = g.F.Files.view c.args.files.now in
     let after = g.F.Files.view c.count_logs.new.files in
     let entries = c.in_ok-entries.entries in
     let total = c.in_ok-total.total in
-    let counts =
-    subst (λ (start : Start). CountsLogs c.args.setup.now start s.generate s.logs entries c.count_logs.new.entries before after total) c.start-start.ensures
-    (subst (λ (names : List (List ℕ)). CountsLogs c.args.setup.now c.start-start.result s.generate names entries c.count_logs.new.entries before after total) c.items-names.ensures c.in_ok-total.ensures.ok) in
+    let counts = counts-said s (db_value c.in_ok-stored.stored) c.start-start.result c.start-start.ensures c.args.setup.now c.items-names.result.now c.items-names.ensures entries before after c.count_logs.new.entries total c.in_ok-total.ensures.ok in
     let p = err_from_is_err_and c.from_residual-in_err-whole.result c.from_residual-in_err-whole.ensures.1 in
     rw (p.1, p.2) (hungry-last c.args.setup.now s before after _ _ _ _ (db_value c.in_ok-stored.stored) c.in_ok-stored.ensures.ok entries c.in_ok-entries.ensures c.count_logs.new.entries total counts)
 
 pub returns-clause-ok : goal.returns-clause-ok
 returns-clause-ok g c =
-    let s = c.args.settings.now in
+    let s = c.args.context.now.settings.now in
     let before = g.F.Files.view c.args.files.now in
     let after = g.F.Files.view c.count_logs.new.files in
     let entries = c.in_ok-entries.entries in
     let total = c.in_ok-total.total in
     let run = c.in_ok-run.run' in
-    let counts =
-    subst (λ (start : Start). CountsLogs c.args.setup.now start s.generate s.logs entries c.count_logs.new.entries before after total) c.start-start.ensures
-    (subst (λ (names : List (List ℕ)). CountsLogs c.args.setup.now c.start-start.result s.generate names entries c.count_logs.new.entries before after total) c.items-names.ensures c.in_ok-total.ensures.ok) in
+    let counts = counts-said s (db_value c.in_ok-stored.stored) c.start-start.result c.start-start.ensures c.args.setup.now c.items-names.result.now c.items-names.ensures entries before after c.count_logs.new.entries total c.in_ok-total.ensures.ok in
     record {
       finds = c.in_ok-stored.ensures.ok;
       has = record {

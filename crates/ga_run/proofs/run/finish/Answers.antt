@@ -21,12 +21,12 @@ keep-requires-clause-whole g c = c.requires.whole
 
 pub returns-in-Err : goal.returns-in-Err
 returns-in-Err g c =
-    rw (c.from.ensures) (unkept-last c.args.settings.now c.args.counted.now (g.D.Disk.view c.args.disk.now) (g.D.Disk.view c.keep.new.disk) (g.D.Disk.images c.args.disk.now) (g.D.Disk.images c.keep.new.disk)
+    rw (c.from.ensures) (unkept-last c.args.context.now.settings.now c.args.counted.now (g.D.Disk.view c.args.disk.now) (g.D.Disk.view c.keep.new.disk) (g.D.Disk.images c.args.disk.now) (g.D.Disk.images c.keep.new.disk)
     (g.O.Outs.view c.args.outs.now) c.if-settings.true c.in-Err.fault c.in-Err.ensures.unkept c.keep.ensures.calls)
 
 pub returns : goal.returns
 returns g c =
-    let s = c.args.settings.now in
+    let s = c.args.context.now.settings.now in
     let counted = c.args.counted.now in
     let disk = c.args.disk.now in
     let outs = g.O.Outs.view c.args.outs.now in

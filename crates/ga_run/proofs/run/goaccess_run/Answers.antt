@@ -5,25 +5,25 @@ use Rattle.ga_run.specs.Printing.{TakesOrStops}
 use Rattle.ga_run.specs.Run.{IsRun}
 use Rattle.ga_run.specs.Statuses.{fault_line}
 use Rattle.ga_run.specs.declared.status.Status.{Status}
-use Rattle.ga_run.specs.World.{world_of as world}
+use Rattle.ga_run.specs.Outside.{outside_of as outside}
 use Rattle.ga_run.proofs.Runs.{run-of, run-none}
 use Rattle.ga_run.proofs.WordLaw.{one-words}
 use Rattle.ga_run.proofs.run.goaccess_run.Goals as goal
 
 pub returns-in-Err : goal.returns-in-Err
 returns-in-Err g c =
-    let old = world (g.F.Files.view c.args.files.now) (g.D.Disk.view c.args.disk.now) (g.D.Disk.images c.args.disk.now) (g.O.Outs.view c.args.outs.now) in
+    let old = outside (g.F.Files.view c.args.files.now) (g.D.Disk.view c.args.disk.now) (g.D.Disk.images c.args.disk.now) (g.O.Outs.view c.args.outs.now) in
     let outs' = g.O.Outs.view c.tell.new.outs in
     let bad : (c.in-Err.fault ≡ WordNoMemory) ⊎ WordsOf c.args.words.now (Err c.in-Err.fault) = c.in-Err.ensures.fault in
     let line =
     subst (λ (status : Status). TakesOrStops (fault_line [] status) old.outs.stderr outs'.stderr) c.from-status.ensures c.tell.ensures.line in
-    subst (λ (status : Status). IsRun c.args.words.now old (world old.files old.disk old.images outs') status) (sym c.from-status.ensures)
+    subst (λ (status : Status). IsRun c.args.words.now old (outside old.files old.disk old.images outs') status) (sym c.from-status.ensures)
     (run-none (one-words c.one_reading.ensures) c.one_outcome.ensures (record { all = c.read_as_told.ensures.all; some = c.read_as_told.ensures.some }) c.args.words.now old (g.D.Disk.only_now c.args.disk.now)
     c.in-Err.fault outs' bad line c.tell.ensures.others c.tell.ensures.calls)
 
 pub returns-in-Ok : goal.returns-in-Ok
 returns-in-Ok g c =
-    let old = world (g.F.Files.view c.args.files.now) (g.D.Disk.view c.args.disk.now) (g.D.Disk.images c.args.disk.now) (g.O.Outs.view c.args.outs.now) in
+    let old = outside (g.F.Files.view c.args.files.now) (g.D.Disk.view c.args.disk.now) (g.D.Disk.images c.args.disk.now) (g.O.Outs.view c.args.outs.now) in
     let s = c.in-Ok.settings in
     let status = c.run_settings-status.result in
     let mid = g.O.Outs.view c.run_settings-status.new.outs in

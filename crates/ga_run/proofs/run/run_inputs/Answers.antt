@@ -14,7 +14,7 @@ use Rattle.ga_run.proofs.run.run_inputs.Goals as goal
 
 pub returns-in-Err : goal.returns-in-Err
 returns-in-Err g c =
-    let s = c.args.settings.now in
+    let s = c.args.context.now.settings.now in
     let before = g.F.Files.view c.args.files.now in
     let after = g.F.Files.view c.rules_of.new.files in
     let stops : StopsNamed s.browsers_file before after c.in-Err.fault =
@@ -26,7 +26,7 @@ returns-in-Err g c =
 
 pub returns-in_default : goal.returns-in_default
 returns-in_default g c =
-    let s = c.args.settings.now in
+    let s = c.args.context.now.settings.now in
     let before = g.F.Files.view c.args.files.now in
     let after = g.F.Files.view c.rules_of.new.files in
     let has : HasRules s.browsers_file before after c.in-Ok.rules =
@@ -35,7 +35,7 @@ returns-in_default g c =
 
 pub returns-in-Ok-count : goal.returns-in-Ok-count
 returns-in-Ok-count g c =
-    let s = c.args.settings.now in
+    let s = c.args.context.now.settings.now in
     let before = g.F.Files.view c.args.files.now in
     let mid = g.F.Files.view c.rules_of.new.files in
     let after = g.F.Files.view c.count.new.files in
@@ -50,7 +50,7 @@ returns-in-Ok-count g c =
 
 pub returns : goal.returns
 returns g c =
-    let s = c.args.settings.now in
+    let s = c.args.context.now.settings.now in
     let before = g.F.Files.view c.args.files.now in
     let mid = g.F.Files.view c.rules_of.new.files in
     let after = g.F.Files.view c.count.new.files in
@@ -65,7 +65,7 @@ returns g c =
 
 pub returns-then-not-uses_database : goal.returns-then-not-uses_database
 returns-then-not-uses_database g c =
-    let s = c.args.settings.now in
+    let s = c.args.context.now.settings.now in
     let before = g.F.Files.view c.args.files.now in
     let mid = g.F.Files.view c.rules_of.new.files in
     let after = g.F.Files.view c.run_alone.new.files in

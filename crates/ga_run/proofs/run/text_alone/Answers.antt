@@ -1,20 +1,17 @@
-use Rattle.std.proofs.Common.{ℕ, List, refl, subst, sym, inl, inr}
+use Rattle.std.proofs.Common.{refl, inl, inr}
 use Rattle.std.proofs.lemmas.Result.{err_from_is_err_and}
-use Rattle.ga_logs.specs.Logs.{CountsLogs, StopsLogs}
-use Rattle.ga_logs.specs.declared.start.Start.{Start}
 use Rattle.ga_ports.specs.Trace.{no_files_call}
 use Rattle.ga_report.specs.OfSummary.{source_value}
 use Rattle.ga_report.proofs.Alike.{report-alike}
 use Rattle.ga_store.specs.Store.{db_value}
-use Rattle.ga_base.specs.Totals.{LinesAdd, TotalsFit}
-use Rattle.ga_run.proofs.Counting.{base-adds, base-fits, countable-total, overwrites}
+use Rattle.ga_run.proofs.Counting.{countable-total, counts-said, overwrites, start-adds, start-fits, stops-said}
 use Rattle.ga_run.proofs.run.text_alone.Goals as goal
 
 pub count_logs-requires-clause-fit : goal.count_logs-requires-clause-fit
-count_logs-requires-clause-fit g c = λ _ _. subst (λ (start : Start). TotalsFit start.totals) (sym c.start-start.ensures) (base-fits c.args.settings.now (db_value c.args.stored.now) c.summary_is_sound.ensures)
+count_logs-requires-clause-fit g c = λ _ _. start-fits c.args.context.now.settings.now (db_value c.args.stored.now) c.start-start.result c.start-start.ensures c.summary_is_sound.ensures
 
 pub count_logs-requires-clause-lines : goal.count_logs-requires-clause-lines
-count_logs-requires-clause-lines g c = λ _ _. subst (λ (start : Start). LinesAdd start.totals) (sym c.start-start.ensures) (base-adds c.args.settings.now (db_value c.args.stored.now) c.summary_is_sound.ensures)
+count_logs-requires-clause-lines g c = λ _ _. start-adds c.args.context.now.settings.now (db_value c.args.stored.now) c.start-start.result c.start-start.ensures c.summary_is_sound.ensures
 
 pub returns-in_err-entries-clause-files_trace : goal.returns-in_err-entries-clause-files_trace
 returns-in_err-entries-clause-files_trace g c = no_files_call
@@ -26,14 +23,12 @@ returns-in_err-entries-clause-stops g c =
 
 pub returns-in_err-total-clause-stops : goal.returns-in_err-total-clause-stops
 returns-in_err-total-clause-stops g c =
-    let s = c.args.settings.now in
+    let s = c.args.context.now.settings.now in
     let before = g.F.Files.view c.args.files.now in
     let after = g.F.Files.view c.count_logs.new.files in
     let fault = c.in_err-total.field-0.0 in
     let entries = c.in_ok-entries.entries in
-    let stops =
-    subst (λ (start : Start). StopsLogs c.args.setup.now start s.generate s.logs entries before after fault) c.start-start.ensures
-    (subst (λ (names : List (List ℕ)). StopsLogs c.args.setup.now c.start-start.result s.generate names entries before after fault) c.items-names.ensures c.in_err-total.ensures.stops) in
+    let stops = stops-said s (db_value c.args.stored.now) c.start-start.result c.start-start.ensures c.args.setup.now c.items-names.result.now c.items-names.ensures entries before after fault c.in_err-total.ensures.stops in
     let p = err_from_is_err_and c.from_residual-in_err-total.result c.from_residual-in_err-total.ensures.1 in
     rw (p.1, p.2) (inl (record { entries = entries; begin = c.in_ok-entries.ensures; fault = fault; status_is = refl; stops = stops }))
 
@@ -42,41 +37,35 @@ source-requires g c = (c.type_bounds.sync-R, countable-total _ _ _ _ c.in_ok-tot
 
 pub returns-in_err-told-clause-stops : goal.returns-in_err-told-clause-stops
 returns-in_err-told-clause-stops g c =
-    let s = c.args.settings.now in
+    let s = c.args.context.now.settings.now in
     let before = g.F.Files.view c.args.files.now in
     let after = g.F.Files.view c.count_logs.new.files in
     let entries = c.in_ok-entries.entries in
     let total = c.in_ok-total.total in
-    let counts =
-    subst (λ (start : Start). CountsLogs c.args.setup.now start s.generate s.logs entries c.count_logs.new.entries before after total) c.start-start.ensures
-    (subst (λ (names : List (List ℕ)). CountsLogs c.args.setup.now c.start-start.result s.generate names entries c.count_logs.new.entries before after total) c.items-names.ensures c.in_ok-total.ensures.ok) in
+    let counts = counts-said s (db_value c.args.stored.now) c.start-start.result c.start-start.ensures c.args.setup.now c.items-names.result.now c.items-names.ensures entries before after c.count_logs.new.entries total c.in_ok-total.ensures.ok in
     let p = err_from_is_err_and c.from_residual-in_err-told.result c.from_residual-in_err-told.ensures.1 in
     rw (p.1, p.2) (inr (refl, inr (record { entries = entries; begin = c.in_ok-entries.ensures; entries' = c.count_logs.new.entries; total = total; counts = counts })))
 
 pub returns-in_err-text-clause-stops : goal.returns-in_err-text-clause-stops
 returns-in_err-text-clause-stops g c =
-    let s = c.args.settings.now in
+    let s = c.args.context.now.settings.now in
     let before = g.F.Files.view c.args.files.now in
     let after = g.F.Files.view c.count_logs.new.files in
     let entries = c.in_ok-entries.entries in
     let total = c.in_ok-total.total in
-    let counts =
-    subst (λ (start : Start). CountsLogs c.args.setup.now start s.generate s.logs entries c.count_logs.new.entries before after total) c.start-start.ensures
-    (subst (λ (names : List (List ℕ)). CountsLogs c.args.setup.now c.start-start.result s.generate names entries c.count_logs.new.entries before after total) c.items-names.ensures c.in_ok-total.ensures.ok) in
+    let counts = counts-said s (db_value c.args.stored.now) c.start-start.result c.start-start.ensures c.args.setup.now c.items-names.result.now c.items-names.ensures entries before after c.count_logs.new.entries total c.in_ok-total.ensures.ok in
     let p = err_from_is_err_and c.from_residual-in_err-text.result c.from_residual-in_err-text.ensures.1 in
     rw (p.1, p.2) (inr (refl, inr (record { entries = entries; begin = c.in_ok-entries.ensures; entries' = c.count_logs.new.entries; total = total; counts = counts })))
 
 pub returns-clause-ok : goal.returns-clause-ok
 returns-clause-ok g c =
-    let s = c.args.settings.now in
+    let s = c.args.context.now.settings.now in
     let stored = db_value c.args.stored.now in
     let before = g.F.Files.view c.args.files.now in
     let after = g.F.Files.view c.count_logs.new.files in
     let entries = c.in_ok-entries.entries in
     let total = c.in_ok-total.total in
-    let counts =
-    subst (λ (start : Start). CountsLogs c.args.setup.now start s.generate s.logs entries c.count_logs.new.entries before after total) c.start-start.ensures
-    (subst (λ (names : List (List ℕ)). CountsLogs c.args.setup.now c.start-start.result s.generate names entries c.count_logs.new.entries before after total) c.items-names.ensures c.in_ok-total.ensures.ok) in
+    let counts = counts-said s (db_value c.args.stored.now) c.start-start.result c.start-start.ensures c.args.setup.now c.items-names.result.now c.items-names.ensures entries before after c.count_logs.new.entries total c.in_ok-total.ensures.ok in
     let text = c.in_ok-text.ensures in
     let tells = c.in_ok-told.ensures counts.counts.outcomes counts.counts.tally counts.counts.countable in
     record {
