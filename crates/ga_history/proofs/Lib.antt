@@ -1,0 +1,13 @@
+pub mod Appending
+pub mod Blank
+pub mod Counted
+pub mod EachOnce
+pub mod Effects
+pub mod Faults
+pub mod Growing
+pub mod Histories
+pub mod Kept
+pub mod Lists
+pub mod OnePass
+pub mod Promises
+pub mod Staying
