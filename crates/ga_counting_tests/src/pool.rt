@@ -56,7 +56,12 @@ struct Numbers {
 }
 
 /// What so many workers count, in pieces of so many lines.
-fn numbers<R: Threads + Sync>(rt: &R, alloc: Global, jobs: u32, chunk: u32) -> Result<Numbers, Fail>
+fn numbers_by<R: Threads + Sync>(
+    rt: &R,
+    alloc: Global,
+    jobs: u32,
+    chunk: u32,
+) -> Result<Numbers, Fail>
     requires jobs { (1 ≤ jobs) × (jobs ≤ 16) }
     requires chunk { 1 ≤ chunk }
 {
@@ -82,8 +87,8 @@ fn workers_count_as_one(rt: HostRuntime) -> Result<(), Fail> {
         host: Some([2, 20, 0]),
         summary: (6, 2, 20),
     };
-    assert_eq!(rt; numbers(&rt, alloc, 1, 1024)?, wanted);
-    assert_eq!(rt; numbers(&rt, alloc, 2, 1)?, wanted);
-    assert_eq!(rt; numbers(&rt, alloc, 16, 32768)?, wanted);
+    assert_eq!(rt; numbers_by(&rt, alloc, 1, 1024)?, wanted);
+    assert_eq!(rt; numbers_by(&rt, alloc, 2, 1)?, wanted);
+    assert_eq!(rt; numbers_by(&rt, alloc, 16, 32768)?, wanted);
     Ok(())
 }
