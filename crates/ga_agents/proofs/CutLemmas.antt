@@ -18,7 +18,7 @@ NoTab text = AllByRecursion (λ b. b ≢ tab) text
 abbrev pub AllTabs : List ℕ → Type 0
 AllTabs text = AllByRecursion (λ b. b ≡ tab) text
 
--- what stands before the first tab, and behind it
+-- what stands before the first tab, and after it
 pub first_tab : (t u r s : List ℕ) → NoTab t → NoTab u → t ++ tab ∷ r ≡ u ++ tab ∷ s → (t ≡ u) × (r ≡ s)
 first_tab [] [] r s free other e = let rest : r ≡ s = cc in (refl, rest)
 first_tab [] (b ∷ u) r s free other e = let here : b ≡ tab = cc in absurd (other.0 here)
@@ -29,7 +29,7 @@ first_tab (a ∷ t) (b ∷ u) r s free other e =
     let rest = first_tab t u r s free.1 other.1 more in
     (ap (λ x. x ∷ t) here ∙ ap (λ ts. b ∷ ts) rest.0, rest.1)
 
--- what stands behind tabs, and begins with another byte
+-- what follows tabs, and begins with another byte
 behind_tabs : (m n c d : List ℕ) → AllTabs m → AllTabs n → Begins c → Begins d → m ++ c ≡ n ++ d → c ≡ d
 behind_tabs [] [] c d all others bc bd e = e
 behind_tabs [] (b ∷ n) c d all others bc bd e =
@@ -76,7 +76,7 @@ other_no b lacks = ⊎_elim (λ same. eqb-true b tab same) (λ other. let clash 
 other_from : (b : ℕ) → is_other b ≡ true → b ≢ tab
 other_from b is same = let clash : true ≡ false = sym is ∙ ap is_other same in cc
 
--- the first other byte stands behind all tabs
+-- the first other byte follows all tabs
 other_found : (tabs rest : List ℕ) (b : ℕ) → AllTabs tabs → b ≢ tab → position is_other (tabs ++ b ∷ rest) ≡ Some (length tabs)
 other_found tabs rest b all ne =
     let line = tabs ++ b ∷ rest in
@@ -88,7 +88,7 @@ other_found tabs rest b all ne =
     let first : position_or_len is_other line ≡ at = position_or_len_is is_other line at 0 (omega (arith, long)) before (λ _. here) in
     cond-true _ _ _ (lt-ltb (position_or_len is_other line) (length line) (omega (arith, first, long))) ∙ ap (λ n. Some n) first
 
--- the first tab of a line, and the first other byte behind it
+-- the first tab of a line, and the first other byte after it
 tab_split : (line : List ℕ) (end : ℕ) → IsFirstByte (is_byte 9) line (Some end) → line ≡ take end line ++ tab ∷ drop (end + 1) line
 tab_split line end first =
     let here : get_or line end 0 ≡ tab = eqb-true _ _ first.1 in

@@ -96,7 +96,7 @@ pub read_count : (text line : List ℕ) (left : List (List ℕ)) (number : ℕ) 
 read_count text line left number rules read =
     omega (arith, few_lines text, ap length read.split, length-append read.before (line ∷ left), read.count)
 
--- what is answered is the only answer, but for want of memory
+-- what is answered is the only answer, but for lack of memory
 pub only_list : (text : List ℕ) (r : Result (List Rule) RuleFault) → IfOk r (FileGives text) → IfErr r (IsFileFault text) → (given : List Rule) → FileGives text given → UnlessNoMemory r (Ok given)
 only_list text (Ok found) ok err given gives = inl (ap (λ (x : List Rule). Ok x) (one_list (lines text) found given ok gives))
 only_list text (Err (BadLine number)) ok err given gives = absurd (list_or_fault text given number gives err)

@@ -112,7 +112,7 @@ some_agent file agent =
       record { browser = browser.2; system = system.2; crawler = crawler.1 },
     )
 
--- whether a line has a tab, and another byte behind its first tabs
+-- whether a line has a tab, and another byte after its first tabs
 no_tab_or_some : (line : List ℕ) → ((token rest : List ℕ) × NoTab token × (line ≡ token ++ tab ∷ rest)) ⊎ NoTab line
 no_tab_or_some [] = inr tt
 no_tab_or_some (b ∷ line) =

@@ -9,7 +9,7 @@ use Rattle.ga_agents.specs.declared.row.Rule.{Rule}
 use Rattle.ga_agents.specs.Occurs.{StandsFirst, NoneOccurs, IsFirstEntry}
 use Rattle.ga_agents.specs.Tables.{System, builtin_rules, systems}
 
--- what stands for a browser, a category, a system or a group that no entry gives
+-- what represents a browser, a category, a system or a group that no entry gives
 abbrev pub unknown : List ℕ
 unknown = codes "Unknown"
 

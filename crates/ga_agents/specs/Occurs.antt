@@ -6,7 +6,7 @@ use Rattle.std.specs.List.{AllByRecursion}
 abbrev pub Occurs : List ℕ → List ℕ → Type 0
 Occurs token agent = (front rest : List ℕ) × (agent ≡ front ++ (token ++ rest))
 
--- the token stands in the agent between these bytes, and nowhere before
+-- the token is in the agent between these bytes, and nowhere before
 pub record StandsFirst (token agent front rest : List ℕ) : Type 0 where
   pub split : agent ≡ front ++ (token ++ rest)
   pub first : (other more : List ℕ) → agent ≡ other ++ (token ++ more) → length front ≤ length other

@@ -66,7 +66,7 @@ pub record IsBadLine (text : List ℕ) (number : ℕ) : Type 0 where
 abbrev pub IsAnswered : List ℕ → Type 0
 IsAnswered text = ((given : List Rule) × FileGives text given) ⊎ ((number : ℕ) × IsBadLine text number)
 
--- an error names the first line that gives no rules, or want of memory
+-- an error names the first line that gives no rules, or lack of memory
 abbrev pub IsFileFault : List ℕ → RuleFault → Type 0
 IsFileFault text (BadLine number) = IsBadLine text number
 IsFileFault text NoMemory = Unit {0}

@@ -42,7 +42,7 @@ IsSetOf set text = (slot : ℕ) → IsTrue (has_slot set slot) ↔ ((i : ℕ) ×
 abbrev pub HasAllPairs : PairSet → List ℕ → Type 0
 HasAllPairs set token = (i : ℕ) → 1 ≤ i → i < length token → IsTrue (has_slot set (slot_at token i))
 
--- the first place of the token in the agent, and the agent may be cut there and behind the token
+-- the first place of the token in the agent, and the agent may be cut there and after the token
 pub record IsPlace (token agent : List ℕ) (at : ℕ) : Type 0 where
   pub within : at + length token ≤ length agent
   pub stands : StandsFirst token agent (take at agent) (drop (at + length token) agent)
@@ -62,7 +62,7 @@ is_other b = not (b == tab)
 abbrev pub Begins : List ℕ → Type 0
 Begins text = (b : ℕ) × (rest : List ℕ) × (text ≡ b ∷ rest) × (b ≢ tab)
 
--- a line is cut into what stands before its first tab and what stands behind the tabs there, which is not empty
+-- a line is cut into what stands before its first tab and what follows the tabs there, which is not empty
 pub record IsCut (line token category : List ℕ) : Type 0 where
   pub tabs : List ℕ
   pub split : line ≡ token ++ tab ∷ (tabs ++ category)

@@ -12,7 +12,7 @@ use crate::agent_text::AgentText;
 use crate::entries::first_entry;
 use crate::tables::{browsers, system_entries};
 
-/// What stands for a browser, a category, a system or a group that no entry gives.
+/// What represents a browser, a category, a system or a group that no entry gives.
 const UNKNOWN: &str = "Unknown";
 
 /// The rule that counts for an agent.

@@ -10,7 +10,7 @@ use std::fmt;
 pub enum RuleFault {
     /// The first line that is no rule, no comment and not empty, or is too long. Lines count from 1.
     RuleFault { line: u64 },
-    /// Want of memory.
+    /// Out of memory.
     NoMemory,
 }
 

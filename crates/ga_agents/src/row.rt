@@ -69,7 +69,7 @@ fn is_passed_over(line: &[u8]) -> bool
     }
 }
 
-/// What stands before the first tab of a line, and what stands behind the tabs there.
+/// What stands before the first tab of a line, and what follows the tabs there.
 fn cut(line: &[u8]) -> Option<(&[u8], &[u8])>
     ensures { MatchOption result ((token : List ℕ) (category : List ℕ) → ¬ IsCut line.now token category) (λ parts. IsCut line.now parts.0.now parts.1.now) }
 {

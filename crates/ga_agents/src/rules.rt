@@ -56,7 +56,7 @@ impl Rules {
     /// `RuleFault` has the number of the first line, from 1, that is none of these, or is longer than 1,024 bytes
     /// without its end.
     pub fn read(alloc: Global, text: &[u8]) -> Result<Rules, RuleFault>
-        // What is answered is what the file gives, or its first bad line, or want of memory;
+        // What is answered is what the file gives, or its first bad line, or lack of memory;
         ensures rules { IfOk result (FileGives text.now) }
         ensures fault { IfErr result (IsFileFault text.now) }
 

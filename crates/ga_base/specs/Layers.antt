@@ -6,7 +6,7 @@ use Rattle.ga_base.specs.declared.panel.Panel.TheVariants.{Visitors, Requests, R
 use Rattle.ga_base.specs.Days.{HasEightDigits, eight_digits}
 use Rattle.ga_base.specs.Panels.{is_same_panel}
 
--- the panels whose entries stand in groups
+-- the panels whose entries are in groups
 abbrev pub has_groups : Panel → Bool
 has_groups Os = true
 has_groups Browsers = true

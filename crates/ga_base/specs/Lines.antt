@@ -7,7 +7,7 @@ use Rattle.ga_base.specs.declared.limits.TheConstants.{LINE_FEED}
 abbrev pub IsEnded : List ℕ → Type 0
 IsEnded text = (text ≡ []) ⊎ ((front : List ℕ) × (text ≡ front ++ LINE_FEED ∷ []))
 
--- so many of the text's first bytes are those of its ended lines
+-- this many of the text's first bytes are those of its ended lines
 pub record AreEnded (text : List ℕ) (count : ℕ) : Type 0 where
   pub within : count ≤ length text
   pub ended : IsEnded (take count text)

@@ -10,7 +10,7 @@ pub struct Entry {
     pub lead: u16,
     /// The SHA-256 of those bytes.
     pub digest: [u8; 32],
-    /// The place behind the last byte that was counted, at least 1.
+    /// The place after the last byte that was counted, at least 1.
     pub offset: u64,
     ghost leads: { lead ≡ min offset MOST_LEAD },
     ghost counted: { 1 ≤ offset },

@@ -38,13 +38,13 @@ pub enum FormatFault {
     UnknownSpecifier { at: u64 },
     /// A specifier that may stand once only stands again, or beside one that gives the same part.
     Repeated { at: u64 },
-    /// A field with no literal byte behind it, though items follow.
+    /// A field with no literal byte after it, though items follow.
     NoDelimiter { at: u64 },
     /// No item gives this part.
     Missing { field: Needed },
     /// In a date or time format: a directive that isn't named or repeats a part, or at the end a part that is missing.
     BadDirective { at: u64 },
-    /// Want of memory.
+    /// Out of memory.
     NoMemory,
 }
 

@@ -74,7 +74,7 @@ impl Panel {
         Panel::ALL.get(number).copied()
     }
 
-    /// Whether the panel's entries stand in groups, each with a row of its own.
+    /// Whether the panel's entries are in groups, each with a row of its own.
     pub fn has_groups(&self) -> bool
         ensures { result ≡ has_groups self.now }
     {

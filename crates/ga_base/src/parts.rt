@@ -7,7 +7,7 @@ use std::marker::Sync;
 use std::thread::{Threads, join_mut};
 
 /// Changes items, of which the first has the number `first`, by `work`, in parts of these lengths, each in a thread that this
-/// one starts. What is left behind the last part this thread changes itself.
+/// one starts. What is left after the last part this thread changes itself.
 #[cycle(parts)]
 pub fn change_parts<
     R: Threads + Sync,
@@ -26,7 +26,7 @@ pub fn change_parts<
     change_both(rt, work, lengths, first, low, high)
 }
 
-/// Changes items in a thread of their own, and beside them, in parts of these lengths, those behind them.
+/// Changes items in a thread of their own, and beside them, in parts of these lengths, those after them.
 #[cycle(parts)]
 fn change_both<R: Threads + Sync, T: Send, W: Fn(usize, &mut [T]) -> Result<(), NoMemory> + Sync>(
     rt: &R,

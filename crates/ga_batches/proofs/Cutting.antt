@@ -57,7 +57,7 @@ onto-append : (b : ℕ) (ps qs : List (List ℕ)) → 0 < length ps → onto_fir
 onto-append b [] qs some = absurd (omega arith)
 onto-append b (p ∷ ps) qs some = refl
 
--- a line feed parts the pieces before it from those behind it
+-- a line feed parts the pieces before it from those after it
 pieces-feed : (front more : List ℕ) → pieces (front ++ LINE_FEED ∷ more) ≡ pieces front ++ pieces more
 pieces-feed [] more = slice_split-cons_yes feeds LINE_FEED more refl
 pieces-feed (b ∷ front) more =

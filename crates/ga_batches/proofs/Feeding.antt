@@ -84,7 +84,7 @@ whole-taken piece at a b fed full within fits =
     let lines = ap (λ (xs : List ℕ). length xs) fed.lines in
     omega (arith, full, fed.limit, short, lines, length-append (held a) (take at piece), length-take at piece)
 
--- a slice's rest is fed behind its front
+-- a slice's rest is fed after its front
 pub feeds-on : (piece : List ℕ) (at more : ℕ) (a b c : BatcherSeen) → Feeds (take at piece) a b
     → Feeds (take more (take (length piece - at) (drop at piece))) b c → Feeds (take (at + more) piece) a c
 feeds-on piece at more a b c first second =

@@ -56,7 +56,7 @@ pub record Feeds (bytes : List ℕ) (old new : BatcherSeen) : Type 0 where
   pub limit : new.limit ≡ old.limit
   pub going : new.is_over ≡ old.is_over
 
--- The stream so far is what the batches taken before have, one behind the other, and then what is held, with each line as it is
+-- The stream so far is what the batches taken before have, one after the other, and then what is held, with each line as it is
 -- held: so the lines of the one say what those of the other do.
 pub record Holds (stream taken : List ℕ) (v : BatcherSeen) : Type 0 where
   pub going : v.is_over ≡ false

@@ -11,6 +11,6 @@ CutsEachPiece = (text : List ℕ) → pieces (cut_lines text) ≡ map cut_line (
 abbrev pub CutsOnce : Type 0
 CutsOnce = (text more : List ℕ) → cut_lines (cut_lines text ++ more) ≡ cut_lines (text ++ more)
 
--- behind whole lines the others are cut by themselves
+-- after whole lines the others are cut by themselves
 abbrev pub CutsApart : Type 0
 CutsApart = (text more : List ℕ) → IsEnded text → cut_lines (text ++ more) ≡ cut_lines text ++ cut_lines more

@@ -4,7 +4,7 @@ use Rattle.std.specs.List.{join_with_byte, slice_split}
 use Rattle.ga_base.specs.declared.limits.TheConstants.{LINE_FEED}
 use Rattle.ga_batches.specs.declared.batcher.TheConstants.{LINE_HELD}
 
--- what stands before, between and behind the line feeds of a text
+-- what stands before, between and after the line feeds of a text
 abbrev pub pieces : List ℕ → List (List ℕ)
 pieces text = slice_split (λ b. b == LINE_FEED) text
 

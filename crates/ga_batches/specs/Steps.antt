@@ -4,7 +4,7 @@ use Rattle.ga_batches.specs.Batches.{BatcherSeen, IsFull, held}
 use Rattle.ga_batches.specs.Lines.{cut_line}
 use Rattle.ga_base.specs.declared.limits.TheConstants.{LINE_FEED}
 
--- so many of these bytes, which have no line feed, were added to the begun line
+-- this many of these bytes, which have no line feed, were added to the begun line
 pub record GoesOn (taken : ℕ) (bytes : List ℕ) (old new : BatcherSeen) : Type 0 where
   pub within : taken ≤ length bytes
   pub value : new ≡ record old { begun = cut_line (old.begun ++ take taken bytes); fed = old.fed + taken }

@@ -19,7 +19,7 @@ pub const LINE_HELD: usize = 65_537;
 /// The least number of bytes that a batcher can hold.
 pub const LEAST_LIMIT: u64 = 1_048_576;
 
-/// Whole lines of a stream, and the line that is begun behind them.
+/// Whole lines of a stream, and the line that is begun after them.
 #[derive(Drop)]
 pub struct Batcher {
     /// The bytes of the whole lines, and then what is held of the begun line. Its room is taken at the beginning.
@@ -81,7 +81,7 @@ impl Batcher {
         })
     }
 
-    /// The whole lines held, each with its line feed. A line of more than `LINE_HELD` bytes stands as so many of its first.
+    /// The whole lines held, each with its line feed. A line of more than `LINE_HELD` bytes stands as this many of its first.
     pub fn batch(&self) -> &[u8]
         ensures value { result.now ≡ self.now.batch }
         ensures batcher { IsBatcher self.now }
@@ -178,7 +178,7 @@ impl Batcher {
         taken
     }
 
-    /// How many of so many bytes of the begun line are held: as many as its line and the batcher have room for.
+    /// How many of this many bytes of the begun line are held: as many as its line and the batcher have room for.
     fn kept_of(&self, len: usize) -> usize
         ensures { result ≡ min (min len (LINE_HELD - length self.now.begun)) (self.now.limit - length (held self.now)) }
     {
@@ -186,7 +186,7 @@ impl Batcher {
         len.min(line).min(self.limit - self.bytes.len())
     }
 
-    /// How many of so many bytes were taken, of which `kept` are held now: all, where the batcher isn't full.
+    /// How many of this many bytes were taken, of which `kept` are held now: all, where the batcher isn't full.
     fn taken_of(&self, len: usize, kept: usize) -> usize
         ensures all { length (held self.now) < self.now.limit → result ≡ len }
         ensures full { self.now.limit ≤ length (held self.now) → result ≡ kept }
@@ -209,7 +209,7 @@ impl Batcher {
         self.bytes.extend_from_slice(bytes).unwrap();
     }
 
-    /// Counts so many bytes as fed.
+    /// Counts this many bytes as fed.
     fn count(&mut self, taken: usize)
         requires { self.old.fed + taken < 2 ^ 64 }
         ensures { self.new ≡ record self.old { fed = self.old.fed + taken } }

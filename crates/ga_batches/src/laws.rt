@@ -7,7 +7,7 @@ ghost use Rattle.ga_batches.specs.Laws.{CutsApart, CutsEachPiece, CutsOnce};
 ghost use Rattle.ga_base.specs.declared.limits.TheConstants.{LINE_FEED, MAX_BATCH};
 ghost use Rattle.ga_batches.specs.declared.batcher.TheConstants.{LINE_HELD};
 
-/// A text with its lines cut has the pieces of the text, each cut; and lines may be cut before more is added, or behind it.
+/// A text with its lines cut has the pieces of the text, each cut; and lines may be cut before more is added, or after it.
 pub fn lines_are_cut_one_by_one()
     ensures pieces { CutsEachPiece }
     ensures once { CutsOnce }

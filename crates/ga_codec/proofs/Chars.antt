@@ -13,7 +13,7 @@ in_range low high n l h = and_from _ _ (le-leb low n l) (le-leb n high h)
 pub range_of : (low high n : ℕ) → is_in_range low high n ≡ true → (low ≤ n) × (n ≤ high)
 range_of low high n e = let p = and_parts _ _ e in (leb-true low n p.0, leb-true n high p.1)
 
--- what the second byte y behind x has to be
+-- what the second byte y after x has to be
 pub record Second (x y : ℕ) : Type 0 where
   pub low : 0x80 ≤ y
   pub high : y ≤ 0xBF

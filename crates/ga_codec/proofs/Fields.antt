@@ -17,7 +17,7 @@ use Rattle.ga_codec.proofs.PartLaws.{IsPart, IsMade, made_is_part, followed_is_p
 use Rattle.ga_codec.proofs.Numbers.{wide16, wide32, wide64, number_is_part, any_is_part, listed_is_part}
 use Rattle.ga_codec.proofs.Texts.{utf8_is_part}
 
--- one part behind another, whatever the first says
+-- one part after another, whatever the first says
 abbrev pub beside : {A B : Type 0} → Part A → Part B → Part (A × B)
 beside first second = followed_by first (λ _. second)
 

@@ -145,7 +145,7 @@ fails_first first next cur NoMemory p q r = tt
 fails_first first next cur (NotInGrammar place) p q r =
     record { read = r.read; place = r.place; stops = followed_stops first next p q cur.rest r.read r.stops }
 
--- a fault of the part that comes next, behind which others would come
+-- a fault of the part that comes next, after which others would come
 pub fails_here : {A B C : Type 0} {whole : Part A} (first : Part B) (next : B → Part C) {made : B × C → A} {old cur : Cursor} (fault : CodecFault)
     → At whole (followed_by first next) made old cur → IsPart first → ((b : B) → first.fits b → IsPart (next b)) → Refuses first cur fault → Refuses whole old fault
 fails_here first next {cur = cur} fault at p q r = fails fault at (fails_first first next cur fault p q r)

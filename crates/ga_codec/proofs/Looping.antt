@@ -1,4 +1,4 @@
--- Reading so many parts of one kind, one after the other.
+-- Reading this many parts of one kind, one after the other.
 use Rattle.std.proofs.Common.{◌≡◌, ℕ, suc, ◌+◌, ◌-◌, ◌≤◌, ◌<◌, List, [], ◌∷◌, ◌++◌, refl, sym, subst, append_assoc, arith}
 use Rattle.std.proofs.lemmas.List.{append-nil}
 use Rattle.ga_codec.specs.declared.fault.CodecFault.{CodecFault}
@@ -7,7 +7,7 @@ use Rattle.ga_codec.proofs.PartLaws.{IsPart}
 use Rattle.ga_codec.proofs.Going.{At, begins, goes_on, opens, remade, ends, fails_here}
 use Rattle.ga_codec.proofs.Numbers.{times_made, times_is_part}
 
--- so many of count items were read, which are these
+-- this many of count items were read, which are these
 abbrev pub HasRead : {A : Type 0} → Part A → ℕ → ℕ → List A → Cursor → Cursor → Type 0
 HasRead part count i items old cur = At (times count part) (times (count - i) part) (λ rest. items ++ rest) old cur
 
@@ -17,7 +17,7 @@ none_read {A = A} part count cur =
     subst (λ (n : ℕ). At (times count part) (times n part) (λ (rest : List A). [] ++ rest) cur cur) same
     (begins (times count part) (times count part) (λ (rest : List A). [] ++ rest) cur (record { completes = λ xs f. (f, refl); comes = λ xs f. (xs, f, refl) }))
 
--- the next item comes, and the others behind it
+-- the next item comes, and the others after it
 next_item : {A : Type 0} (part : Part A) (count i : ℕ) (items : List A) (old cur : Cursor) → i < count → HasRead part count i items old cur
     → At (times count part) (followed_by part (λ _. times (count - (i + 1)) part)) (λ v. items ++ (v.0 ∷ v.1)) old cur
 next_item {A = A} part count i items old cur lt at =

@@ -1,4 +1,4 @@
--- Numbers and rows of bytes, so many items, and lists.
+-- Numbers and rows of bytes, this many items, and lists.
 use Rattle.std.proofs.Common.{◌≡◌, ℕ, zero, suc, ◌+◌, ◌-◌, ◌*◌, ◌^◌, ◌≤◌, ◌<◌, List, [], ◌∷◌, ◌++◌, length, take, drop, get_or, replicate, refl, sym, ap, ◌∙◌, subst, append_assoc, arith}
 use Rattle.std.specs.List.{flat_map, AllByRecursion}
 use Rattle.std.specs.Int.{Width, w16, w32, w64, byte_len, from_be_bytes, to_be_bytes}
@@ -111,7 +111,7 @@ number_made w wide = record {
 pub number_is_part : (w : Width) → IsWide w → IsPart (number w)
 number_is_part w wide = made_is_part (number w) (any_bytes (byte_len w)) (from_be_bytes w) (number_made w wide) (any_is_part (byte_len w))
 
--- ---- so many of one kind
+-- ---- this many of one kind
 
 module _ {A : Type 0} (part : Part A) (p : IsPart part) where
   times_one : (xs ys : List A) (x y : List ℕ) → length xs ≡ length ys → AllByRecursion part.fits xs → AllByRecursion part.fits ys

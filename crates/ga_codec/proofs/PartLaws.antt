@@ -25,7 +25,7 @@ take_past (b ∷ done) rest (suc n) le =
     let same : n - length done ≡ suc n - suc (length done) = omega arith in
     ap (λ (t : List ℕ). b ∷ t) (take_past done rest n (omega arith)) ∙ ap (λ (m : ℕ). b ∷ (done ++ take m rest)) same
 
--- ---- one part behind another
+-- ---- one part after another
 
 module _ {A B : Type 0} (first : Part A) (next : A → Part B) (p : IsPart first) (q : (a : A) → first.fits a → IsPart (next a)) where
   rests : (a b : A) (x y : List ℕ) → a ≡ b → first.spell a ++ x ≡ first.spell b ++ y → x ≡ y
@@ -94,7 +94,7 @@ made_is_part whole inner made m p = record {
   some = (made p.some.0, (m.completes p.some.0 p.some.1).0);
 }
 
--- ---- what stands at an end
+-- ---- what is at an end
 
 pub empty_stops : {A : Type 0} (part : Part A) → IsPart part → ((a : A) → 0 < length (part.spell a)) → StopsAt part [] 0
 empty_stops part p long = record {

@@ -65,7 +65,7 @@ char_by (x ∷ y ∷ z ∷ []) h = record { size = h.0; some = omega arith; most
 char_by (x ∷ y ∷ z ∷ w ∷ []) h = record { size = h.0; some = omega arith; most = omega arith; second = λ _. h.1; third = λ _. h.2 }
 char_by (x ∷ y ∷ z ∷ w ∷ v ∷ bytes) h = absurd h
 
--- what is known of bytes of which so many begin a text of this length
+-- what is known of bytes of which this many begin a text of this length
 record Fronts (size : ℕ) (bytes : List ℕ) (n : ℕ) : Type 0 where
   sized : char_size (get_or bytes 0 0) ≤ size
   some : 0 < char_size (get_or bytes 0 0)
@@ -101,7 +101,7 @@ fronts size bytes n no_char pos le b =
       third = λ l. ap continues (sym (same 2 l)) ∙ by.third (omega arith);
     }
 
--- a character, and letters behind it
+-- a character, and letters after it
 filled : (size : ℕ) (front more : List ℕ) → IsChar (front ++ more) → length (front ++ more) ≤ size → Begins (IsTextOf size) front
 filled size front more h le =
     let last : List ℕ = replicate (size - length (front ++ more)) 97 in
@@ -240,7 +240,7 @@ stop_3 size (x ∷ y ∷ z ∷ xs) no_char some nonzero sized h g =
 
 -- ---- a text that is read
 
--- behind the longest front that is UTF-8 no character begins
+-- after the longest front that is UTF-8 no character begins
 pub no_char_behind : (bytes : List ℕ) (n : ℕ) → IsValidUpTo bytes n → StartsWithNoChar (drop n bytes)
 no_char_behind bytes n v = λ c rest ok e.
     let front = take n bytes in

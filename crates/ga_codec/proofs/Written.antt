@@ -1,4 +1,4 @@
--- Writing one part behind another.
+-- Writing one part after another.
 use Rattle.std.proofs.Common.{◌≡◌, ℕ, zero, suc, ◌+◌, ◌<◌, List, [], ◌∷◌, ◌++◌, length, map, take, get_or, Some, refl, sym, ap, ◌∙◌, subst, append_assoc, arith}
 use Rattle.std.specs.Prelude.{slice_get}
 use Rattle.std.specs.Int.{w64}
@@ -32,7 +32,7 @@ wrote_made {b = b} {old = old} m w =
 pub wrote_panel : (p : Panel) (byte : ℕ) (old new : List ℕ) → byte ≡ panel_number p + 1 → new ≡ old ++ byte ∷ [] → Writes panel p old new
 wrote_panel p byte old new b e = record { fits = tt; bytes = e ∙ ap (λ (n : ℕ). old ++ n ∷ []) b }
 
--- ---- so many of one kind
+-- ---- this many of one kind
 
 pub wrote_none : {A : Type 0} (part : Part A) (out : List ℕ) → Writes (times 0 part) [] out out
 unfolding times

@@ -53,7 +53,7 @@ impl<'a> Cursor<'a> {
         self.rest
     }
 
-    /// Room for so many items of at least `size` bytes each, and for no more than the bytes that are left could hold.
+    /// Room for this many items of at least `size` bytes each, and for no more than the bytes that are left could hold.
     pub(crate) fn room(&self, count: u64, size: usize) -> usize
         requires { 1 ≤ size }
         ensures held { result * size ≤ length self.now.rest }
@@ -90,7 +90,7 @@ impl<'a> Cursor<'a> {
         }
     }
 
-    /// Reads over so many bytes.
+    /// Reads over this many bytes.
     pub(crate) fn skip(&mut self, count: usize)
         requires { count ≤ length self.old.rest }
         ensures { self.new ≡ record { place = self.old.place + count; rest = drop count self.old.rest } }

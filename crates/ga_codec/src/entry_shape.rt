@@ -55,7 +55,7 @@ impl<'a> Cursor<'a> {
         self.read_each_entry(alloc, count)
     }
 
-    /// Reads so many entries.
+    /// Reads this many entries.
     fn read_each_entry(&mut self, alloc: Global, count: u64) -> Result<Vec<EntryShape>, CodecFault>
         ensures { Reads (times count entry) (λ v. map shape_value v.items) self.old self.new result }
     {

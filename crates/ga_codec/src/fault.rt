@@ -12,7 +12,7 @@ pub enum CodecFault {
     /// number.
     #[error("byte {at}: not in the grammar")]
     NotInGrammar { at: u64 },
-    /// Want of memory.
+    /// Out of memory.
     #[error("no memory")]
     NoMemory,
 }

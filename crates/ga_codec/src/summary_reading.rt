@@ -17,7 +17,7 @@ const NAME_SIZE: usize = 16;
 /// The least size of a row: a panel, a day, four texts, four sums and the number of names.
 const ROW_SIZE: usize = 77;
 
-/// The panel that a byte stands for, from 1 on in the report's order.
+/// The panel that a byte represents, from 1 on in the report's order.
 fn panel_of(byte: u8) -> Option<Panel>
     ensures { MatchOption result ((p : ThePanel) → panel_number p + 1 ≡ byte → ⊥) (λ p. panel_number p + 1 ≡ byte) }
 {
@@ -60,7 +60,7 @@ impl<'a> Cursor<'a> {
         self.read_each_row(alloc, count)
     }
 
-    /// Reads so many rows.
+    /// Reads this many rows.
     fn read_each_row(&mut self, alloc: Global, count: u64) -> Result<PartRows, CodecFault>
         ensures { Reads (times count row) rows_in self.old self.new result }
     {
@@ -134,7 +134,7 @@ impl<'a> Cursor<'a> {
         self.read_each_name(alloc, count)
     }
 
-    /// Reads so many names.
+    /// Reads this many names.
     fn read_each_name(&mut self, alloc: Global, count: u64) -> Result<Names, CodecFault>
         ensures { Reads (times count name) (λ names. names) self.old self.new result }
     {

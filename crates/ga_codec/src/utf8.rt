@@ -22,7 +22,7 @@ fn char_size(first: u8) -> u64
     }
 }
 
-/// Whether a byte may stand second, behind this first one.
+/// Whether a byte may stand second, after this first one.
 fn may_follow(first: u8, byte: u8) -> bool
     ensures { result ≡ may_follow first byte }
 {

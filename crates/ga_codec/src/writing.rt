@@ -123,7 +123,7 @@ fn put_key(out: &mut Vec<u8>, key: &Key) -> Result<(), NoMemory>
     Ok(())
 }
 
-/// The byte that stands for a panel, from 1 on in the report's order.
+/// The byte that represents a panel, from 1 on in the report's order.
 fn panel_byte(panel: &Panel) -> u8
     ensures { result ≡ panel_number panel.now + 1 }
 {

@@ -6,11 +6,11 @@ use Rattle.std.specs.List.{Contains, list_any}
 abbrev pub raised : ℕ → ℕ → ℕ
 raised count n = max count (min (count + n) (2 ^ 64 - 1))
 
--- the count is greater than before, or stands at its last value
+-- the count is greater than before, or is at its last value
 abbrev pub Rose : ℕ → ℕ → Type 0
 Rose before now = min (before + 1) (2 ^ 64 - 1) ≤ now
 
--- the call after so many calls is listed to fail
+-- the call after this many calls is listed to fail
 abbrev pub is_due : List ℕ → ℕ → Bool
 is_due listed calls = list_any (λ call. call == raised calls 1) listed
 

@@ -1,7 +1,7 @@
 ghost use Rattle.std.specs.Prelude.{◌≡◌};
 ghost use Rattle.ga_counters.specs.Counts as counts;
 
-/// Whether the call after so many calls is listed to fail.
+/// Whether the call after this many calls is listed to fail.
 pub fn is_due(listed: &[u64], calls: u64) -> bool
     ensures { result ≡ counts.is_due listed.now calls }
 {

@@ -19,7 +19,7 @@ impl Promise<CountSeat> for GivesBack {
     ghost kept_by = { λ p seat. (seat.table ≡ p.0.value.table) × (seat.view.share ≡ p.0.value.view.share) };
 }
 
-/// Adds 1 at word 0 so many times, raises place 0, and gives the seat back.
+/// Adds 1 at word 0 this many times, raises place 0, and gives the seat back.
 fn count(table: &CountTable, mut seat: CountSeat, times: u32, most: u64) -> CountSeat
     requires table { seat.table ≡ table.now.table }
     requires word { 1 ≤ table.now.opening.words }

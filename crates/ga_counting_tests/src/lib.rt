@@ -1,6 +1,6 @@
 //! Tests of the crates that count: tables that threads share, numbers of items, batches and logs.
 //!
-//! A crate with tests is proved twice, so those of many libraries stand in one, over their public calls. They have what no
+//! A crate with tests is proved twice, so those of many libraries are in one, over their public calls. They have what no
 //! clause says: that threads come to their end, by which words maps hash, and that calls which take memory succeed.
 #![tactic(auto)]
 

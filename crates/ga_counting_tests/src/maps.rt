@@ -3,11 +3,12 @@
 use crate::numbers::visitor;
 use crate::setup::setup;
 use ga_base::{Entries, NoMemory, Panel, Text, Texts, Totals};
-use ga_logs::{CountFault, Follow, Start, count_logs};
+use ga_logs::{CountFault, count_logs};
 use ga_numbers::{KeyNumbers, VisitorNumbers, VisitorRef};
 use ga_outcomes::Setup;
 use ga_panels::KeyRef;
 use ga_ports::{MemFiles, NoGate};
+use ga_resume::{Follow, Start};
 use ga_shards::{Dictionary, Keyed};
 use ga_workers::{Crew, Workers, keyed_by};
 use std::alloc::Global;

@@ -16,7 +16,7 @@ const BATCH: &[u8] = b"192.0.2.1 - - [01/Jan/2024:00:00:00 +0000] \"GET /a HTTP/
 192.0.2.1 - - [01/Jan/2024:00:00:00 +0000] \"GET /a HTTP/1.1\" 200 10
 ";
 
-/// What so many workers count of them, in pieces of so many lines: tables for which there is a summary.
+/// What this many workers count of them, in pieces of this many lines: tables for which there is a summary.
 fn counted<R: Threads + Sync>(
     rt: &R,
     alloc: Global,
@@ -55,7 +55,7 @@ struct Numbers {
     summary: (u64, u64, u64),
 }
 
-/// What so many workers count, in pieces of so many lines.
+/// What this many workers count, in pieces of this many lines.
 fn numbers_by<R: Threads + Sync>(
     rt: &R,
     alloc: Global,

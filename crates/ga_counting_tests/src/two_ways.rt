@@ -7,9 +7,10 @@ ghost use Rattle.ga_summary.specs.Sound.{IsSummary};
 
 use crate::setup::setup;
 use ga_base::{Entries, Text, Texts, Totals};
-use ga_logs::{CountFault, Follow, Start, count_logs};
+use ga_logs::{CountFault, count_logs};
 use ga_pool::{Counted, PoolFault, Setup, count_batch};
 use ga_ports::{MemFiles, NoGate};
+use ga_resume::{Follow, Start};
 use ga_summary::Summary;
 use ga_workers::{Crew, Workers};
 use std::alloc::Global;

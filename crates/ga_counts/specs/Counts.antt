@@ -66,7 +66,7 @@ tallied v word n = record v { tallies = slice_set v.tallies word (tally_at word 
 abbrev pub raised : CountView → ℕ → ℕ → CountView
 raised v place n = record v { maxima = slice_set v.maxima place (max (maximum_at place v) n) }
 
--- a new view of so many words and places, which has put in nothing
+-- a new view of this many words and places, which has put in nothing
 abbrev pub blank : ℕ → ℕ → ℕ → ℕ → CountView
 blank words maxima share allowance = record { share = share; allowance = allowance; tallies = replicate words 0; maxima = replicate maxima 0 }
 

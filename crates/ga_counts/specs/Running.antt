@@ -1,11 +1,11 @@
--- The running counts: a row of words, the maxima behind them, and one word that is never used. Each atomic step is one event.
+-- The running counts: a row of words, the maxima after them, and one word that is never used. Each atomic step is one event.
 use Rattle.std.specs.Prelude.{◌≡◌, ℕ, ◌+◌, length, take, drop}
 use Rattle.atomic_table.specs.Table.{State, Me, Step}
 use Rattle.ga_counts.specs.Counts.{CountState, Inv, blank, tallied, raised}
 use Rattle.ga_counts.specs.declared.view.CountView.{CountView}
 use Rattle.ga_counts.specs.declared.view.Opening.{Opening}
 
--- the state that words and views stand for
+-- the state that words and views represent
 abbrev pub state_of : Opening → State (Unit {0}) CountView → CountState
 state_of opening s = record { words = take opening.words s.words; maxima = take opening.maxima (drop opening.words s.words); views = s.views }
 

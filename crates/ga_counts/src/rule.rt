@@ -5,7 +5,7 @@ use atomic_table::{Join, Play, Split, TableRule};
 use ga_draws::{Cut, Witness};
 use std::marker::PhantomData;
 
-/// The state that words and views stand for keeps its invariant.
+/// The state that words and views represent keeps its invariant.
 pub struct CountRule;
 
 impl TableRule<(), CountView, Opening> for CountRule {

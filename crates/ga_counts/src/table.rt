@@ -52,7 +52,7 @@ impl Model for CountSeat {
 }
 
 impl CountTable {
-    /// A table of so many sums and maxima, and the seat that has all shares and the whole allowance.
+    /// A table of this many sums and maxima, and the seat that has all shares and the whole allowance.
     pub fn open(
         alloc: Global,
         words: u32,

@@ -1,6 +1,6 @@
 use std::collections::LinkedList;
 
-/// What a seat knows. It stands in contracts and proofs alone: no value of it is made.
+/// What a seat knows. It is in contracts and proofs alone: no value of it is made.
 pub struct CountView {
     /// Its share of the right to know the whole.
     pub share: u64,

@@ -18,7 +18,7 @@ use Rattle.ga_dates.proofs.RowLemmas.{OnceIfNamed, directive_once, once_one, no_
 abbrev pub HasAnswer : Kind → List ℕ → Type 0
 HasAnswer kind text = (answer : Result (List Item) FormatFault) × IsAnswer kind text answer
 
--- a bad directive behind a row is the text's fault
+-- a bad directive after a row is the text's fault
 bad_answer : (kind : Kind) (front rest : List ℕ) (tokens : List Token) (before : List Item) → IsRow kind tokens front before → IsBadDirective kind before rest → HasAnswer kind (front ++ rest)
 bad_answer kind front rest tokens before row bad = (
   Err (BadDirective (length front)),
@@ -34,7 +34,7 @@ whole_answer kind text tokens items row =
       | inr e ↦ (Err (BadDirective (length text)), made.1 e)
     ]
 
--- behind each row there is an answer, where so many bytes are left
+-- after each row there is an answer, where this many bytes are left
 abbrev Answers : ℕ → Type 0
 Answers count = (kind : Kind) (front rest : List ℕ) (tokens : List Token) (before : List Item) → IsRow kind tokens front before → length rest ≤ count → HasAnswer kind (front ++ rest)
 

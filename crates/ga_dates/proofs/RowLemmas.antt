@@ -157,7 +157,7 @@ adds_directive kind text at before after added lt once percent named new e =
       once = subst (λ (xs : List Item). AreOnce xs) (sym e) (once_append before added once once' new);
     }
 
--- a bad directive behind a row is the format's fault
+-- a bad directive after a row is the format's fault
 pub fault_behind : (kind : Kind) (text : List ℕ) (at : ℕ) (before : List Item) (tokens : List Token) → at ≤ length text → IsRow kind tokens (take at text) before
     → (e : FormatFault) → IsTokenFault kind text at before e → IsFormatFault kind text e
 fault_behind kind text at before tokens inside row (BadDirective place) h = inl (record {

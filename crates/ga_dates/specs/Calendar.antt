@@ -20,6 +20,6 @@ pub record IsDay (year month day : ℕ) : Type 0 where
   pub first_day : 1 ≤ day
   pub last_day : day ≤ days_in_month year month
 
--- the number that stands for a day, as 20240229
+-- the number that represents a day, as 20240229
 abbrev pub number_of_day : ℕ → ℕ → ℕ → ℕ
 number_of_day year month day = 10000 * year + 100 * month + day

@@ -1,4 +1,4 @@
--- Which items the text of a format stands for.
+-- Which items the text of a format represents.
 use Rattle.std.specs.Prelude.{ℕ, ◌≡◌, ◌≢◌, ◌≤◌, ◌⊎◌, count_by, length, List, [], ◌∷◌, ◌++◌, map, codes, Option, IsSome, MatchOption, unwrap_or, Result, Ok, Err}
 use Rattle.std.specs.List.{flat_map, AllByRecursion}
 use Rattle.std.specs.Map.{lookup}
@@ -47,15 +47,15 @@ date_forms = (codes "F", codes "Y-m-d") ∷ (codes "D", codes "m/d/y") ∷ []
 abbrev pub time_forms : List (List ℕ × List ℕ)
 time_forms = (codes "T", codes "H:M:S") ∷ (codes "R", codes "H:M") ∷ []
 
--- what stands in a table's row of this letter
+-- what is in a table's row of this letter
 abbrev pub at_letter : {X : Type 0} → ℕ → List (List ℕ × X) → Option X
 at_letter letter table = lookup (λ name. bytes_eq name (letter ∷ [])) table
 
--- the items of a form: a letter of the table is its directive, any other byte stands for itself
+-- the items of a form: a letter of the table is its directive, any other byte represents itself
 abbrev pub form_items : List (List ℕ × Item) → List ℕ → List Item
 form_items letters form = map (λ byte. unwrap_or (at_letter byte letters) (Literal byte)) form
 
--- what the letter behind a % stands for by these tables: its item, or the items of its form
+-- what the letter after a % represents by these tables: its item, or the items of its form
 abbrev pub named_items : List (List ℕ × Item) → List (List ℕ × List ℕ) → ℕ → Option (List Item)
 named_items letters forms letter =
     option_or (option_map (λ item. item ∷ []) (at_letter letter letters)) (option_map (form_items letters) (at_letter letter forms))
@@ -64,7 +64,7 @@ abbrev pub directive_of : Kind → ℕ → Option (List Item)
 directive_of Date letter = named_items date_letters date_forms letter
 directive_of Time letter = named_items time_letters time_forms letter
 
--- a format's text is a row of tokens: a byte other than %, which stands for itself, or % and a letter
+-- a format's text is a row of tokens: a byte other than %, which represents itself, or % and a letter
 pub data Token : Type 0 where
   Byte : ℕ → Token
   Directive : ℕ → Token
@@ -81,7 +81,7 @@ abbrev pub items_of : Kind → Token → List Item
 items_of kind (Byte byte) = Literal byte ∷ []
 items_of kind (Directive letter) = unwrap_or (directive_of kind letter) []
 
--- the text is a row of named tokens that stand for these items, and no part is given twice
+-- the text is a row of named tokens that represent these items, and no part is given twice
 pub record IsRow (kind : Kind) (tokens : List Token) (text : List ℕ) (items : List Item) : Type 0 where
   pub spelt : text ≡ flat_map text_of tokens
   pub given : items ≡ flat_map (items_of kind) tokens
@@ -98,7 +98,7 @@ pub record IsFormat (kind : Kind) (text : List ℕ) (items : List Item) : Type 0
 abbrev pub GivesAgain : List Item → List Item → Type 0
 GivesAgain before added = (part : Part) × (1 ≤ count_by (gives part) before) × (1 ≤ count_by (gives part) added)
 
--- behind the items before, the rest begins with a % that no letter follows, or one that isn't named, or one whose
+-- after the items before, the rest begins with a % that no letter follows, or one that isn't named, or one whose
 -- directive gives a part again
 abbrev pub IsBadDirective : Kind → List Item → List ℕ → Type 0
 IsBadDirective kind before [] = ⊥
@@ -106,7 +106,7 @@ IsBadDirective kind before (byte ∷ []) = byte ≡ percent
 IsBadDirective kind before (byte ∷ letter ∷ _) =
     (byte ≡ percent) × MatchOption (directive_of kind letter) (Unit {0}) (λ added. GivesAgain before added)
 
--- the text is a row up to a bad directive, which stands at this place
+-- the text is a row up to a bad directive, which is at this place
 pub record BreaksAt (kind : Kind) (text : List ℕ) (at : ℕ) : Type 0 where
   pub front : List ℕ
   pub rest : List ℕ
@@ -134,7 +134,7 @@ IsAnswer kind text (Ok items) = IsFormat kind text items
 IsAnswer kind text (Err (BadDirective at)) = IsFaultAt kind text at
 IsAnswer kind text (Err _) = ⊥
 
--- an error is a bad directive at its place, or want of memory
+-- an error is a bad directive at its place, or lack of memory
 abbrev pub IsFormatFault : Kind → List ℕ → FormatFault → Type 0
 IsFormatFault kind text (BadDirective at) = IsFaultAt kind text at
 IsFormatFault kind text NoMemory = Unit {0}

@@ -35,7 +35,7 @@ abbrev pub IsMonthName : ℕ → List ℕ → Type 0
 IsMonthName month piece =
     (1 ≤ month) × (slice_get month_names (month - 1) ≡ Some (str_to_ascii_lowercase piece))
 
--- the year that two digits stand for: 2000 to 2068 for 00 to 68, and 1969 to 1999 for 69 to 99
+-- the year that two digits represent: 2000 to 2068 for 00 to 68, and 1969 to 1999 for 69 to 99
 abbrev pub long_year : ℕ → ℕ
 long_year short = if nat_lt short 69 then 2000 + short else 1900 + short
 

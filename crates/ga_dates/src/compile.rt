@@ -46,7 +46,7 @@ fn row_items(alloc: Global, kind: Kind, text: &[u8]) -> Result<Vec<Item>, Format
     Ok(items)
 }
 
-/// Adds the items of the token at `at`, and answers the place behind it.
+/// Adds the items of the token at `at`, and answers the place after it.
 fn push_token(
     kind: Kind,
     items: &mut Vec<Item>,

@@ -8,7 +8,7 @@ ghost use Rattle.ga_dates.specs.Grammar.{directive_of, percent, GivesAgain, IsBa
 
 use crate::{Item, Kind, Part};
 
-/// The items of the directive whose `%` stands at `at`. There are none where it isn't named, or gives a part that the items
+/// The items of the directive whose `%` is at `at`. There are none where it isn't named, or gives a part that the items
 /// before it give.
 pub(crate) fn directive_at(
     kind: Kind,

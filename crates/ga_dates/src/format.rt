@@ -85,12 +85,12 @@ impl TimeFormat {
 
 /// The date format of a text such as `%d/%b/%Y`, by GoAccess's `--date-format`. Its directives are `%d` and `%e` for the day,
 /// `%m` and `%b` for the month, `%Y` and `%y` for the year, `%F` for `%Y-%m-%d`, `%D` for `%m/%d/%y` and `%%` for a percent
-/// sign; any other byte stands for itself.
+/// sign; any other byte represents itself.
 ///
 /// `BadDirective` has the place of the first `%` that begins none of these, or one that gives a part again, or where there is
 /// none and the day, the month or the year isn't given, the text's length.
 pub fn compile_date(alloc: Global, text: &Text) -> Result<DateFormat, FormatFault>
-    // What is answered is the format that the text is, or its fault, or want of memory;
+    // What is answered is the format that the text is, or its fault, or lack of memory;
     ensures format { IfOk result (IsFormat DateKind text.now) }
     ensures fault { IfErr result (IsFormatFault DateKind text.now) }
 
@@ -110,7 +110,7 @@ pub fn compile_date(alloc: Global, text: &Text) -> Result<DateFormat, FormatFaul
 /// `BadDirective` has the place of the first `%` that begins none of these, or one that gives a part again, or where there is
 /// none and the hour or the minute isn't given, the text's length.
 pub fn compile_time(alloc: Global, text: &Text) -> Result<TimeFormat, FormatFault>
-    // What is answered is the format that the text is, or its fault, or want of memory;
+    // What is answered is the format that the text is, or its fault, or lack of memory;
     ensures format { IfOk result (IsFormat TimeKind text.now) }
     ensures fault { IfErr result (IsFormatFault TimeKind text.now) }
 

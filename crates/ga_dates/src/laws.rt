@@ -34,7 +34,7 @@ pub fn one_time()
         SpellsTime items text minute → SpellsTime items text other → minute ≡ other }
 {}
 
-/// By a date format and a time format behind it a text spells one date and one minute at most.
+/// By a date format and a time format after it a text spells one date and one minute at most.
 pub fn one_date_and_time()
     ensures { (dates times : List ItemSpec) → IsComplete DateKind dates → IsComplete TimeKind times →
         (text : List ℕ) (date minute other_date other_minute : ℕ) →

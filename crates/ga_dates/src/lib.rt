@@ -2,7 +2,7 @@
 //! `read_time` and `read_both` read what it spells, and take no memory.
 //!
 //! Start with `DateFormat`, which contracts see as the list of its items. `specs/Grammar.antt` says which items a format's
-//! text stands for and where its fault is, `specs/Spelling.antt` which texts the items spell, and `specs/Calendar.antt` which
+//! text represents and where its fault is, `specs/Spelling.antt` which texts the items spell, and `specs/Calendar.antt` which
 //! days there are. `laws` says that a text is one format or has one fault, and spells one date and one time at most.
 #![tactic(auto)]
 

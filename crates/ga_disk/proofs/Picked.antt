@@ -78,7 +78,7 @@ all-left-lent pick used s changed sized lent bytes ranges is long same kept left
     let at_sized = subst (λ (l : List ℕ). get_or bytes i 0 ≡ byte_left pick used changed s.synced l i) is at_lent in
     subst (λ (c : List Span). get_or bytes i 0 ≡ byte_left pick used c s.synced sized i) ranges at_sized)
 
--- a row brought to a length keeps its bytes, and is 0 behind them
+-- a row brought to a length keeps its bytes, and is 0 after them
 pub sized-same : (old sized : List ℕ) (n : ℕ) → ((i : ℕ) → i < n → i < length old → get_or sized i 0 ≡ get_or old i 0)
     → ((i : ℕ) → length old ≤ i → i < n → get_or sized i 0 ≡ 0) → (i : ℕ) → i < n → get_or sized i 0 ≡ get_or old i 0
 sized-same old sized n front behind i before = by-place (cases_lt i (length old))

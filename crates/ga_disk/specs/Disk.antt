@@ -40,7 +40,7 @@ abbrev pub is_past : Option ℕ → ℕ → Bool
 is_past None calls = false
 is_past (Some bound) calls = nat_le bound calls
 
--- the next call is listed to fail, or lies behind the bound
+-- the next call is listed to fail, or is past the bound
 abbrev pub must_fail : List ℕ → Option ℕ → ℕ → Bool
 must_fail listed bound calls = is_due listed calls || is_past bound calls
 
@@ -48,7 +48,7 @@ must_fail listed bound calls = is_due listed calls || is_past bound calls
 abbrev pub FailsIfListed : {A E : Type 0} → DiskView → Result A E → Type 0
 FailsIfListed old result = IfSome old.listed (λ listed. is_err result ≡ must_fail listed old.bound old.counts.calls)
 
--- a call that takes memory fails where it must, and else for want of memory alone, which is counted
+-- a call that takes memory fails where it must, and else for lack of memory alone, which is counted
 pub record FailsExactly {A E : Type 0} (must : Bool) (old new : DiskView) (result : Result A E) : Type 0 where
   pub due : must ≡ true → (is_err result ≡ true) × (new.counts.starved ≡ old.counts.starved)
   pub starved : must ≡ false → OnErr result (new.counts.starved ≡ raised old.counts.starved 1)
@@ -77,7 +77,7 @@ pub record Sizes {E : Type 0} (side : ℕ) (old new : DiskView) (result : Result
   pub failed : OnErr result (Fails old new)
   pub exact : FailsIfListed old result
 
--- the side has at least so many bytes, where that is told
+-- the side has at least this many bytes, where that is told
 abbrev pub Reaches : ℕ → ℕ → Option Sides → Type 0
 Reaches side size seen = IfSome seen (λ seen. size ≤ length (of_side side seen))
 

@@ -70,7 +70,7 @@ pub record AreImages (s : Both SideState) (image : Sides) : Type 0 where
   pub side0 : IsImage s.side0 image.side0
   pub side1 : IsImage s.side1 image.side1
 
--- what a crash may have left after so many of the calls or more
+-- what a crash may have left after this many of the calls or more
 pub record LeftSince (start : Sides) (changes : List Change) (t : ℕ) (image : Sides) : Type 0 where
   pub after : ℕ
   pub no_earlier : t ≤ after

@@ -25,7 +25,7 @@ abbrev pub picked : List ℕ → ℕ → ℕ → ℕ
 picked [] number byte = byte
 picked (first ∷ more) number byte = slice_index (first ∷ more) (number % length (first ∷ more))
 
--- the byte that is left at a place, where so many of the pick were used before this side; past the end a byte was 0
+-- the byte that is left at a place, where this many of the pick were used before this side; past the end a byte was 0
 abbrev pub byte_left : List ℕ → ℕ → List Span → ℕ → List ℕ → ℕ → ℕ
 byte_left pick used changed synced bytes i =
     if is_unsure changed synced i then picked pick (used + unsure_below changed synced i) (slice_index bytes i) else slice_index bytes i
@@ -45,7 +45,7 @@ crashed pick s = record {
   side1 = bytes_left pick (used_for pick s.side0) s.side1;
 }
 
--- every call fails that comes after so many more
+-- every call fails that comes after this many more
 abbrev pub after_bound : ℕ → DiskState → DiskState
 after_bound calls d = record d { bound = Some (raised d.counts.calls calls) }
 

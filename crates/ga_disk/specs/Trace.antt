@@ -34,12 +34,12 @@ pub record DiskStays (old new : DiskView) : Type 0 where
   pub opened : old.counts.opened ≤ new.counts.opened
   pub starved : old.counts.starved ≤ new.counts.starved
 
--- a call behind the bound was made
+-- a call past the bound was made
 abbrev pub PassesBound : Option ℕ → ℕ → Type 0
 PassesBound None calls = ⊥
 PassesBound (Some bound) calls = Rose bound calls
 
--- where these calls are listed, the count of faults rose exactly where one of them lies in the trace, a call behind the
+-- where these calls are listed, the count of faults rose exactly where one of them lies in the trace, a call after the
 -- bound was made, or one found no memory
 pub record DiskFailsAsListed (listed : List ℕ) (old new : DiskView) : Type 0 where
   pub cause : old.counts.faults < new.counts.faults

@@ -25,7 +25,7 @@ pub fn a_disk_stays()
 {}
 
 /// Where it is told which calls are listed, the count of faults of a disk rises exactly where one of them was made, a
-/// call behind the bound was made or one found no memory.
+/// call past the bound was made or one found no memory.
 pub fn a_disk_fails_as_listed()
     ensures { (listed : List ℕ) (old new : DiskView) → old.listed ≡ Some listed → DiskTrace old new
         → DiskFailsAsListed listed old new }

@@ -78,7 +78,7 @@ impl MemDisk {
         Ok(())
     }
 
-    /// Lets every call fail that comes after so many more, until the next crash.
+    /// Lets every call fail that comes after this many more, until the next crash.
     pub fn fail_after(&mut self, calls: u64)
         ensures { self.new ≡ after_bound calls self.old }
     {
@@ -106,7 +106,7 @@ impl MemDisk {
         self.sides.bytes(side)
     }
 
-    /// The number of calls that failed for want of memory.
+    /// The number of calls that failed for lack of memory.
     pub fn starved(&self) -> u64
         ensures { result ≡ self.now.counts.starved }
     {
@@ -120,7 +120,7 @@ impl MemDisk {
         self.path.as_ref()
     }
 
-    /// Whether the next call is listed to fail, or lies behind the bound.
+    /// Whether the next call is listed to fail, or is past the bound.
     fn is_due(&self) -> bool
         ensures { result ≡ must_fail self.now.listed self.now.bound self.now.counts.calls }
     {

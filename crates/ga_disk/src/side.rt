@@ -110,7 +110,7 @@ impl Side {
         self.most = self.bytes.len();
     }
 
-    /// Leaves the image of a crash for a pick of which so many bytes were used before, and answers how many are used then.
+    /// Leaves the image of a crash for a pick of which this many bytes were used before, and answers how many are used then.
     pub fn crash(&mut self, pick: &[u8], used: u64) -> u64
         requires { used ≤ max_size }
         ensures left { self.new ≡ fresh (bytes_left pick.now used self.old.state) }

@@ -5,7 +5,7 @@ use Rattle.ga_draws.specs.Draws.{DrawState, Inv, AreAllBelow, drew, given}
 use Rattle.ga_draws.specs.declared.view.DrawView.{DrawView}
 use Rattle.ga_draws.specs.declared.view.Opening.{Opening}
 
--- the state that word and views stand for
+-- the state that word and views represent
 abbrev pub state_of : State (Unit {0}) DrawView → DrawState
 state_of s = record { counter = slice_index s.words 0; views = s.views }
 

@@ -5,7 +5,7 @@ use crate::witnesses::{Cut, Witness};
 use atomic_table::{Join, Play, Split, TableRule};
 use std::marker::PhantomData;
 
-/// The state that word and views stand for keeps its invariant.
+/// The state that word and views represent keeps its invariant.
 pub struct DrawRule;
 
 impl TableRule<(), DrawView, Opening> for DrawRule {

@@ -23,7 +23,7 @@ use Rattle.ga_format.proofs.Answering.{whole_is_format, first_is_missing}
 abbrev IsFront : List ℕ → List ℕ → Type 0
 IsFront front text = ((rest : List ℕ) × (text ≡ front ++ rest)) ⊎ ((rest : List ℕ) → text ≢ front ++ rest)
 
--- a front stands at the head of a text, or not
+-- a front is at the head of a text, or not
 front_or_not : (front text : List ℕ) → IsFront front text
 front_or_not [] text = inl (text, refl)
 front_or_not (x ∷ front) [] = inr (λ rest e. no_head (front ++ rest) e)

@@ -90,7 +90,7 @@ first_is_undelimited text items field rest item after h g lacks = record {
     first (BadDirective p) f before = f
     first NoMemory f before = f
 
--- the unit may not stand behind the earlier ones
+-- the unit may not follow the earlier ones
 pub first_is_repeated : (text : List ℕ) (items : List FormatItem) (field : Option ℕ) (rest : List ℕ) (at : ℕ) (item : FormatItem) (after : List ℕ) → HasRead text items field rest → at + length rest ≡ length text → GivesUnit rest item after → Ends field item → repeats items item ≡ true → IsFirstFault text (Repeated at)
 first_is_repeated text items field rest at item after h place g ends twice = record {
   stands = record {

@@ -42,7 +42,7 @@ gives_specifier text letter after item e h same = record {
   is_item = same;
 }
 
--- behind a percent sign only a letter makes a unit
+-- after a percent sign only a letter makes a unit
 pub no_specifier : (text : List ℕ) → ((letter : ℕ) (after : List ℕ) → text ≡ letter ∷ after → has letter letters ≡ true → ⊥) → IsUnknown (37 ∷ text)
 no_specifier text none = record { begun = inl (text, refl); none = cases }
   where
@@ -52,7 +52,7 @@ no_specifier text none = record { begun = inl (text, refl); none = cases }
     cases (Specifier letter) after b = none letter after (heads 37 37 text (letter ∷ after) b.spelled).1 b.is_unit
     cases (ForwardedFor separators) after b = apart 37 126 _ _ refl b.spelled
 
--- behind `~h{` only separators and a `}` make a unit
+-- after `~h{` only separators and a `}` make a unit
 pub no_forwarded : (text : List ℕ) → ((separators after : List ℕ) → text ≡ separators ++ (125 ∷ after) → separators ≢ [] → has 125 separators ≡ false → ⊥) → IsUnknown (126 ∷ 104 ∷ 123 ∷ text)
 no_forwarded text none = record { begun = inr (text, refl); none = cases }
   where

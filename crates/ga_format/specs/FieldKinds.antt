@@ -14,7 +14,7 @@ is_field Skip = false
 is_field (Field letter) = true
 is_field (Forwarded separators) = true
 
--- a field ends at the literal behind it, so neither a field nor `%~` may come next
+-- a field ends at the literal after it, so neither a field nor `%~` may come next
 abbrev pub runs_into : FormatItem → FormatItem → Bool
 runs_into item (Literal byte) = false
 runs_into item Skip = is_field item
@@ -36,7 +36,7 @@ share kinds others = list_any (λ kind. has kind others) kinds
 abbrev pub overlap : FormatItem → FormatItem → Bool
 overlap item other = share (kinds_of item) (kinds_of other)
 
--- the item may not stand behind these, since it gives what one of them gives
+-- the item may not follow these, since it gives what one of them gives
 abbrev pub repeats : List FormatItem → FormatItem → Bool
 repeats earlier item = list_any (overlap item) earlier
 

@@ -22,7 +22,7 @@ pub record HasUnknown (text : List ℕ) (at : ℕ) : Type 0 where
   pub is_place : IsPlace text at before rest
   pub unknown : IsUnknown rest
 
--- at this place stands a unit that may not stand behind the earlier ones
+-- at this place stands a unit that may not follow the earlier ones
 pub record HasRepeated (text : List ℕ) (at : ℕ) : Type 0 where
   pub before : List FormatUnit
   pub rest : List ℕ

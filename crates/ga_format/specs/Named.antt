@@ -5,7 +5,7 @@ use Rattle.std.specs.Prelude.{◌≡◌, ◌≢◌, ℕ, List, codes, ◌++◌}
 abbrev pub common : List ℕ
 common = codes "%h %^[%d:%t %^] \"%r\" %s %b"
 
--- the combined one has the referrer and the agent behind it
+-- the combined one has the referrer and the agent after it
 abbrev pub combined : List ℕ
 combined = common ++ codes " \"%R\" \"%u\""
 
@@ -13,7 +13,7 @@ combined = common ++ codes " \"%R\" \"%u\""
 abbrev pub with_host : List ℕ → List ℕ
 with_host format = codes "%v:%^ " ++ format
 
--- the text that a word stands for: the four names, byte for byte, and any other word for itself
+-- the text that a word represents: the four names, byte for byte, and any other word for itself
 pub record StandsFor (word text : List ℕ) : Type 0 where
   pub is_common : word ≡ codes "COMMON" → text ≡ common
   pub is_combined : word ≡ codes "COMBINED" → text ≡ combined

@@ -1,4 +1,4 @@
--- The grammar of a format text: it is a row of units, one behind the other.
+-- The grammar of a format text: it is a row of units, one after the other.
 use Rattle.std.specs.Prelude.{◌≡◌, ◌≢◌, ◌==◌, ℕ, true, false, if◌then◌else◌, List, [], ◌∷◌, ◌++◌, map, codes, ◌⊎◌}
 use Rattle.ga_format.specs.Specifiers.{has, letters}
 use Rattle.ga_base.specs.Bytes.{byte_of}
@@ -33,7 +33,7 @@ items_of = map item_of
 abbrev pub StartsWith : List ℕ → List ℕ → Type 0
 StartsWith text front = (rest : List ℕ) × (text ≡ front ++ rest)
 
--- Whether this is a unit of the grammar where these bytes come after it. A byte stands for itself only where no other
+-- Whether this is a unit of the grammar where these bytes come after it. A byte represents itself only where no other
 -- unit's beginning stands. C has a byte, and runs to the first `}`.
 abbrev pub IsUnit : FormatUnit → List ℕ → Type 0
 IsUnit (Plain byte) after = ¬ StartsWith (byte ∷ after) (codes "%") × ¬ StartsWith (byte ∷ after) (codes "\\t") × ¬ StartsWith (byte ∷ after) (codes "~h{")

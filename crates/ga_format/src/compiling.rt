@@ -14,8 +14,8 @@ use std::alloc::Global;
 /// Compiles a format text to its items.
 ///
 /// An error is the first fault, with its place as a byte of the text, from 0: an unknown specifier, a specifier that
-/// may not stand behind the earlier ones, or a field that no literal ends, in this order at one place; and if there is
-/// none, the first of host, date and request that no item gives. `NoMemory` is want of memory, and `BadDirective` is
+/// may not follow the earlier ones, or a field that no literal ends, in this order at one place; and if there is
+/// none, the first of host, date and request that no item gives. `NoMemory` is lack of memory, and `BadDirective` is
 /// never answered.
 pub fn compile(alloc: Global, text: &Text) -> Result<Format, FormatFault>
     ensures format { IfOk result (λ format. FormatOf text.now (Ok format)) }
@@ -55,7 +55,7 @@ fn read_items(alloc: Global, text: &[u8]) -> Result<Vec<FormatItem>, FormatFault
     Ok(items)
 }
 
-/// Refuses an item that may not stand behind these. `field` is the place of the field that it has to end, and `at` its own.
+/// Refuses an item that may not follow these. `field` is the place of the field that it has to end, and `at` its own.
 fn check(
     items: &[FormatItem],
     field: Option<u64>,

@@ -21,7 +21,7 @@ pub(crate) fn is_literal(item: &FormatItem) -> bool
     matches!(item, FormatItem::Literal(_))
 }
 
-/// Whether the item may not stand behind these: it gives a kind of field that one of them gives.
+/// Whether the item may not follow these: it gives a kind of field that one of them gives.
 ///
 /// Only an item that gives some kind is looked up, so that a text costs no more than some twenty looks at each item.
 pub(crate) fn repeats(earlier: &[FormatItem], item: &FormatItem) -> bool

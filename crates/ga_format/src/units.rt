@@ -34,7 +34,7 @@ pub(crate) fn read_unit(
     }
 }
 
-/// Reads what stands behind a percent sign: a letter that is named.
+/// Reads what follows a percent sign: a letter that is named.
 fn read_specifier(text: &[u8], at: u64) -> Result<(FormatItem, &[u8]), FormatFault>
     ensures unit { IfOk result (λ read. GivesUnit (codes "%" ++ text.now) read.0 read.1.now) }
     ensures fault { IfErr result (λ fault. (fault ≡ FormatFault.UnknownSpecifier at) × IsUnknown (codes "%" ++ text.now)) }
@@ -59,7 +59,7 @@ fn specifier_item(letter: u8) -> FormatItem
     }
 }
 
-/// Reads what stands behind `~h{`: the separators, which run to the first `}`.
+/// Reads what follows `~h{`: the separators, which run to the first `}`.
 fn read_forwarded(alloc: Global, text: &[u8], at: u64) -> Result<(FormatItem, &[u8]), FormatFault>
     ensures unit { IfOk result (λ read. GivesUnit (codes "~h{" ++ text.now) read.0 read.1.now) }
     ensures fault { IfErr result (λ fault. (fault ≡ FormatFault.NoMemory) ⊎ ((fault ≡ FormatFault.UnknownSpecifier at) × IsUnknown (codes "~h{" ++ text.now))) }

@@ -1,7 +1,7 @@
 use crate::crash_reports::{FIVE_LINES, FOUR_LINES, ONE_LINE, TWO_LINES};
 use ga_base::{Bytes, NoMemory, Text, Texts};
-use ga_history::{Step, World, run_all};
 use ga_ports::To;
+use ga_run::{Step, World, run_all};
 use std::alloc::Global;
 use std::test::Fail;
 use std::thread::Threads;
@@ -57,7 +57,7 @@ fn outcome<R: Threads + Sync>(
     Ok((codes, taken))
 }
 
-/// A run between two that is cut after so many calls of the disk, and leaves an image by a pick: whether it was done. It is, or
+/// A run between two that is cut after this many calls of the disk, and leaves an image by a pick: whether it was done. It is, or
 /// the disk failed; and the run after it prints what it would have printed.
 fn hold_cut<R: Threads + Sync>(rt: &R, alloc: Global, calls: u64, pick: u8) -> Result<bool, Fail> {
     let steps = vec![in alloc;

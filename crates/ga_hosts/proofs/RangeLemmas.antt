@@ -11,7 +11,7 @@ use Rattle.ga_hosts.specs.Steps.{IsCut}
 use Rattle.ga_hosts.proofs.AddressLemmas.{one_address}
 use Rattle.ga_hosts.proofs.DashLemmas.{Dashless, dashless-from_all, dashless-address, one-cut, dash-no_address}
 
--- two cuts of one text behind an address are one cut
+-- two cuts of one text after an address are one cut
 same-cut : (text first second other more : List ℕ) → text ≡ first ++ (45 ∷ []) ++ second → text ≡ other ++ (45 ∷ []) ++ more → Dashless first → Dashless other → (first ≡ other) × (second ≡ more)
 same-cut text first second other more e k h g =
     one-cut first other second more h g (sym (append_assoc first (45 ∷ []) second) ∙ sym e ∙ k ∙ append_assoc other (45 ∷ []) more)

@@ -45,7 +45,7 @@ pub record IsWritten (text groups : List ℕ) : Type 0 where
   pub row : IsRow true text groups
   pub eight : length groups ≡ 8
 
--- Groups before and after a `::`, which stands for the groups between them: for one at least, and all of them zero.
+-- Groups before and after a `::`, which represents the groups between them: for one at least, and all of them zero.
 pub record IsShortened (text groups : List ℕ) : Type 0 where
   pub left : List ℕ
   pub right : List ℕ

@@ -6,9 +6,9 @@ use Rattle.ga_codec.specs.Values.{entry_value}
 use Rattle.ga_disk.specs.Disk.{DiskView}
 use Rattle.ga_disk.specs.Images.{Images, LeavesOnly}
 use Rattle.ga_disk.specs.Sides.{Sides, of_side}
-use Rattle.ga_logs.specs.declared.follow.Follow.{Follow}
-use Rattle.ga_logs.specs.declared.follow.Follow.TheVariants.{Whole, ToEnd, ToLastLine}
-use Rattle.ga_logs.specs.declared.start.Start.{Start}
+use Rattle.ga_resume.specs.declared.follow.Follow.{Follow}
+use Rattle.ga_resume.specs.declared.follow.Follow.TheVariants.{Whole, ToEnd, ToLastLine}
+use Rattle.ga_resume.specs.declared.start.Start.{Start}
 use Rattle.ga_counters.specs.Counts.{raised}
 use Rattle.ga_store.specs.Commit.{IsLater, MergesBy, adds_record, closing_calls, other_side, passes_generations, tail_calls}
 use Rattle.ga_store.specs.Commits.{AllHave, Frames, HasEither, Takes}
@@ -34,7 +34,7 @@ follow_of s = if s.persist then ToLastLine else (if s.restore then ToEnd else Wh
 abbrev pub base_of : Settings → DbValue → DbValue
 base_of s stored = if s.restore then stored else empty_db
 
--- how a run is kept: behind what is stored, or in its place
+-- how a run is kept: after what is stored, or in its place
 abbrev pub mode_of : Settings → Mode
 mode_of s = if s.restore then Append else Overwrite
 
@@ -42,7 +42,7 @@ mode_of s = if s.restore then Append else Overwrite
 abbrev pub AreBase : Settings → DbValue → List Entry → Type 0
 AreBase s stored entries = map entry_value entries ≡ (base_of s stored).entries
 
--- what a run shows: what it counted, behind what it restored
+-- what a run shows: what it counted, after what it restored
 abbrev pub IsWhole : Settings → DbValue → SummaryValue → SummaryValue → Type 0
 IsWhole s stored run whole = MergesBy (mode_of s) stored.summary run whole
 
@@ -137,12 +137,12 @@ abbrev pub side_for : Bool → DbValue → ℕ
 side_for true stored = unwrap_or stored.side 0
 side_for false stored = other_side stored.side
 
--- a record goes behind the last one, and a generation to the start
+-- a record goes after the last one, and a generation to the start
 abbrev pub gate_for : Bool → DbValue → ℕ
 gate_for true stored = stored.slot
 gate_for false stored = 0
 
--- a gate is closed, what is behind it is written, and the gate is opened by a write and a sync
+-- a gate is closed, what is after it is written, and the gate is opened by a write and a sync
 abbrev pub keeping_calls_by : Bool → DbValue → Sides → ℕ
 keeping_calls_by adds stored sides = closing_calls (gate_for adds stored) (of_side (side_for adds stored) sides) + tail_calls (not adds) + 2
 

@@ -5,7 +5,7 @@ ghost use Rattle.ga_store.specs.Store.{db_value};
 ghost use Rattle.ga_keep.specs.RunDatabase.{AreBase, IsWhole, base_of, follow_of, start_of};
 
 use ga_base::{Entries, NoMemory};
-use ga_logs::{Follow, Start};
+use ga_resume::{Follow, Start};
 use ga_store::Db;
 use ga_summary::{MergeFault, Summary};
 use ga_words::Settings;
@@ -50,7 +50,7 @@ pub fn base_entries(alloc: Global, settings: &Settings, stored: &Db) -> Result<E
     }
 }
 
-/// What a run shows and keeps: what it counted, behind what it restored.
+/// What a run shows and keeps: what it counted, after what it restored.
 pub fn whole_summary(settings: &Settings, stored: &Db, run: &Summary) -> Result<Summary, NoMemory>
     requires { passes (totals_plus (base_of settings.now (db_value stored.now)).summary.totals run.now.totals) ≡ None }
     ensures { IfOk result (IsWhole settings.now (db_value stored.now) run.now) }

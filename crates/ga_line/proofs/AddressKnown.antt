@@ -45,7 +45,7 @@ known-group text =
     (λ none. inr (λ (group, is). none (is.digits.0, (is.digits.1, is.short))))
     (known-both (known-less 0 (length text)) (known-both (known-numeral text) (known-most (length text) 4)))
 
--- so many groups joined by colons
+-- this many groups joined by colons
 abbrev HasRow : Bool → ℕ → List ℕ → Type 0
 HasRow quad n text = (groups : List ℕ) × (length groups ≡ n) × IsRow quad text groups
 

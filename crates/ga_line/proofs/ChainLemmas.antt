@@ -1,4 +1,4 @@
--- The longest chain of addresses at the front of a text: there is one at most, and one where an address stands there.
+-- The longest chain of addresses at the front of a text: there is one at most, and one where an address is there.
 use Rattle.std.proofs.Common.{◌≡◌, ◌≢◌, ℕ, zero, suc, ◌+◌, ◌<◌, ◌≤◌, Bool, true, false, List, [], ◌∷◌, ◌++◌, length, refl, sym, ap, ◌∙◌, subst, arith, inl, inr, ⊎_elim, append_assoc, length-append}
 use Rattle.std.proofs.lemmas.Bool.{false≢true}
 use Rattle.std.proofs.lemmas.List.{drop_at}
@@ -68,7 +68,7 @@ module _ (separators : List ℕ) where
       let first = chain-first host others text after chain ended in
       subst (Stops (is_in separators)) (sym first.1.split) (link-stops host first.0 first.1.link)
 
-  -- a chain goes no further than one behind which no address comes
+  -- a chain goes no further than one after which no address comes
   module _ (after after' : List ℕ) (ended : EndsAddress separators after) (ended' : EndsAddress separators after') (last : (next : List ℕ) → ¬ IsNextAddress separators after next) where
     no-longer : (host host' : List ℕ) (others others' : List (List ℕ)) (text text' : List ℕ) → IsChain separators (host ∷ others) text → IsChain separators (host' ∷ others') text'
         → text ++ after ≡ text' ++ after' → length text' ≤ length text
@@ -115,7 +115,7 @@ module _ (separators : List ℕ) where
         let d : length gap ≡ length gap' = ap length apart_same.0 in
         omega arith
 
-  -- what is reached behind an address is the end of a chain
+  -- what is reached after an address is the end of a chain
   chain-to : (end after : List ℕ) → Reaches separators end after → EndsAddress separators end → (rest host : List ℕ) → BeginsAddress separators rest host after
       → (others : List (List ℕ)) × (text : List ℕ) × BeginsWith separators rest (host ∷ others) text end
   chain-to end after here ended rest host begins = ([], host, record { split = begins.split; chain = (refl, begins.link); ended = ended })

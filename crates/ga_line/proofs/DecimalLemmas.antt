@@ -34,7 +34,7 @@ one-more n = sym (pow-succ' 10 n)
 value-first : (d : ℕ) (ds : List ℕ) → digits_value 10 (d ∷ ds) ≡ digits_value_after 10 (digit_value d) ds
 value-first d ds = let none : 0 * 10 + digit_value d ≡ digit_value d = omega arith in ap (λ (v : ℕ). digits_value_after 10 v ds) none
 
--- a number with digits behind it, and one with zeros
+-- a number with digits after it, and one with zeros
 value-after : (n : ℕ) (ds : List ℕ) → digits_value_after 10 n ds ≡ n * 10 ^ length ds + digits_value 10 ds
 value-after n [] = omega arith
 value-after n (d ∷ ds) =

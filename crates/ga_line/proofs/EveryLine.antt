@@ -252,7 +252,7 @@ known-digits text =
     ⊎_elim (λ (some, digits). inl (record { some = some; digits = digits })) (λ not. inr (λ are. not (are.some, are.digits)))
     (known-both (known-less 0 (length text)) (known-true (all_ascii_digits text)))
 
--- what stands behind a dot
+-- what follows a dot
 abbrev IsBehindDot : List ℕ → Type 0
 IsBehindDot text = (back : List ℕ) × (text ≡ 46 ∷ back) × AreDigits back
 

@@ -1,4 +1,4 @@
--- One item of fitting a line: what fits all items is what fits those that are left, behind the fields that are read.
+-- One item of fitting a line: what fits all items is what fits those that are left, after the fields that are read.
 use Rattle.std.proofs.Common.{◌≡◌, ℕ, suc, ◌+◌, ◌<◌, List, [], ◌∷◌, ◌++◌, length, drop, get_or, refl, sym, ap, ◌∙◌, subst, ⊎_elim, inl, inr, Option, Some, None, append_assoc, append-nil, zero, add-one, drop-cons}
 use Rattle.std.specs.List.{slice_get}
 use Rattle.ga_base.specs.declared.formats.FormatItem.{FormatItem}
@@ -145,7 +145,7 @@ module _ (items : List FormatItem) (line : List ℕ) (before : List Part) (later
 pub read-all : (items : List FormatItem) (line rest : List ℕ) (before : List Part) → IsReadTo items line [] rest before → Fits items line before
 read-all items line rest before to = subst (Fits items line) (append-nil before) (to.back [] refl)
 
--- the items from a place on, and the one behind it
+-- the items from a place on, and the one after it
 pub left-at : (items : List FormatItem) (at : ℕ) (d item : FormatItem) → at < length items → get_or items at d ≡ item → drop at items ≡ item ∷ drop (at + 1) items
 left-at items at d item lt is = rw add-one (drop-cons items at d lt ∙ ap (λ (x : FormatItem). x ∷ drop (suc at) items) is)
 

@@ -23,7 +23,7 @@ cons-tail x y xs ys e = cc
 no-byte : (b : ℕ) (text : List ℕ) → [] ≡ b ∷ text → ⊥
 no-byte b text e = cc
 
--- a space, and behind it a text with a property
+-- a space, and after it a text with a property
 abbrev IsSpaced : (List ℕ → Type 0) → List ℕ → Type 0
 IsSpaced P text = (rest : List ℕ) × (text ≡ 32 ∷ rest) × P rest
 

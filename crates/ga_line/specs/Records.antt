@@ -42,7 +42,7 @@ abbrev pub HasMinute : List Item → Option (List ℕ) → Option ℕ → Type 0
 HasMinute times None minute = minute ≡ None
 HasMinute times (Some time) minute = (m : ℕ) × (minute ≡ Some m) × SpellsTime times time m
 
--- the texts of `%x`, `%d` and `%t` say this day and this minute of it: `%x` is the day and directly behind it the time
+-- the texts of `%x`, `%d` and `%t` say this day and this minute of it: `%x` is the day and directly after it the time
 abbrev pub HasMoment : LineSetup → Option (List ℕ) → Option (List ℕ) → Option (List ℕ) → ℕ → Option ℕ → Type 0
 HasMoment setup (Some both) day time date minute = (m : ℕ) × (minute ≡ Some m) × SpellsBoth setup.date setup.time both date m
 HasMoment setup None None time date minute = ⊥
@@ -75,12 +75,12 @@ pub record AreDigits (text : List ℕ) : Type 0 where
   pub some : 0 < length text
   pub digits : all_ascii_digits text ≡ true
 
--- the number with these digits before its dot and those behind it, in units of its last place of so many: what is
+-- the number with these digits before its dot and those after it, in units of its last place of this many: what is
 -- less than a unit is cut
 abbrev pub decimal_value : ℕ → List ℕ → List ℕ → ℕ
 decimal_value places front back = digits_value 10 (front ++ back) * 10 ^ places / 10 ^ length back
 
--- A number in units of its last place of so many: digits alone, or digits, a dot and digits.
+-- A number in units of its last place of this many: digits alone, or digits, a dot and digits.
 pub data IsDecimal (places : ℕ) (text : List ℕ) (number : ℕ) : Type 0 where
   whole : AreDigits text → number ≡ decimal_value places text [] → IsDecimal places text number
   parted : (front back : List ℕ) → text ≡ front ++ byte_of (codes ".") ∷ back → AreDigits front → AreDigits back → number ≡ decimal_value places front back → IsDecimal places text number
@@ -140,7 +140,7 @@ said (Some text) = if bytes_eq text (codes "-") then [] else text
 abbrev pub said_text : Option (List ℕ) → List ℕ
 said_text text = utf8_lossy (said text)
 
--- a query behind the path, with a question mark between them unless it has its own
+-- a query after the path, with a question mark between them unless it has its own
 abbrev pub with_query : List ℕ → List ℕ → List ℕ
 with_query path [] = path
 with_query path (byte ∷ query) = path ++ (if byte == urls.question_mark then byte ∷ query else urls.question_mark ∷ byte ∷ query)

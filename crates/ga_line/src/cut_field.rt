@@ -32,7 +32,7 @@ fn end_in(rest: &[u8], stop: u8) -> Option<usize>
     }
 }
 
-/// The place of the first double quote that isn't behind a backslash. A backslash and the byte after it are
+/// The place of the first double quote that isn't after a backslash. A backslash and the byte after it are
 /// passed over together.
 fn quote_in(rest: &[u8]) -> Option<usize>
     ensures within { IfSome result (λ end. end < length rest.now) }

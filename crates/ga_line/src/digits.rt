@@ -7,7 +7,7 @@ ghost use Rattle.ga_line.specs.Records.{size_value, AreDigits, IsDecimal, decima
 use crate::cut_field::cut_at;
 use ga_base::BIG;
 
-/// What stands for every number above `BIG`.
+/// What represents every number above `BIG`.
 pub(crate) const TOO_BIG: u64 = BIG + 1;
 
 const DOT: u8 = b'.';
@@ -42,7 +42,7 @@ fn are_digits(text: &[u8]) -> bool
     true
 }
 
-/// The number of digits with more of them behind, and `TOO_BIG` where it is above `BIG`.
+/// The number of digits with more of them after, and `TOO_BIG` where it is above `BIG`.
 fn with_digits(number: u64, digits: &[u8]) -> u64
     requires number { number ≤ TOO_BIG }
     requires digits { all_ascii_digits digits.now ≡ true }
@@ -75,7 +75,7 @@ pub(crate) fn size_in(text: &[u8]) -> u64
     }
 }
 
-/// The number that `text` writes in so many decimals, and `TOO_BIG` where that is above `BIG`. `None` where it is no such
+/// The number that `text` writes in this many decimals, and `TOO_BIG` where that is above `BIG`. `None` where it is no such
 /// number.
 pub(crate) fn decimal_in(text: &[u8], places: usize) -> Option<u64>
     requires { places ≤ 6 }
@@ -88,7 +88,7 @@ pub(crate) fn decimal_in(text: &[u8], places: usize) -> Option<u64>
     }
 }
 
-/// What stands behind the first byte.
+/// What follows the first byte.
 fn after_first(text: &[u8]) -> &[u8]
     ensures { (byte : ℕ) (rest : List ℕ) → text.now ≡ byte ∷ rest → result.now ≡ rest }
 {
@@ -98,7 +98,7 @@ fn after_first(text: &[u8]) -> &[u8]
     }
 }
 
-/// The same of digits before the dot and behind it.
+/// The same of digits before the dot and after it.
 fn split_decimal_in(front: &[u8], back: &[u8], places: usize) -> Option<u64>
     requires { places ≤ 6 }
     ensures found { IfSome result (λ n. AreDigits front.now × AreDigits back.now × (n ≡ min (decimal_value places front.now back.now) TOO_BIG)) }
@@ -108,7 +108,7 @@ fn split_decimal_in(front: &[u8], back: &[u8], places: usize) -> Option<u64>
     decimal_of(front, back, places)
 }
 
-/// The number of the digits before the dot, and of so many decimals behind them.
+/// The number of the digits before the dot, and of this many decimals after them.
 fn decimal_of(front: &[u8], back: &[u8], places: usize) -> Option<u64>
     requires places { places ≤ 6 }
     requires digits { all_ascii_digits back.now ≡ true }

@@ -19,7 +19,7 @@ pub(crate) struct Forwarded<'a> {
     pub after: Option<&'a [u8]>,
 }
 
-/// The field `~h{C}` that begins `rest` before the next item of the format. `None` where none stands there.
+/// The field `~h{C}` that begins `rest` before the next item of the format. `None` where none is there.
 pub(crate) fn forwarded_in<'a>(
     rest: &'a [u8],
     separators: &[u8],
@@ -143,7 +143,7 @@ fn chain_in<'a>(rest: &'a [u8], separators: &[u8]) -> Option<(&'a [u8], &'a [u8]
     Some((host, after_chain(after, separators)))
 }
 
-/// What is left where a chain ends that goes on with `rest`, behind an address.
+/// What is left where a chain ends that goes on with `rest`, after an address.
 fn after_chain<'a>(rest: &'a [u8], separators: &[u8]) -> &'a [u8]
     requires { EndsAddress separators.now rest.now }
     ensures { IsEndOf separators.now rest.now result.now }

@@ -3,7 +3,7 @@
 //! Start with `Lines`, the lines of a text, `LineSetup`, how they are read, and `read_line`, which reads one, or
 //! `read_view`, which reads it without owning it. `specs/Fits.antt` says when a line fits a format, with
 //! `specs/Forwarded.antt` for the field of forwarded hosts, `specs/Records.antt` what it then says, `specs/Bounds.antt`
-//! which bounds its values keep to, and `specs/Views.antt` which record a view is. What holds of all lines stands in `laws`.
+//! which bounds its values keep to, and `specs/Views.antt` which record a view is. What holds of all lines is in `laws`.
 #![tactic(auto)]
 
 mod asking;

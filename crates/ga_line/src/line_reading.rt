@@ -29,7 +29,7 @@ const COMMENT: u8 = b'#';
 ///
 /// The record of a valid line has the texts of its fields with U+FFFD for what isn't UTF-8; a dash in the referrer, the
 /// user agent and what describes the server says nothing. The request is split into method, target and protocol. Its URL
-/// is the target with the query's field behind it, without the query where the setup says so, and then percent-decoded;
+/// is the target with the query's field after it, without the query where the setup says so, and then percent-decoded;
 /// a method and a protocol that aren't known are empty. A status is 0 where the line ends before it, a size is 0 where it
 /// isn't written in digits, and a time taken that is no number is `None`. Only a record takes memory.
 pub fn read_line(alloc: Global, setup: &LineSetup, line: &[u8]) -> Result<Line, NoMemory>
@@ -39,9 +39,9 @@ pub fn read_line(alloc: Global, setup: &LineSetup, line: &[u8]) -> Result<Line, 
     read_view(alloc, setup, line)?.into_line(alloc)
 }
 
-/// Reads a line as `read_line` does, without owning it: a text is borrowed from the line where it stands there as UTF-8.
+/// Reads a line as `read_line` does, without owning it: a text is borrowed from the line where it is there as UTF-8.
 /// Memory is taken only for a text with U+FFFD, and for a URL that is decoded or joined from two fields. Where no such
-/// text is to be made, want of memory is never answered.
+/// text is to be made, lack of memory is never answered.
 pub fn read_view<'a>(
     alloc: Global,
     setup: &LineSetup,

@@ -163,7 +163,7 @@ fn kept_in<'a>(setup: &LineSetup, target: &'a [u8]) -> &'a [u8]
     }
 }
 
-/// A target with a query behind it.
+/// A target with a query after it.
 fn join_query(alloc: Global, target: &[u8], query: &[u8]) -> Result<Vec<u8>, NoMemory>
     ensures { IfOk result (λ url. url.items ≡ with_query target.now query.now) }
 {

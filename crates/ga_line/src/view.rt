@@ -1,4 +1,5 @@
 ghost use Rattle.std.specs.Prelude.{◌≡◌, IfOk};
+ghost use Rattle.std.specs.Cow.{cow_str_bytes};
 ghost use Rattle.ga_base.specs.Records.{record_in};
 ghost use Rattle.ga_line.specs.Views.{line_in, record_of};
 
@@ -17,7 +18,7 @@ pub enum LineView<'a> {
     Good(RecordView<'a>),
 }
 
-/// The values of one valid line, as `Record` has them. A text is borrowed from the line where it stands there as UTF-8,
+/// The values of one valid line, as `Record` has them. A text is borrowed from the line where it is there as UTF-8,
 /// and owned where it was made: by U+FFFD for what isn't UTF-8, by decoding, or by joining path and query.
 #[derive(Drop)]
 pub struct RecordView<'a> {
@@ -97,23 +98,56 @@ impl<'a> RecordView<'a> {
     pub fn into_record(self, alloc: Global) -> Result<Record, NoMemory>
         ensures { IfOk result (λ rec. rec ≡ record_of self.entry) }
     {
+        let (method, protocol) = (
+            Text::of(alloc, self.method)?,
+            Text::of(alloc, self.protocol)?,
+        );
+        let (host, url, referrer, agent) = owned(
+            alloc,
+            self.host,
+            self.url,
+            self.referrer,
+            self.agent,
+        )?;
+        let (vhost, user, cache, mime) = owned(
+            alloc, self.vhost, self.user, self.cache, self.mime,
+        )?;
         Ok(Record {
-            host: Text::from_cow(alloc, self.host)?,
+            host,
             date: self.date,
             minute: self.minute,
-            method: Text::of(alloc, self.method)?,
-            protocol: Text::of(alloc, self.protocol)?,
-            url: Text::from_cow(alloc, self.url)?,
+            method,
+            protocol,
+            url,
             status: self.status,
             bytes: self.bytes,
             micros: self.micros,
-            referrer: Text::from_cow(alloc, self.referrer)?,
-            agent: Text::from_cow(alloc, self.agent)?,
-            vhost: Text::from_cow(alloc, self.vhost)?,
-            user: Text::from_cow(alloc, self.user)?,
-            cache: Text::from_cow(alloc, self.cache)?,
-            mime: Text::from_cow(alloc, self.mime)?,
+            referrer,
+            agent,
+            vhost,
+            user,
+            cache,
+            mime,
             tls: Text::from_cow(alloc, self.tls)?,
         })
     }
+}
+
+/// Four texts, owned. One call has one early exit where four calls have four, each of which drops all that is at hand.
+fn owned<'a>(
+    alloc: Global,
+    a: CowStr<'a, Global>,
+    b: CowStr<'a, Global>,
+    c: CowStr<'a, Global>,
+    d: CowStr<'a, Global>,
+) -> Result<(Text, Text, Text, Text), NoMemory>
+    ensures { IfOk result (λ texts.
+        texts ≡ (cow_str_bytes a.entry, cow_str_bytes b.entry, cow_str_bytes c.entry, cow_str_bytes d.entry)) }
+{
+    Ok((
+        Text::from_cow(alloc, a)?,
+        Text::from_cow(alloc, b)?,
+        Text::from_cow(alloc, c)?,
+        Text::from_cow(alloc, d)?,
+    ))
 }

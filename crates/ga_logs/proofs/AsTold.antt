@@ -8,7 +8,7 @@ use Rattle.ga_logs.specs.Following.AreTold.{told_all, told_then}
 use Rattle.ga_logs.specs.Following.ReadsAll.{read_all, read_then}
 use Rattle.ga_logs.specs.Following.ReadsSome.{read_none, read_last, read_on}
 use Rattle.ga_logs.specs.Portions.{IsPortionOf}
-use Rattle.ga_logs.specs.declared.follow.Follow.{Follow}
+use Rattle.ga_resume.specs.declared.follow.Follow.{Follow}
 use Rattle.ga_logs.specs.declared.portion.Portion.{Portion}
 
 -- what is there of a name that is told and not absent

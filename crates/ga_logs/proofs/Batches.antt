@@ -1,4 +1,4 @@
--- Batches of a stream, counted one behind the other.
+-- Batches of a stream, counted one after the other.
 use Rattle.std.proofs.Common.{◌≡◌, ℕ, ◌+◌, ◌-◌, ◌≤◌, Bool, true, false, List, [], ◌∷◌, ◌++◌, length, take, drop, Option, Some, None, refl, sym, ap, ◌∙◌, subst, Result, Ok, Err, arith, append_assoc, append-nil, length-drop, length-take, take_all}
 use Rattle.std.specs.Result.{OnOk}
 use Rattle.std.proofs.Math.Seq.{take-add}
@@ -32,7 +32,7 @@ module _ (law : EndedKeep) where
   whole-lines text ended =
       ap (λ (t : List ℕ). lines t true) (sym (append-nil text)) ∙ law text ended [] true ∙ append-nil (lines text false)
 
-  -- the lines of a batch behind those before
+  -- the lines of a batch after those before
   pub lines-behind : (text more : List ℕ) → IsEnded text → lines (text ++ more) true ≡ lines text true ++ lines more true
   lines-behind text more ended =
       law text ended more true ∙ ap (λ (ls : List (List ℕ)). ls ++ lines more true) (sym (whole-lines text ended))

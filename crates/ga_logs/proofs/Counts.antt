@@ -1,4 +1,4 @@
--- Lines counted behind lines.
+-- Lines counted after lines.
 use Rattle.std.proofs.Common.{◌≡◌, ℕ, List, [], ◌∷◌, ◌++◌, length, Option, Some, None, Vec, Global, refl, sym, ap, ◌∙◌, subst, arith, append_assoc, inl, inr}
 use Rattle.ga_base.specs.declared.counts.Counter.{Counter}
 use Rattle.ga_base.specs.declared.counts.Totals.{Totals}
@@ -32,7 +32,7 @@ over-fits t (o ∷ os) fit none =
 
 -- ---- outcomes that are counted
 
--- the counters behind them
+-- the counters after them
 behind : (start : Totals) (os : List Outcome) (tallies : List TallySeen) → AreTallied start os tallies → totals_plus start (totals_in tallies) ≡ totals_plus start (totals_of os)
 behind start os tallies h = ap (totals_plus start) (counted-totals os tallies h.counted)
 
@@ -45,7 +45,7 @@ tallies-fit start tallies fit some =
     let all = all-fit start tallies fit some in
     record { lines = omega (arith, all.lines); bytes = omega (arith, all.bytes); micros = omega (arith, all.micros) }
 
--- lines that are counted behind them, in tallies that were given away and came back
+-- lines that are counted after them, in tallies that were given away and came back
 module _ (setup : Setup) (start : Totals) (all : List (List ℕ)) (old given new : List TallySeen) (same : given ≡ old) (behind-given : CountsOn setup all given new)
     (fit : TotalsFit (totals_plus start (totals_in new))) where
   on : CountsOn setup all old new
@@ -75,7 +75,7 @@ module _ (setup : Setup) (start : Totals) (all : List (List ℕ)) (old given new
 
 -- ---- counters that are full
 
--- lines behind those that are counted fill a counter
+-- lines after those that are counted fill a counter
 pub fills-behind : (setup : Setup) (start : Totals) (before all : List (List ℕ)) (tallies given : List TallySeen) (which : Counter) (value : ℕ) → given ≡ tallies
     → LinesAreCounted setup start before tallies → FillsAmong setup (totals_plus start (totals_in given)) all which value → FillsAmong setup start (before ++ all) which value
 fills-behind setup start before all tallies given which value same was h = record {

@@ -91,7 +91,7 @@ long-stripped most k rest le more = omega (arith, length-take-le most rest le)
 long-behind : (most k : ℕ) (rest : List ℕ) → most ≤ length rest → suc (length rest) ≤ k → most < k
 long-behind most k rest le more = omega arith
 
--- how many bytes stand behind the first two
+-- how many bytes follow the first two
 behind-two : (n : ℕ) (b c : ℕ) (rest : List ℕ) → suc (suc n) < length (b ∷ c ∷ rest) → n ≤ length rest
 behind-two n b c rest more = omega arith
 
@@ -174,7 +174,7 @@ have_outcomes-along setup (a ∷ xs) (b ∷ ys) os (first, more) (one, rest, com
 pub have_outcomes-both : (setup : Setup) (xs ys : List (List ℕ)) (os : List Outcome) → SayTheSame xs ys → HaveOutcomes setup xs os ↔ HaveOutcomes setup ys os
 have_outcomes-both setup xs ys os same = (have_outcomes-along setup xs ys os same, have_outcomes-along setup ys xs os (say-back xs ys same))
 
--- what stands in front, and what behind
+-- what is in front, and what after
 split-along : (front back ys : List (List ℕ)) → SayTheSame (front ++ back) ys
     → (front' : List (List ℕ)) × (back' : List (List ℕ)) × (ys ≡ front' ++ back') × SayTheSame front front'
 split-along [] back ys same = ([], ys, refl, tt)

@@ -1,4 +1,4 @@
--- One log more, read and counted behind those before it.
+-- One log more, read and counted after those before it.
 use Rattle.std.proofs.Common.{◌≡◌, ◌≢◌, ℕ, zero, suc, ◌+◌, ◌<◌, ◌≤◌, List, [], ◌∷◌, ◌++◌, inl, inr, refl, ap, sym, ◌∙◌, subst, length, take, drop, slice_index_or, arith, append_assoc, append-nil, Option, Some, None}
 use Rattle.std.specs.List.{flat_map}
 use Rattle.ga_base.specs.declared.counts.Totals.{Totals}
@@ -22,9 +22,9 @@ use Rattle.ga_logs.specs.Missing.{LinesFit, MissesLogs}
 use Rattle.ga_logs.specs.Portions.{Follows, counted_lines, generated_lines}
 use Rattle.ga_logs.specs.Steps.Logs.{CountsOneLog, HasCountedLogs, StopsOneLog, fault_of_counting, fault_of_full, fault_of_log, portion_lines}
 use Rattle.ga_logs.specs.Steps.Streaming.{Adds}
-use Rattle.ga_logs.specs.declared.follow.Follow.{Follow}
+use Rattle.ga_resume.specs.declared.follow.Follow.{Follow}
 use Rattle.ga_logs.specs.declared.portion.Portion.{Portion}
-use Rattle.ga_logs.specs.declared.start.Start.{Start}
+use Rattle.ga_resume.specs.declared.start.Start.{Start}
 
 -- a list up to a place and one further, and from there on
 take-next : {A : Type 0} (xs : List A) (i : ℕ) (d : A) → i < length xs → take (suc i) xs ≡ take i xs ++ slice_index_or xs i d ∷ []

@@ -12,8 +12,8 @@ use Rattle.ga_resume.specs.declared.segment.Segment.{Segment}
 use Rattle.ga_logs.specs.Following.{AreTold}
 use Rattle.ga_logs.specs.Following.AreTold.{told_all, told_then}
 use Rattle.ga_logs.specs.Portions.{Begins, Follows, IsCountedTo, IsPortionOf}
-use Rattle.ga_logs.specs.declared.follow.Follow.{Follow}
-use Rattle.ga_logs.specs.declared.follow.Follow.TheVariants.{Whole, ToEnd, ToLastLine}
+use Rattle.ga_resume.specs.declared.follow.Follow.{Follow}
+use Rattle.ga_resume.specs.declared.follow.Follow.TheVariants.{Whole, ToEnd, ToLastLine}
 use Rattle.ga_logs.specs.declared.portion.Portion.{Portion}
 
 -- a log continues one entry of a list, or none
@@ -50,7 +50,7 @@ one-portion one follow es log a b x y =
     let begin = one-begin one follow es a.segment b.segment end front x.begins y.begins in
     portion-same a b (segment-same a.segment b.segment begin.1 end begin.0 front) (x.bytes ∙ ap (λ (n : ℕ). drop n log) begin.1 ∙ sym y.bytes)
 
--- a line feed at the end of a longer front stands behind a shorter one
+-- a line feed at the end of a longer front follows a shorter one
 not-less : (bytes : List ℕ) (m n : ℕ) → AreEnded bytes m → AreEnded bytes n → m < n → ⊥
 not-less bytes m n a b less = by-end b.ended
   where

@@ -13,8 +13,8 @@ use Rattle.ga_resume.specs.declared.segment.Segment.{Segment}
 use Rattle.ga_logs.specs.Following.{AsksFor, CanServe, CanServeOne, HandsOut, IsCause, MissesLog, ReadsPortion}
 use Rattle.ga_logs.specs.Portions.{Begins, IsPortionOf, front_of, front_size}
 use Rattle.ga_logs.specs.Steps.ReadPortion.{BeginsLog, OpensLog, opened}
-use Rattle.ga_logs.specs.declared.follow.Follow.{Follow}
-use Rattle.ga_logs.specs.declared.follow.Follow.TheVariants.{Whole, ToEnd, ToLastLine}
+use Rattle.ga_resume.specs.declared.follow.Follow.{Follow}
+use Rattle.ga_resume.specs.declared.follow.Follow.TheVariants.{Whole, ToEnd, ToLastLine}
 
 -- what is due later is due from then on
 none-later : (calls later : ℕ) (listed : Option (List ℕ)) → calls ≤ later → NoneDue listed calls → NoneDue listed later

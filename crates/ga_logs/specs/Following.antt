@@ -12,11 +12,11 @@ use Rattle.ga_resume.specs.declared.fault.PlaceFault.{PlaceFault}
 use Rattle.ga_resume.specs.declared.fault.PlaceFault.TheVariants.{FileFault, FileShort, NoMemory}
 use Rattle.ga_resume.specs.declared.segment.Segment.{Segment}
 use Rattle.ga_logs.specs.Portions.{Begins, Follows, IsPortionOf, front_size}
-use Rattle.ga_logs.specs.declared.follow.Follow.{Follow}
-use Rattle.ga_logs.specs.declared.follow.Follow.TheVariants.{Whole, ToEnd, ToLastLine}
+use Rattle.ga_resume.specs.declared.follow.Follow.{Follow}
+use Rattle.ga_resume.specs.declared.follow.Follow.TheVariants.{Whole, ToEnd, ToLastLine}
 use Rattle.ga_logs.specs.declared.portion.Portion.{Portion}
 
--- a log of this size hands out so many bytes: no more than its front, and those from where an entry of it ends
+-- a log of this size hands out this many bytes: no more than its front, and those from where an entry of it ends
 abbrev pub HandsOutAfterFront : List Entry → Option (List ℕ) → ℕ → ℕ → Type 0
 HandsOutAfterFront entries log size count = (count ≤ min size FRONT) ⊎ ((from : ℕ) × (count ≤ min size FRONT + (size - from))
     × IfSome log (λ log. (place : Option ℕ) × IsChoice entries (take FRONT log) size place from))

@@ -14,7 +14,7 @@ use Rattle.ga_logs.specs.declared.fault.CountFault.{CountFault}
 use Rattle.ga_logs.specs.declared.fault.CountFault.TheVariants.{Failed as LogFailed, Short as LogShort, Full, NoMemory as CountNoMemory}
 use Rattle.ga_logs.specs.declared.portion.Portion.{Portion}
 use Rattle.ga_outcomes.specs.declared.setup.Setup.{Setup}
-use Rattle.ga_logs.specs.declared.start.Start.{Start}
+use Rattle.ga_resume.specs.declared.start.Start.{Start}
 
 -- the logs were read and the entries went with them, and the generator's lines and theirs are counted in this total
 pub record CountsLogs (setup : Setup) (start : Start) (generated : Option ℕ) (names : List (List ℕ)) (entries entries' : List Entry)

@@ -11,7 +11,7 @@ use Rattle.ga_summary.specs.Outcomes.{Outcome}
 use Rattle.ga_logs.specs.Following.{MissesAt}
 use Rattle.ga_logs.specs.Portions.{counted_lines}
 use Rattle.ga_logs.specs.declared.portion.Portion.{Portion}
-use Rattle.ga_logs.specs.declared.start.Start.{Start}
+use Rattle.ga_resume.specs.declared.start.Start.{Start}
 
 -- these lines fill no counter that began at these totals
 pub record LinesFit (setup : Setup) (start : Totals) (all : List (List ℕ)) : Type 0 where

@@ -1,5 +1,5 @@
 -- Which part of a log a run counts, by the entries that the runs before it left, and what becomes of these.
-use Rattle.std.specs.Prelude.{◌≡◌, ℕ, ◌+◌, ◌≤◌, Bool, true, false, List, [], length, min, take, drop, ◌++◌, Option, Some, None}
+use Rattle.std.specs.Prelude.{◌≡◌, ℕ, ◌+◌, ◌≤◌, true, List, [], length, min, take, drop, ◌++◌, Option, Some, None}
 use Rattle.std.specs.List.{flat_map}
 use Rattle.ga_base.specs.declared.entry.Entry.{Entry}
 use Rattle.ga_generate.specs.Lines.{generated}
@@ -7,10 +7,11 @@ use Rattle.ga_line.specs.Lines.{lines}
 use Rattle.ga_base.specs.Lines.{AreEnded}
 use Rattle.ga_base.specs.declared.limits.TheConstants.{FRONT}
 use Rattle.ga_resume.specs.Entries.{IsAdvanced}
+use Rattle.ga_resume.specs.Following.{keeps}
 use Rattle.ga_resume.specs.Segment.{IsSegment}
 use Rattle.ga_resume.specs.declared.segment.Segment.{Segment}
-use Rattle.ga_logs.specs.declared.follow.Follow.{Follow}
-use Rattle.ga_logs.specs.declared.follow.Follow.TheVariants.{Whole, ToEnd, ToLastLine}
+use Rattle.ga_resume.specs.declared.follow.Follow.{Follow}
+use Rattle.ga_resume.specs.declared.follow.Follow.TheVariants.{Whole, ToEnd, ToLastLine}
 use Rattle.ga_logs.specs.declared.portion.Portion.{Portion}
 
 -- where a run begins a log: at its first byte, or where the entry ends that it continues
@@ -50,13 +51,7 @@ Follows Whole portion old new = new ≡ old
 Follows follow portion old new = (offset : ℕ) × IsCountedTo follow portion offset
     × IsAdvanced portion.segment.front portion.segment.entry offset old new
 
--- what follows the last line feed of a log is counted, as a line
-abbrev pub keeps : Follow → Bool
-keeps Whole = true
-keeps ToEnd = true
-keeps ToLastLine = false
-
--- the generator's lines, where so many are asked for
+-- the generator's lines, where this many are asked for
 abbrev pub generated_lines : Option ℕ → List (List ℕ)
 generated_lines None = []
 generated_lines (Some n) = lines (generated n) true

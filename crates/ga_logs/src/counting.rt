@@ -125,7 +125,7 @@ impl Counting {
         }
     }
 
-    /// Makes a tally for each worker, where there is none yet. Their maps hash by what stands in this batch, which isn't empty.
+    /// Makes a tally for each worker, where there is none yet. Their maps hash by what is in this batch, which isn't empty.
     fn begin<R, G>(
         &mut self,
         crew: &Crew<'_, R, G>,
@@ -147,7 +147,7 @@ impl Counting {
         Ok(())
     }
 
-    /// Counts the lines of a batch into the tallies, behind those that were counted. After an `Err` nothing is counted.
+    /// Counts the lines of a batch into the tallies, after those that were counted. After an `Err` nothing is counted.
     fn count_lines<R: Threads + Sync, G: Gate, F: FnMut() -> X, X>(
         &mut self,
         crew: &Crew<'_, R, G>,

@@ -15,7 +15,7 @@ pub enum CountFault {
     Short { place: u64, at: u64 },
     /// A counter would pass its greatest value: it would have this one.
     Full { which: Counter, total: u128 },
-    /// Want of memory.
+    /// Out of memory.
     NoMemory,
 }
 

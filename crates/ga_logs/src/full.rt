@@ -17,7 +17,7 @@ pub(crate) struct Full {
 pub(crate) enum CountingFault {
     /// The lines fill a counter.
     Full(Full),
-    /// Want of memory.
+    /// Out of memory.
     NoMemory,
 }
 

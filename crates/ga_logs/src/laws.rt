@@ -6,7 +6,7 @@ ghost use Rattle.ga_base.specs.declared.entry.Entry.{Entry};
 ghost use Rattle.ga_ports.specs.Files.{Contents, FilesView};
 ghost use Rattle.ga_logs.specs.Following.{AreSomeTold, AreTold, ReadsAll, ReadsSome};
 ghost use Rattle.ga_logs.specs.Portions.{Follows, IsPortionOf};
-ghost use Rattle.ga_logs.specs.declared.follow.Follow.{Follow as TheFollow};
+ghost use Rattle.ga_resume.specs.declared.follow.Follow.{Follow as TheFollow};
 ghost use Rattle.ga_logs.specs.declared.portion.Portion.{Portion as ThePortion};
 ghost use Rattle.ga_batches.specs.Batches.{BatcherSeen, Feeds, held};
 ghost use Rattle.ga_batches.specs.Fed.{IsFed};

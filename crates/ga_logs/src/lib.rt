@@ -8,20 +8,16 @@
 
 mod counting;
 mod fault;
-mod follow;
 mod full;
 pub mod laws;
 mod logs;
 mod portion;
 mod portion_reading;
-mod start;
 mod stream_total;
 mod streaming;
 mod streams;
 
 pub use fault::CountFault;
-pub use follow::Follow;
 pub use logs::count_logs;
 pub use portion::Portion;
 pub use portion_reading::read_portion;
-pub use start::Start;

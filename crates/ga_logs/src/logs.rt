@@ -11,21 +11,21 @@ ghost use Rattle.ga_base.specs.Lines.{AreEnded};
 ghost use Rattle.ga_logs.specs.Steps.Logs.{CountsOneLog, StopsOneLog};
 ghost use Rattle.ga_logs.specs.Steps.Streaming.{Adds, HasCountedSome};
 
+use crate::CountFault;
 use crate::counting::Counting;
 use crate::portion_reading::open_log;
 use crate::streaming::{Part, count_part, count_text};
-use crate::{CountFault, Follow, Start};
 use ga_base::{Entries, NoMemory, Text};
 use ga_generate::generate;
 use ga_ports::laws::files_stay;
 use ga_ports::{Files, Gate};
-use ga_resume::{PlaceFault, Segment, advance};
+use ga_resume::{Follow, PlaceFault, Segment, Start, advance};
 use ga_totals::Total;
 use ga_workers::Crew;
 use std::alloc::Global;
 use std::thread::Threads;
 
-/// The total of the generator's lines, where so many are asked for, and of the lines of these logs, which are read one after
+/// The total of the generator's lines, where this many are asked for, and of the lines of these logs, which are read one after
 /// the other, each from where the start says. The entries go with them; after an `Err` they may only be dropped.
 /// Nothing that is answered depends on the workers or on the gate.
 pub fn count_logs<R: Threads + Sync, G: Gate, F: Files>(
@@ -43,7 +43,7 @@ pub fn count_logs<R: Threads + Sync, G: Gate, F: Files>(
     ensures stops { IfErr result (StopsLogs crew.now.setup.now start generated names.now entries.old (F.view files.old) (F.view files.new)) }
     ensures calls { FilesTrace (F.view files.old) (F.view files.new) }
     ensures sure { CanServe names.now (F.view files.old) → IfErr result NoneFailed }
-    // It is counted by the workers of the crew, a tally for each, and in batches of so many bytes at most.
+    // It is counted by the workers of the crew, a tally for each, and in batches of this many bytes at most.
     ensures counted_by { IfOk result (IsCountedBy crew.now.workers start.totals) }
 {
     files_stay();
@@ -63,7 +63,7 @@ pub fn count_logs<R: Threads + Sync, G: Gate, F: Files>(
     Ok(total)
 }
 
-/// Counts the generator's lines, where so many are asked for.
+/// Counts the generator's lines, where this many are asked for.
 fn count_generated<R: Threads + Sync, G: Gate>(
     crew: &Crew<'_, R, G>,
     generated: Option<u32>,
@@ -107,7 +107,7 @@ fn count_one<R: Threads + Sync, G: Gate, F: Files>(
     Ok(())
 }
 
-/// Moves the entries on, behind what was counted of a log: of its bytes so many are those of ended lines.
+/// Moves the entries on, after what was counted of a log: of its bytes this many are those of ended lines.
 fn follow_log(
     alloc: Global,
     follow: Follow,

@@ -5,11 +5,11 @@ ghost use Rattle.ga_resume.specs.declared.fault.PlaceFault.TheVariants.{FileFaul
 ghost use Rattle.ga_logs.specs.Following.{CanServeOne, MissesLog, ReadsPortion};
 ghost use Rattle.ga_logs.specs.Steps.ReadPortion.{BeginsLog, MissesBegin, OpensLog};
 
-use crate::{Follow, Portion};
+use crate::Portion;
 use ga_base::{Bytes, Entries, Text};
 use ga_ports::Files;
 use ga_ports::laws::files_stay;
-use ga_resume::{PlaceFault, Segment, place, read_part};
+use ga_resume::{Follow, PlaceFault, Segment, place, read_part};
 use std::alloc::Global;
 
 /// Reads the part of the log of this name that wasn't counted yet, by these entries. The log is opened once, and its size is

@@ -215,7 +215,7 @@ fn side_by_side<R: Threads + Sync, G: Gate, F: Files>(
 
 /// Reads the open file from one place on, until the batcher is full or up to another place, by slices of at most the
 /// buffer's length. Where it is alone, as no batch is counted meanwhile, it reads as much as one job takes, so that the
-/// workers begin soon. It answers up to where it read: behind the first place, where the batcher has room.
+/// workers begin soon. It answers up to where it read: after the first place, where the batcher has room.
 fn fill<F: Files>(
     part: Part,
     is_alone: bool,

@@ -25,7 +25,7 @@ module _ {T : Type 0} (eq : T → T → Bool) where
   places-long [] known = refl
   places-long (item ∷ items) known = omega (arith, places-long items (noted eq known item))
 
-  -- one item more behind the others
+  -- one item more after the others
   all-noted-push : (items known : List T) (item : T) → all_noted eq known (items ++ item ∷ []) ≡ noted eq (all_noted eq known items) item
   all-noted-push [] known item = refl
   all-noted-push (x ∷ items) known item = all-noted-push items (noted eq known x) item
@@ -61,7 +61,7 @@ module _ {T : Type 0} (eq : T → T → Bool) where
       (λ behind. inr (suc behind.0, behind.1))
       (number-cases items (noted eq known item) i lt)
 
-  -- an item behind different ones isn't among them
+  -- an item after different ones isn't among them
   new : IsEquivalence eq → (item : T) (items known : List T) → IsDistinct eq (known ++ item ∷ items) → list_any (eq item) known ≡ false
   new laws item items known different =
       ⊎_elim
@@ -108,7 +108,7 @@ module _ {T : Type 0} (eq : T → T → Bool) where
         (slice_get_within (all_noted eq (noted eq known item) items) (place_of eq known item) item (keeps-place items (noted eq known item) (place_of eq known item) item (stands known item)))
         (places-within items (noted eq known item))
 
-    -- different items are noted as they are, behind others from which they differ
+    -- different items are noted as they are, after others from which they differ
     pub noted-whole : IsEquivalence eq → (items known : List T) → IsDistinct eq (known ++ items) → all_noted eq known items ≡ known ++ items
     noted-whole laws [] known different = sym (append-nil known)
     noted-whole laws (item ∷ items) known different =
@@ -117,7 +117,7 @@ module _ {T : Type 0} (eq : T → T → Bool) where
         ∙ noted-whole laws items (known ++ item ∷ []) (subst (IsDistinct eq) (sym (append_assoc known (item ∷ []) items)) different)
         ∙ append_assoc known (item ∷ []) items
 
-    -- an item stands at its number
+    -- an item is at its number
     pub placed : (items known : List T) (k n : ℕ) (x : T) → slice_get items k ≡ Some x → slice_get (places_of eq known items) k ≡ Some n → slice_get (all_noted eq known items) n ≡ Some x
     placed [] known k n x e p = let off : None ≡ Some x = e in absurd (cc off)
     placed (item ∷ items) known zero n x e p =

@@ -14,7 +14,7 @@ pub numbers-many : {T : Type 0} (same : T → T → Bool) (known : List T) (othe
 numbers-many same known [] = omega arith
 numbers-many same known (more ∷ others) = omega (arith, numbers-many same (all_noted same known more) others)
 
--- what stands at a number stays there
+-- what is at a number stays there
 pub kept-in-turn : {T : Type 0} (same : T → T → Bool) (known : List T) (others : List (List T)) (n : ℕ) (x : T) → slice_get known n ≡ Some x → slice_get (all_in_turn same known others) n ≡ Some x
 kept-in-turn same known [] n x there = there
 kept-in-turn same known (more ∷ others) n x there = kept-in-turn same (all_noted same known more) others n x (keeps-place same more known n x there)
@@ -55,7 +55,7 @@ module _ {T : Type 0} (same : T → T → Bool) where
   numbers-push [] more known = refl
   numbers-push (list ∷ lists) more known = ap (λ (l : List (List ℕ)). places_of same known list ∷ l) (numbers-push lists more (all_noted same known list))
 
-  -- one list more was noted behind the others
+  -- one list more was noted after the others
   pub turn-more : (lists : List (List T)) (more : List T) (numbers : List (List ℕ)) (places : List ℕ) (old now new : List T) → AreNotedInTurn same lists numbers old now → AreNoted same more places now new
       → AreNotedInTurn same (lists ++ more ∷ []) (numbers ++ places ∷ []) old new
   turn-more lists more numbers places old now new so_far one = record {
@@ -81,7 +81,7 @@ module _ {T : Type 0} (same : T → T → Bool) where
         known = rest.known ∙ ap (λ (k : List T). all_in_turn same k lists) same-known;
       }
 
-  -- each item of each list stands at its number
+  -- each item of each list is at its number
   pub placed-in-turn : ((a b : T) → same a b ≡ true → a ≡ b) → (lists : List (List T)) (known : List T) (i k : ℕ) (x : T) → slice_get (get_or lists i []) k ≡ Some x
       → slice_get (all_in_turn same known lists) (get_or (get_or (numbers_in_turn same known lists) i []) k 0) ≡ Some x
   placed-in-turn equal [] known i k x at = let off : None ≡ Some x = at in absurd (cc off)

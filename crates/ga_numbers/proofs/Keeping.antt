@@ -28,7 +28,7 @@ use Rattle.ga_numbers.proofs.Same.{row-laws, same-row}
 place-made : (p q : Place) → p.shard ≡ q.shard → p.local ≡ q.local → p ≡ q
 place-made p q shard local = λ i. record { shard = shard i; local = local i }
 
--- what stands at a place is the row there
+-- what is at a place is the row there
 pub row-there : (shards : List (List ShardRow)) (p : Place) → IsRowAt shards p → StandsAt shards p (row_at shards p)
 row-there shards p within = slice_get-get_or (get_or shards p.shard []) p.local no_row within
 
@@ -113,7 +113,7 @@ module _ (shards : List (List ShardRow)) (numbers : List (List ℕ)) (places : L
       (λ absent. absent)
       (cases_Bool (list_any (is_same_row row) (rows_in shards places)))
 
-  -- and is noted behind the others
+  -- and is noted after the others
   pub next-row : (p : Place) (row : ShardRow) → StandsAt shards p row → ((n : ℕ) → slice_get places n ≡ Some p → ⊥)
       → IsNumbered is_same_row row (length places) (rows_in shards places) (rows_in shards (places ++ p ∷ []))
   next-row p row stands none = record {
@@ -240,7 +240,7 @@ shard-within (x ∷ shards) (suc s) l within = let rest = shard-within shards s 
 pub any-default : {T : Type 0} (xs : List T) (n : ℕ) (d x : T) → n < length xs → x ≡ get_or xs n x → get_or xs n d ≡ x
 any-default xs n d x within is = get_or_from_slice_get xs n x d (slice_get-get_or xs n x within ∙ ap Some (sym is))
 
--- the place of a number, and what stands there
+-- the place of a number, and what is there
 module _ (shards : List (List ShardRow)) (numbers : List (List ℕ)) (places : List Place) (self : List ShardRow) (n : ℕ) (p : Place) (named : AreNamed shards numbers places) (is : rows_in shards places ≡ self)
     (within : n < length self) (p-is : p ≡ get_or places n p) where
   pub number-within : n < length places

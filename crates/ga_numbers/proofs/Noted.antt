@@ -19,7 +19,7 @@ pub or-false : (b : Bool) → (b || false) ≡ b
 or-false true = refl
 or-false false = refl
 
--- an item keeps its place where more come behind it
+-- an item keeps its place where more come after it
 pub get-append : {T : Type 0} (xs ys : List T) (i : ℕ) (x : T) → slice_get xs i ≡ Some x → slice_get (xs ++ ys) i ≡ Some x
 get-append xs ys i x e =
     let within : i < length xs = slice_get_within xs i x e in
@@ -27,7 +27,7 @@ get-append xs ys i x e =
     ∙ ap Some (get_or_append_left xs ys x i within ∙ get_or_from_slice_get xs i x x e)
 
 module _ {T : Type 0} (eq : T → T → Bool) where
-  -- the list as it is, or with the item behind it
+  -- the list as it is, or with the item after it
   pub noted-cases : (P : List T → Type 0) (items : List T) (item : T) → (list_any (eq item) items ≡ true → P items)
       → (list_any (eq item) items ≡ false → P (items ++ item ∷ [])) → P (noted eq items item)
   noted-cases P items item same more =

@@ -10,7 +10,7 @@ use Rattle.std.proofs.lemmas.Option.{slice_get_within, get_or_from_slice_get}
 use Rattle.ga_shards.specs.Numbers.{noted, place_of}
 use Rattle.ga_numbers.specs.NotedNumbers.{IsNumbered}
 
--- an item that was noted stands at its number
+-- an item that was noted is at its number
 abbrev pub StandsAt : {T : Type 0} → (T → T → Bool) → List T → ℕ → T → Type 0
 StandsAt {T} eq items n item = (known : T) × (slice_get items n ≡ Some known) × (eq item known ≡ true)
 

@@ -63,7 +63,7 @@ module _ {F T : Type 0} (none : F) (eqF : F → F → Bool) (eqT : T → T → B
       let prefix = place-told eqF m.laws prefixes different a.prefix b.prefix none in-a in-b says.0 in
       subst (λ (x : ShardRow). is_same_row a x ≡ true) (row-made a b prefix says.1 says.2) (row-itself a))
 
-  -- prefixes that come behind change no item
+  -- prefixes that come after change no item
   kept : (prefixes more : List F) (rows : List ShardRow) → HavePrefixes prefixes rows → items_in (prefixes ++ more) rows ≡ items_in prefixes rows
   kept prefixes more rows prefixed =
       map-same (item_at (prefixes ++ more)) (item_at prefixes) rows
@@ -159,6 +159,6 @@ module _ {F T : Type 0} (none : F) (eqF : F → F → Bool) (eqT : T → T → B
           map-map (item_at prefixes-new) (remapped_by numbers) more-rows
           ∙ map-same (λ row. item_at prefixes-new (remapped_by numbers row)) (item_at more) more-rows (λ k d within. remapped-is (get_or more-rows k d) (prefixed-too k d within))
 
-  -- different rows stand for different items
+  -- different rows represent different items
   pub different-items : (prefixes : List F) (rows : List ShardRow) → IsDistinct eqF prefixes → All IsPlain prefixes → HavePrefixes prefixes rows → IsDistinct is_same_row rows → IsDistinct eqT (items_in prefixes rows)
   different-items prefixes rows different plain prefixed apart = distinct-along (item_at prefixes) is_same_row eqT (Within prefixes) (agree prefixes different plain) rows prefixed apart

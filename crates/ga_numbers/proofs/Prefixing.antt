@@ -1,4 +1,4 @@
--- Rows whose prefixes are among different ones stand for items that are the same exactly where the rows are. So items are noted
+-- Rows whose prefixes are among different ones represent items that are the same exactly where the rows are. So items are noted
 -- as their rows are, and have the same numbers.
 use Rattle.std.proofs.Common.{◌≡◌, ℕ, ◌+◌, ◌<◌, Bool, ◌||◌, not, cond, List, [], ◌∷◌, length, get_or, map, refl, sym, ap, ◌∙◌, arith, ⊎_elim}
 use Rattle.std.specs.Cmp.{IsEquivalence}
@@ -12,7 +12,7 @@ use Rattle.ga_numbers.proofs.Noted.{noted-cases}
 use Rattle.ga_shards.specs.Numbers.{noted, place_of}
 use Rattle.ga_shards.specs.Steps.{all_noted}
 
--- a test of a list is the test of what it stands for
+-- a test of a list is the test of what it represents
 module _ {A B : Type 0} (f : A → B) (p : A → Bool) (q : B → Bool) where
   abbrev Agree : A → Type 0
   Agree x = p x ≡ q (f x)
@@ -37,7 +37,7 @@ place-told eq laws prefixes different i j d within within-too same =
     (cases_lt j i))
     (cases_lt i j)
 
--- items that stand for others, by which tests agree
+-- items that represent others, by which tests agree
 module _ {A B : Type 0} (f : A → B) (eqA : A → A → Bool) (eqB : B → B → Bool) (Fine : A → Type 0) (agree : (a b : A) → Fine a → Fine b → eqA a b ≡ eqB (f a) (f b)) where
   agrees : (xs : List A) (x : A) → All Fine xs → Fine x → All (λ y. eqA x y ≡ eqB (f x) (f y)) xs
   agrees xs x fine one k d within = agree x (get_or xs k d) one (fine k d within)

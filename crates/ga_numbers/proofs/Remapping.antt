@@ -18,7 +18,7 @@ remapped-at [] (rows ∷ lists) (suc i) within = remapped-at [] lists i (omega (
 remapped-at (f ∷ prefixes) (rows ∷ lists) zero within = refl
 remapped-at (f ∷ prefixes) (rows ∷ lists) (suc i) within = remapped-at prefixes lists i (omega (arith, within))
 
--- one list more behind the others
+-- one list more after the others
 pub remapped-push : (prefixes : List (List ℕ)) (lists : List (List ShardRow)) (rows : List ShardRow) → remapped_each prefixes (lists ++ rows ∷ []) ≡ remapped_each prefixes lists ++ map (remapped_by (get_or prefixes (length lists) [])) rows ∷ []
 remapped-push [] [] rows = refl
 remapped-push (f ∷ prefixes) [] rows = refl

@@ -1,7 +1,7 @@
 use ga_base::NoMemory;
 use std::alloc::Global;
 
-/// So many slots there are once the first hint was set. More of them miss less often and cost more cache: with four times as
+/// This many slots there are once the first hint was set. More of them miss less often and cost more cache: with four times as
 /// many, counting lines that all differ takes an eighth longer, and counting others no less.
 const SLOTS: usize = 1 << 13;
 
@@ -17,7 +17,7 @@ struct Slot {
     number: u32,
 }
 
-/// Where items may stand, each by a hash. A hint is only where to look first: whoever takes one compares what stands there.
+/// Where items may stand, each by a hash. A hint is only where to look first: whoever takes one compares what is there.
 /// Of two items with one slot the later has it.
 #[derive(Drop)]
 pub(crate) struct Hints {

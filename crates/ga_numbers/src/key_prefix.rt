@@ -53,7 +53,7 @@ pub(crate) fn prefix_number(
     Ok(number)
 }
 
-/// The same, for a prefix that didn't come last. Where the prefix stands at its hint it has been noted, and none is made.
+/// The same, for a prefix that didn't come last. Where the prefix is at its hint it has been noted, and none is made.
 fn prefix_among(
     alloc: Global,
     prefixes: &mut Dictionary<Key>,
@@ -76,7 +76,7 @@ fn prefix_among(
     Ok(number)
 }
 
-/// Whether the prefix of a key stands at this number.
+/// Whether the prefix of a key is at this number.
 fn is_prefix_at(prefixes: &Dictionary<Key>, number: u32, key: &KeyRef<'_>) -> bool
     ensures { IsTrue result → IsNumbered is_same_prefix (prefix_of key.now) number prefixes.now prefixes.now }
 {

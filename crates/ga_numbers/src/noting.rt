@@ -8,7 +8,7 @@ use ga_base::{NoMemory, Noted};
 use ga_shards::Dictionary;
 use std::alloc::Global;
 
-/// So many items a dictionary holds.
+/// This many items a dictionary holds.
 const DICTIONARY_MAX: u32 = u32::MAX - 1;
 
 /// Notes items, and gives the number of each.
@@ -43,7 +43,7 @@ pub(crate) fn note_each<T: Noted + Drop>(
     Ok(numbers)
 }
 
-/// Notes an item, and gives its number. A dictionary that is full answers want of memory. After an `Err` it is as it was.
+/// Notes an item, and gives its number. A dictionary that is full answers lack of memory. After an `Err` it is as it was.
 pub(crate) fn note<T: Noted + Drop>(items: &mut Dictionary<T>, item: T) -> Result<u32, NoMemory>
     ensures value { IfOk result (λ local. local ≡ place_of T.eq items.old item) }
     ensures noted { OnOk result (items.new ≡ noted T.eq items.old item) }

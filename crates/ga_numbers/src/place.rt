@@ -6,7 +6,7 @@ ghost use Rattle.ga_numbers.specs.declared.shard_row.ShardRow.{ShardRow};
 
 use ga_base::NoMemory;
 
-/// So many numbers there are.
+/// This many numbers there are.
 const PLACES_MAX: usize = u32::MAX as usize;
 
 /// Where a row stands.
@@ -59,7 +59,7 @@ fn number_at(numbers: &[u32], places: &[Place], place: Place) -> Option<u32>
     }
 }
 
-/// Makes a shard's numbers so many that one can be set at this place.
+/// Makes a shard's numbers this many that one can be set at this place.
 fn make_room(numbers: &mut Vec<u32>, local: u32) -> Result<(), NoMemory>
     ensures room { OnOk result (local < vec_len numbers.new) }
     ensures kept { (k n : ℕ) → slice_get numbers.old.items k ≡ Some n → slice_get numbers.new.items k ≡ Some n }

@@ -36,7 +36,7 @@ pub(crate) struct MergedShard {
     local_maps: LocalMaps,
 }
 
-/// So many shards are put together by one thread.
+/// This many shards are put together by one thread.
 const GROUP: usize = 8;
 
 /// Notes the rows of the shards of others, whose prefixes have these numbers here, other by other, each in the shard at its
@@ -166,7 +166,7 @@ fn merge_shard(
     Ok(MergedShard { known, local_maps })
 }
 
-/// The shards of all groups, where none of the results is want of memory.
+/// The shards of all groups, where none of the results is lack of memory.
 fn all_shards(
     alloc: Global,
     results: Vec<Result<Vec<MergedShard>, NoMemory>>,

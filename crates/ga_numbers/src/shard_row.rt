@@ -8,10 +8,10 @@ use ga_base::{NoMemory, Noted, Text};
 use std::alloc::Global;
 use std::hash::{Hash, Hasher};
 
-/// So many days have shards of their own.
+/// This many days have shards of their own.
 const DAYS: u32 = 16;
 
-/// So many shards the rows of a day are in.
+/// This many shards the rows of a day are in.
 const TEXTS: u64 = 4;
 
 /// What the upper half of a word counts by.

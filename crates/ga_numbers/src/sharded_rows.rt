@@ -19,12 +19,12 @@ use std::alloc::Global;
 use std::marker::Model;
 use std::thread::Threads;
 
-/// So many shards there are.
+/// This many shards there are.
 const SHARDS: usize = 64;
 
 /// Different rows, in the order in which they were first noted. Contracts see the list of them.
 ///
-/// A row stands in a shard by its day and its text, and the place of each number says which row has it. A shard may have rows
+/// A row is in a shard by its day and its text, and the place of each number says which row has it. A shard may have rows
 /// that have no number, where memory ran out as they were noted.
 #[derive(Drop)]
 pub(crate) struct ShardedRows {
@@ -88,7 +88,7 @@ impl ShardedRows {
         self.shards[place.shard as usize].item(place.local)
     }
 
-    /// Notes a row, and gives its number. Where the row stands at its hint it has been noted, and none is made. After an `Err`
+    /// Notes a row, and gives its number. Where the row is at its hint it has been noted, and none is made. After an `Err`
     /// the rows are as they were.
     pub(crate) fn number(&mut self, alloc: Global, row: ShardRowRef<'_>) -> Result<u32, NoMemory>
         ensures ok { IfOk result (λ number. IsNumbered is_same_row (row_in row.entry) number self.old self.new) }
@@ -144,7 +144,7 @@ impl ShardedRows {
         Ok((rows, given))
     }
 
-    /// The shards, made where there is none, and where the row of each number stands in them.
+    /// The shards, made where there is none, and where the row of each number is in them.
     fn into_shards(self, alloc: Global) -> Result<(Vec<Dictionary<ShardRow>>, Vec<Place>), NoMemory>
         ensures { IfOk result (λ parts. AreOpened self parts.0.items parts.1.items) }
     {
@@ -159,7 +159,7 @@ impl ShardedRows {
         Ok((shards, places))
     }
 
-    /// Whether a row stands at this number.
+    /// Whether a row is at this number.
     fn has_at(&self, number: u32, row: &ShardRowRef<'_>) -> bool
         ensures { IsTrue result → IsNumbered is_same_row (row_in row.now) number self.now self.now }
     {
@@ -179,7 +179,7 @@ fn are_empty(others: &[ShardedRows]) -> bool
     true
 }
 
-/// The shards of each of these, and where its rows stand in them, in their order.
+/// The shards of each of these, and where its rows are in them, in their order.
 fn each_into_shards(
     alloc: Global,
     others: Vec<ShardedRows>,
@@ -230,7 +230,7 @@ fn vacant_shards(alloc: Global, keyed: Keyed) -> Result<Vec<Dictionary<ShardRow>
     Ok(shards)
 }
 
-/// So many lists with no numbers.
+/// This many lists with no numbers.
 fn no_numbers(alloc: Global, many: usize) -> Result<Vec<Vec<u32>>, NoMemory>
     ensures many { IfOk result (λ numbers. vec_len numbers ≡ many) }
     ensures none { IfOk result (λ numbers. All (λ l. l.items ≡ []) numbers.items) }

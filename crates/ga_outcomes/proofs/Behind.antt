@@ -30,7 +30,7 @@ sum-more f hit hits = omega (arith, sum_by-cons f hit hits, sum_by-cons f hit []
 lines-more : (x : Outcome) (xs : List Outcome) → length (x ∷ []) + length xs ≡ length (x ∷ xs)
 lines-more x xs = omega arith
 
--- the totals of an outcome and of those behind it
+-- the totals of an outcome and of those after it
 pub totals-cons : (x : Outcome) (xs : List Outcome) → totals_plus (totals_of (x ∷ [])) (totals_of xs) ≡ totals_of (x ∷ xs)
 totals-cons outcomes.Failed xs =
     six-eq _ _ _ _ _ _ _ _ _ _ _ _ (lines-more outcomes.Failed xs) (count-more is_failed outcomes.Failed xs) (count-more is_excluded outcomes.Failed xs)

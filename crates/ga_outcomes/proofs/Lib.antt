@@ -1,2 +1,4 @@
 pub mod Behind
 pub mod Limits
+pub mod Dated
+pub mod SomeOutcomes

@@ -1,4 +1,4 @@
--- Counts over lists, and what stands in them.
+-- Counts over lists, and what is in them.
 use Rattle.std.proofs.Common.{◌≡◌, ◌≢◌, ℕ, zero, suc, ◌<◌, ◌≤◌, Bool, true, false, cond, not, eqb, List, [], ◌∷◌, length, get_or, refl, ap, ◌∙◌, arith}
 use Rattle.std.specs.List.{Contains, count_by}
 use Rattle.std.proofs.lemmas.Bool.{ne_eqb}
@@ -36,7 +36,7 @@ used-whole (c ∷ cs) each =
     let rest = used-whole cs (λ i within. each (suc i) (omega arith)) in
     omega arith
 
--- a word that a row contains stands at a place
+-- a word that a row contains is at a place
 pub place-of : (cells : List ℕ) (word : ℕ) → Contains cells word → (i : ℕ) × (i < length cells) × (get_or cells i 0 ≡ word)
 place-of cells word there = (there.0, there.1, default-zero cells there.0 word there.1 ∙ there.2)
   where

@@ -20,7 +20,7 @@ pub data PairEvent : Type 0 where
 abbrev pub resting : Claims → PairView
 resting claims = record { claims = claims; probe = None }
 
--- a view that looks for a pair, and has passed so many cells
+-- a view that looks for a pair, and has passed this many cells
 abbrev pub looking : Claims → Pair → ℕ → PairView
 looking claims pair passed = record { claims = claims; probe = Some (record { pair = pair; passed = passed }) }
 

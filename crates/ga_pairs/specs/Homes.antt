@@ -19,6 +19,6 @@ spread n = (n * 11400714819323198485) % 2 ^ 64
 unfoldable pub home : ℕ → ℕ → ℕ
 home cells word = spread (bit_xor (spread word) (spread word / 4294967296)) / 4294967296 * cells / 4294967296
 
--- a place in a row of cells, counted on from its begin behind its end
+-- a place in a row of cells, counted on from its begin after its end
 abbrev pub round : ℕ → ℕ → ℕ
 round cells at = if nat_lt at cells then at else at - cells

@@ -12,7 +12,7 @@ pub record PairState : Type 0 where
   pub cells : List ℕ
   pub views : List PairView
 
--- how often a word stands in a row of cells, and among the words of pairs
+-- how often a word is in a row of cells, and among the words of pairs
 abbrev pub times : ℕ → List ℕ → ℕ
 times word words = count_by (λ w. w == word) words
 
@@ -23,7 +23,7 @@ times_in word pairs = count_by (λ pair. word_of pair == word) pairs
 abbrev pub used : List ℕ → ℕ
 used cells = count_by (λ word. not (word == 0)) cells
 
--- the place so many cells after a pair's home, round the row, and the word there
+-- the place this many cells after a pair's home, round the row, and the word there
 abbrev pub place_after : ℕ → Pair → ℕ → ℕ
 place_after cells pair passed = round cells (home cells (word_of pair) + passed)
 

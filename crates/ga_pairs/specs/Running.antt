@@ -19,7 +19,7 @@ Holds opening s = Inv opening record { cells = s.words; views = s.views }
 abbrev pub first_view : Opening → PairView
 first_view opening = resting (given opening.shares opening.allowance)
 
--- what a try tells: the pair was won, which the seat had not asked before; it stands there; or another does, and there is a
+-- what a try tells: the pair was won, which the seat had not asked before; it is there; or another does, and there is a
 -- further cell
 pub record Tries (pair : Pair) (cells : ℕ) (before : Me (Unit {0}) PairView) (found : ℕ) (seat : Me (Unit {0}) PairView) : Type 0 where
   pub won_it : found ≡ 0 → (seat ≡ (resting (won before.0.claims pair), before.1)) × (Contains before.0.claims.asked pair → ⊥)

@@ -19,7 +19,7 @@ pub(crate) fn word(pair: Pair) -> u64
     u64::from(pair.key) * KEY_STRIDE + u64::from(pair.visitor) + 1
 }
 
-/// The home place of a word in a row of so many cells.
+/// The home place of a word in a row of this many cells.
 #[tactic(auto, unfolding(crate::specs::Homes::home, crate::specs::Homes::spread))]
 pub(crate) fn home(cells: u32, word: u64) -> u32
     requires { 0 < cells }

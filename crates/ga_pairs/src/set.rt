@@ -55,7 +55,7 @@ impl Model for PairSeat {
 }
 
 impl PairSet {
-    /// A set of so many cells, and the seat that has all shares and the whole allowance.
+    /// A set of this many cells, and the seat that has all shares and the whole allowance.
     pub fn open(
         alloc: Global,
         cells: u32,

@@ -9,7 +9,7 @@ pub struct Pair {
     pub visitor: u32,
 }
 
-/// What a seat asked and claimed. It stands in contracts and proofs alone: no value of it is made.
+/// What a seat asked and claimed. It is in contracts and proofs alone: no value of it is made.
 pub struct Claims {
     /// Its share of the right to know the whole.
     pub share: u64,
@@ -21,7 +21,7 @@ pub struct Claims {
     pub mine: LinkedList<Pair>,
 }
 
-/// How far a seat has come that looks for a pair. It stands in proofs alone.
+/// How far a seat has come that looks for a pair. It is in proofs alone.
 pub struct Probe {
     /// The pair that it looks for.
     pub pair: Pair,
@@ -29,7 +29,7 @@ pub struct Probe {
     pub passed: u64,
 }
 
-/// What a seat knows at each moment. It stands in proofs alone.
+/// What a seat knows at each moment. It is in proofs alone.
 pub struct PairView {
     /// What it asked and claimed.
     pub claims: Claims,

@@ -4,3 +4,4 @@ mod OneList
 mod PanelSteps
 mod RowForms
 mod RowKeys
+pub mod SomeList

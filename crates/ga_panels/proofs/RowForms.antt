@@ -1,4 +1,4 @@
--- The rows of the table stand in the panels' order, and their columns have the panels' form.
+-- The rows of the table are in the panels' order, and their columns have the panels' form.
 use Rattle.std.proofs.Common.{◌≡◌, ◌≢◌, ℕ, Bool, true, false, List, [], ◌∷◌, refl, sym, ap, ◌∙◌}
 use Rattle.std.specs.Prelude.{codes, if◌then◌else◌, not}
 use Rattle.std.specs.List.{AllByRecursion}

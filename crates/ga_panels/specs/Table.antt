@@ -1,5 +1,5 @@
 -- The panels' table, which says under which keys a record is counted. What counts is the set of those keys. They are
--- listed in rising order, since the rows stand in the panels' order and a group comes before its entries.
+-- listed in rising order, since the rows are in the panels' order and a group comes before its entries.
 use Rattle.std.specs.Prelude.{◌≡◌, ℕ, Bool, true, false, not, ◌&&◌, ◌||◌, ◌==◌, if◌then◌else◌, Option, Some, None, is_some, List, [], ◌∷◌, ◌++◌, flat_map, slice_get}
 use Rattle.std.specs.Option.{option_and_then}
 use Rattle.ga_base.specs.Days.{eight_digits}
@@ -88,7 +88,7 @@ table_keys setup rec facts = flat_map (λ row. with_group (counted_key setup.pan
 abbrev pub AreKeysOf : PanelSetup → Record → List Key → Type 0
 AreKeysOf setup rec keys = (facts : Facts) × HasFacts setup rec facts × (keys ≡ table_keys setup rec facts)
 
--- the key of the entry that a panel's row gives, which stands at the panel's number
+-- the key of the entry that a panel's row gives, which is at the panel's number
 abbrev pub entry_of : PanelSetup → Record → Facts → Panel → Option Key
 entry_of setup rec facts panel = option_and_then (row_key rec) (slice_get (table setup rec facts) (panel_number panel))
 

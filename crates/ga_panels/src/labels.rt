@@ -5,7 +5,7 @@ ghost use Rattle.ga_panels.specs.Labels as labels;
 use std::marker::Model;
 use std::str::from_utf8_unchecked;
 
-/// What stands for the group of a MIME type that begins with `/` (own profile).
+/// What represents the group of a MIME type that begins with `/` (own profile).
 const UNKNOWN: &str = "Unknown";
 
 /// A number written with `N` digits. Contracts see the list of them.

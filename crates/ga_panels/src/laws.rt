@@ -23,6 +23,13 @@ pub fn one_list_of_keys()
     one_keyphrase();
 }
 
+/// There is no record without a list of keys.
+pub fn some_list_of_keys()
+    ensures { (setup : PanelSetup) (rec : Record) → ((keys : List Key) → AreKeysOf setup rec keys → ⊥) → ⊥ }
+{
+    one_class();
+}
+
 /// The keys of a record are keys of its day: they rise, each has its panel's form, the day's own is among them, and no
 /// layer has two. The rules are those of a browsers file, in which each has a token and a category.
 pub fn keys_are_of_the_day()

@@ -32,7 +32,7 @@ blank-maximum words places share allowance place = zeros-at places place
 pub given-blank : (words places s a share allowance : ℕ) → given (blank words places s a) share allowance ≡ blank words places share allowance
 given-blank words places s a share allowance = λ i. blank (length-replicate {A = ℕ} words 0 i) (length-replicate {A = ℕ} places 0 i) share allowance
 
--- what holds at each place of a list still holds where an item is put behind
+-- what holds at each place of a list still holds where an item is put after
 pub at-push : {X : Type 0} (P : ℕ → X → Type 0) (xs : List X) (y : X) → ((i : ℕ) (d : X) → i < length xs → P i (get_or xs i d)) → P (length xs) y
     → (i : ℕ) (d : X) → i < length (xs ++ y ∷ []) → P i (get_or (xs ++ y ∷ []) i d)
 at-push P [] y each last zero d lt = last
@@ -72,7 +72,7 @@ max-each f h k (p ∷ puts) (r ∷ rows) long each =
     let rest = max-each f h (k + 1) puts rows (omega arith) (λ i q s lt. each (suc i) q s (omega arith) ∙ ap (λ (n : ℕ). f n (get_or rows i s)) (omega arith)) in
     omega (arith, here, rest)
 
--- and lists, one behind the other
+-- and lists, one after the other
 pub lists-each : {X : Type 0} (f : ℕ → TableRows → List X) (h : TableSeats → List X) (k : ℕ) (puts : List TableSeats) (rows : List TableRows) → length puts ≡ length rows
     → ((i : ℕ) (p : TableSeats) (r : TableRows) → i < length rows → h (get_or puts i p) ≡ f (k + i) (get_or rows i r)) → flat_map h puts ≡ lists_from f k rows
 lists-each f h k [] [] long each = refl

@@ -1,4 +1,4 @@
--- Outcomes that may be counted have a sum, and the tables stand for it.
+-- Outcomes that may be counted have a sum, and the tables represent it.
 use Rattle.std.proofs.Common.{◌≡◌, ℕ, nat_lt, List, [], ◌∷◌, sym, ◌∙◌, subst}
 use Rattle.std.proofs.lemmas.List.Elements.{All-head, All-tail}
 use Rattle.ga_base.specs.declared.counts.Totals.{Totals}
@@ -23,7 +23,7 @@ use Rattle.ga_tallies.specs.Tallies.{AreTalliesOf, TallySeen, together}
 use Rattle.ga_outcomes.specs.LineOutcomes.{HaveOutcomes}
 use Rattle.ga_outcomes.specs.declared.setup.Setup.{Setup}
 
--- the sum of one outcome and of those behind it
+-- the sum of one outcome and of those after it
 sum-cons : (o : Outcome) (os : List Outcome) (a b : SummaryValue) → IsSumOf (o ∷ []) a → IsSumOf os b → (s : SummaryValue) × IsSumOf (o ∷ os) s
 sum-cons o os a b x y = (merged_value a b, IsSumOf-append (o ∷ []) os a b (merged_value a b) x y (IsMerged-merged_value a b x.ordered y.ordered))
 
@@ -43,7 +43,7 @@ said-same os s is = λ i. record { totals = is.totals i; has = λ key. is.presen
 said-alike : (xs ys : List Outcome) → AreAlike xs ys → said_of xs ≡ said_of ys
 said-alike xs ys a = λ i. record { totals = a.totals i; has = λ key. nat_lt 0 (a.sums key i).hits; sums = λ key. a.sums key i; visits = λ key visitor. a.visits key visitor i }
 
--- the tables stand for the sum of what tallies have counted
+-- the tables represent the sum of what tallies have counted
 pub stands-for-sum : (os : List Outcome) (ts : List TallySeen) (counted : TheCounted) → TotalsFit (totals_of os) → ((parts : List (List Outcome)) → AreTalliesOf parts ts → Stands counted (said_of (together parts)))
     → AreCounted os ts → AllCountable os → StandsForSum os counted
 stands-for-sum os ts counted fit stands are can =

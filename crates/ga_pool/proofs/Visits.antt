@@ -172,6 +172,6 @@ module _ (c : Counted) (s : SummaryValue) (stands : StandsFor c s) (few : length
             (recursion_from_All (λ (y : Name). is_same_name name y ≡ false) (names_under c.visitors.items k ws)
             (λ i d lt. apart name e (get_or (names_under c.visitors.items k ws) i d) (Contains-get_or (names_under c.visitors.items k ws) i d lt) (is_same_name name (get_or (names_under c.visitors.items k ws) i d)) refl)) rest
 
-    -- no name stands there twice
+    -- no name is there twice
     pub distinct : IsDistinct is_same_name (names_under c.visitors.items k c.pairs)
     distinct = distinct-of c.pairs (λ w has. has) stands.once

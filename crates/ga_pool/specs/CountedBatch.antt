@@ -11,7 +11,7 @@ use Rattle.ga_summary.specs.Sums.{IsSumOf}
 use Rattle.ga_outcomes.specs.LineOutcomes.{HaveOutcomes}
 use Rattle.ga_outcomes.specs.declared.setup.Setup.{Setup}
 
--- what was counted stands for the sum of these lines, and no counter, from these totals on, passes its limit on the way
+-- what was counted represents the sum of these lines, and no counter, from these totals on, passes its limit on the way
 pub record CountsBatch (setup : Setup) (before : Totals) (all : List (List ℕ)) (counted : Counted) : Type 0 where
   pub outcomes : List Outcome
   pub have_outcomes : HaveOutcomes setup all outcomes
@@ -22,7 +22,7 @@ pub record CountsBatch (setup : Setup) (before : Totals) (all : List (List ℕ))
   pub summary : IsSummary sum
   pub stands : StandsFor counted sum
 
--- what was counted stands for the sum of these outcomes
+-- what was counted represents the sum of these outcomes
 pub record StandsForSum (outcomes : List Outcome) (counted : Counted) : Type 0 where
   pub sum : SummaryValue
   pub is_sum : IsSumOf outcomes sum

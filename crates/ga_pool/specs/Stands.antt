@@ -31,7 +31,7 @@ said_of outcomes = record {
   visits = λ key visitor. has_visit key visitor outcomes;
 }
 
--- the sums of a key's number: three words one behind the other, and a maximum
+-- the sums of a key's number: three words one after the other, and a maximum
 abbrev pub sums_at_number : ClosedSeen → ℕ → Sums
 sums_at_number counts k = record {
   hits = slice_index counts.sums (3 * k);
@@ -71,6 +71,6 @@ pub record Stands (counted : Counted) (said : Said) : Type 0 where
   pub visits : (key : Key) (visitor : Visitor) → said.visits key visitor ≡ true → (k : ℕ) × (v : ℕ)
       × (slice_get counted.keys.items k ≡ Some key) × (slice_get counted.visitors.items v ≡ Some visitor)
 
--- the tables stand for a summary
+-- the tables represent a summary
 abbrev pub StandsFor : Counted → SummaryValue → Type 0
 StandsFor counted s = Stands counted (said_by s)

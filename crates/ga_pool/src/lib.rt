@@ -1,7 +1,7 @@
 //! A batch of log lines counted by many workers into tables that they share, with one answer whatever the schedule.
 //!
 //! Start with `count_batch`: the batch is counted by workers as `ga_workers` does, each into a tally of its own, and then put
-//! into the tables. What stands in them is a `Counted`, of which `Counted::summary` makes the summary. `specs/Stands.antt` says
+//! into the tables. What is in them is a `Counted`, of which `Counted::summary` makes the summary. `specs/Stands.antt` says
 //! for which summary it stands, `specs/Batches.antt` of which lines.
 #![tactic(auto)]
 

@@ -22,7 +22,7 @@ use ga_workers::{Crew, PoolFault, Workers, count_from, counters, keyed_by, new_t
 use std::alloc::Global;
 use std::thread::Threads;
 
-/// Counts the lines of a batch by so many workers, in pieces of at most `chunk` lines; what follows the last line feed is a
+/// Counts the lines of a batch by this many workers, in pieces of at most `chunk` lines; what follows the last line feed is a
 /// line. `before` is what the counters begin at. The answer doesn't depend on the workers, the pieces or the gate.
 pub fn count_batch<R: Threads + Sync, G: Gate>(
     rt: &R,

@@ -1,4 +1,4 @@
--- A read behind what files have that are shorter than their size.
+-- A read after what files have that are shorter than their size.
 use Rattle.std.proofs.Common.{◌≡◌, ℕ, ◌-◌, ◌<◌, ◌≤◌, ◌&&◌, ◌==◌, true, Option, Some, Result, Ok, IfOk, IfSome, ap, ◌∙◌, subst, length, min, arith, nat_lt}
 use Rattle.std.proofs.lemmas.Bool.{lt-ltb}
 use Rattle.ga_counters.specs.declared.failed.Failed.{Failed}

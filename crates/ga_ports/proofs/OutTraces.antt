@@ -174,7 +174,7 @@ outs-stay no_outs_call = stays _
 outs-stay (one_outs_call call) = (once call).stay
 outs-stay (outs_then a b) = stays-then _ _ _ (outs-stay a) (outs-stay b)
 
--- how one call ended: well, as listed, for want of memory, or at a room that is used up
+-- how one call ended: well, as listed, for lack of memory, or at a room that is used up
 abbrev Fine : List ℕ → OutsView → OutsView → Type 0
 Fine listed old new = (is_due listed old.calls ≡ false) × (new.starved ≡ old.starved) × ((to : To) → (target to new).faults ≡ (target to old).faults)
 

@@ -31,7 +31,7 @@ found name others (c ∷ cs) = if bytes_eq c.0 name then Some c.1 else found nam
 abbrev pub content_of : List ℕ → Contents → Option (List ℕ)
 content_of name contents = found name contents.others contents.named
 
--- the bytes behind a name, where told
+-- the contents of the file of this name, where told
 abbrev pub told : List ℕ → Option Contents → Option (List ℕ)
 told name None = None
 told name (Some contents) = content_of name contents
@@ -53,7 +53,7 @@ fails_once c = record c { calls = raised c.calls 1; faults = raised c.faults 1 }
 abbrev pub asks : Bool → FileCounts → FileCounts
 asks absent c = record c { asked = raised c.asked 1; absent = if absent then raised c.absent 1 else c.absent }
 
--- so many bytes were handed out from a place, as a short read or not
+-- this many bytes were handed out from a place, as a short read or not
 abbrev pub gives : Bool → ℕ → ℕ → FileCounts → FileCounts
 gives short at n c = record c {
   given = raised c.given n;

@@ -28,7 +28,7 @@ pub record OutsState : Type 0 where
   -- the calls, counted from 1, that are listed to fail
   pub listed : List ℕ
   pub calls : ℕ
-  -- the calls that failed for want of memory
+  -- the calls that failed for lack of memory
   pub starved : ℕ
 
 abbrev pub sink_state : Sink → SinkState

@@ -27,7 +27,7 @@ pub record OutsView : Type 0 where
   -- the calls, counted from 1, that are listed to fail; None where the form doesn't tell
   pub listed : Option (List ℕ)
   pub calls : ℕ
-  -- the calls that failed for want of memory
+  -- the calls that failed for lack of memory
   pub starved : ℕ
 
 abbrev pub target : To → OutsView → TargetView
@@ -61,7 +61,7 @@ abbrev pub is_full : Option ℕ → Bool
 is_full None = false
 is_full (Some room) = room == 0
 
--- how much of so many bytes fits in what is left of the room
+-- how much of this many bytes fits in what is left of the room
 abbrev pub fitting : Option ℕ → ℕ → ℕ
 fitting None n = n
 fitting (Some room) n = min n room
@@ -92,7 +92,7 @@ pub record Creates {E : Type 0} (name : List ℕ) (old new : OutsView) (result :
   pub failed : OnErr result ((new ≡ record (after_failure File new.starved old) { made = raised old.made 1 })
       × (old.starved ≤ new.starved))
 
--- a call fails where it is bound to, and else for want of memory alone, which is counted
+-- a call fails where it is bound to, and else for lack of memory alone, which is counted
 pub record FailsExactly {A E : Type 0} (bound : Bool) (old new : OutsView) (result : Result A E) : Type 0 where
   pub bound_to : bound ≡ true → (is_err result ≡ true) × (new.starved ≡ old.starved)
   pub starved : bound ≡ false → OnErr result (new.starved ≡ raised old.starved 1)

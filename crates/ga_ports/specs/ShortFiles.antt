@@ -43,7 +43,7 @@ pub record FallsShort {E : Type 0} (at : ℕ) (old new : FilesView) (result : Re
   pub nothing : result ≡ Ok 0
   pub counted : new ≡ record old { counts = gives true at 0 (calls_once old.counts) }
 
--- over such files each read behind what they have, and below the size last answered, falls short
+-- over such files each read after what they have, and below the size last answered, falls short
 abbrev pub BehindCutFallsShort : Type 0
 BehindCutFallsShort = (files files' : ShortFilesState) (at size : ℕ) (buffer : List ℕ) (result : Result ℕ Failed)
     → files.measured ≡ Some size → at < size → length files.bytes ≤ at → 0 < length buffer

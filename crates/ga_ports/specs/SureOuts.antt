@@ -15,7 +15,7 @@ pub record SureOutsState : Type 0 where
   pub made : ℕ
   pub calls : ℕ
 
--- a target that took so many bytes and doesn't tell which; it has no room set, and its count of faults is 0 for good
+-- a target that took this many bytes and doesn't tell which; it has no room set, and its count of faults is 0 for good
 abbrev pub sure_target : ℕ → TargetView
 sure_target taken = record { bytes = None; taken = taken; faults = 0; room = None }
 

@@ -6,7 +6,7 @@ use ga_counters::Failed;
 
 /// Files to read, one of which is open at a time.
 ///
-/// A form may tell what stands in its files, as one in memory does, or not, as the real ones.
+/// A form may tell what is in its files, as one in memory does, or not, as the real ones.
 /// Each call that fails raises the count of faults by one, up to `2^64 - 1`.
 pub trait Files {
     ghost view: { Self → FilesView };

@@ -48,7 +48,7 @@ pub fn sure_files_have_no_faults()
     ensures calls { (old new : FilesView) → AreSureFiles old → FilesTrace old new → NoFileFaults old new }
 {}
 
-/// Over files that are shorter than the size that they answer, whatever was called before, each read from a place behind
+/// Over files that are shorter than the size that they answer, whatever was called before, each read from a place after
 /// what they have, and below the size last answered, is a short one. No call of theirs is a fault.
 pub fn short_files_fall_short()
     ensures view { (files : ShortFilesState) → AreSureFiles (short_files_view files) }

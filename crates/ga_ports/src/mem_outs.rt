@@ -68,7 +68,7 @@ impl MemOuts {
         Ok(())
     }
 
-    /// Gives a target a room of so many bytes from now on. A write takes what fits in what is left of it, and fails
+    /// Gives a target a room of this many bytes from now on. A write takes what fits in what is left of it, and fails
     /// where nothing is left.
     pub fn set_room(&mut self, to: To, room: u64)
         ensures { self.new ≡ after_room to room self.old }
@@ -91,7 +91,7 @@ impl MemOuts {
         }
     }
 
-    /// The number of calls that failed for want of memory.
+    /// The number of calls that failed for lack of memory.
     pub fn starved(&self) -> u64
         ensures { result ≡ self.now.starved }
     {

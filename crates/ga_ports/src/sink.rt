@@ -27,7 +27,7 @@ impl Sink {
     }
 
     /// Takes the front of the piece that fits, where the call isn't due to fail and something of the room is left.
-    /// Want of memory is counted in `starved`.
+    /// Lack of memory is counted in `starved`.
     pub fn take(&mut self, due: bool, starved: &mut u64, piece: &[u8]) -> Result<usize, Failed>
         ensures { let old = sink_view (sink_state self.old) in let new = sink_view (sink_state self.new) in
             TakesFront due piece.now old new starved.old starved.new result }
@@ -48,7 +48,7 @@ impl Sink {
     }
 }
 
-/// How many of so many bytes fit in a room.
+/// How many of this many bytes fit in a room.
 fn fitting_count(room: Option<u64>, count: usize) -> usize
     ensures { result ≡ outs.fitting room count }
 {

@@ -15,7 +15,7 @@ header_fields =
     codes "id" ∷ codes "parent_id" ∷ codes "panel" ∷ codes "hits" ∷ codes "hits%" ∷ codes "visitors" ∷ codes "visitors%" ∷ codes "bytes" ∷ codes "bytes%"
     ∷ codes "avgts" ∷ codes "cumts" ∷ codes "maxts" ∷ codes "method" ∷ codes "protocol" ∷ codes "data" ∷ []
 
--- a general number stands in `hits`, its name in `data`
+-- a general number is in `hits`, its name in `data`
 abbrev pub general_fields : ℕ → ℕ → List ℕ → List (List ℕ)
 general_fields id n name = decimal id ∷ [] ∷ codes "general" ∷ decimal n ∷ [] ∷ [] ∷ [] ∷ [] ∷ [] ∷ [] ∷ [] ∷ [] ∷ [] ∷ [] ∷ name ∷ []
 

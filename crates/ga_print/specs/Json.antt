@@ -12,7 +12,7 @@ use Rattle.ga_report.specs.declared.report.Row.{Row}
 use Rattle.ga_print.specs.Names.{panel_name}
 use Rattle.ga_print.specs.Percents.{percent_text}
 
--- members put into others; keys stand in rising byte order
+-- members put into others; keys are in rising byte order
 abbrev pub put_all : Members → List (List ℕ × Data) → Members
 put_all done [] = done
 put_all done (m ∷ ms) = put_all (put m.0 m.1 done) ms

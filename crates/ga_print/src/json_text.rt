@@ -104,7 +104,7 @@ fn text_of(alloc: Global, list: &PanelList) -> Result<String, NoMemory>
     Ok(text)
 }
 
-/// Writes the rows of a panel, and the bracket behind them.
+/// Writes the rows of a panel, and the bracket after them.
 fn write_rows(text: &mut String, alloc: Global, groups: bool, rows: &[Row]) -> Result<(), NoMemory>
     requires { All HasHits rows.now }
     ensures { OnOk result (string_bytes text.new ≡ string_bytes text.old ++ items_text false (items_of (map (row_tree groups) rows.now))) }

@@ -4,7 +4,7 @@ use ga_dates::{compile_date, compile_time, read_both, read_date, read_time};
 use std::alloc::Global;
 use std::test::Fail;
 
-/// Date formats with a bar and a text behind each, and the day that the text spells, or the format's fault.
+/// Date formats with a bar and a text after each, and the day that the text spells, or the format's fault.
 const DATES: &str = "\
 ## days that there are, and days that there aren't
 %d/%b/%Y|29/Feb/2024 => Some(20240229)
@@ -68,7 +68,7 @@ fn dates_are_read(rt: HostRuntime) -> Result<(), Fail> {
     hold(rt.alloc(), DATES, date_said)
 }
 
-/// Time formats with a bar and a text behind each, and the minute that the text spells, or the format's fault.
+/// Time formats with a bar and a text after each, and the minute that the text spells, or the format's fault.
 const TIMES: &str = "\
 ## the first minute, the last, and a leap second
 %H:%M:%S|00:00:00 => Some(0)

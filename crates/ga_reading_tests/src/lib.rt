@@ -1,6 +1,6 @@
 //! Tests of the crates that read: texts, files, words, formats, lines, agents, and the keys of a record.
 //!
-//! A crate with tests is proved twice, so those of many libraries stand in one, a file for each library, over its public
+//! A crate with tests is proved twice, so those of many libraries are in one, a file for each library, over its public
 //! calls. They have what no clause says: examples from RFCs and real logs, printed texts, and that calls which take memory
 //! succeed.
 #![tactic(auto)]

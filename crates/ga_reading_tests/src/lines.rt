@@ -87,14 +87,14 @@ h 01/Jan/2024 \"r\" 1000000000000 => h|20240101|None|||r|0|0|Some(10000000000000
 h 01/Jan/2024 \"r\" 1000000000001 => failed
 ";
 
-/// In milliseconds, with another field for microseconds behind.
+/// In milliseconds, with another field for microseconds after.
 const MILLISECONDS: &str = "\
 ## milliseconds
 h 01/Jan/2024 \"r\" 1.5 1 => h|20240101|None|||r|0|0|Some(1500)|||||||
 h 01/Jan/2024 \"r\" 7 1 => h|20240101|None|||r|0|0|Some(7000)|||||||
 ";
 
-/// In microseconds, with another field for milliseconds behind.
+/// In microseconds, with another field for milliseconds after.
 const MICROSECONDS: &str = "\
 ## microseconds
 h 01/Jan/2024 \"r\" 17 => h|20240101|None|||r|0|0|Some(17)|||||||

@@ -1,6 +1,6 @@
 //! The adapters: files, the disk of a database and targets of the system, behind the traits of the outside.
 //!
-//! They tell nothing of content, so what stands in a real file, and what reaches a terminal or a disk, is claimed by no contract.
+//! They tell nothing of content, so what is in a real file, and what reaches a terminal or a disk, is claimed by no contract.
 #![tactic(auto)]
 
 #[cfg(test)]

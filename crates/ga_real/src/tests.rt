@@ -12,7 +12,7 @@ use std::{env, fs, process};
 /// The length of a file of two slices and a half, a slice being the 64 KiB by which a log is read.
 const LENGTH: u32 = 163_840;
 
-/// So many bytes, each four of which hold their own number.
+/// This many bytes, each four of which hold their own number.
 fn numbers(alloc: Global) -> Result<Vec<u8>, Fail> {
     let mut bytes = Vec::new(alloc);
     for number in 0..LENGTH / 4 {

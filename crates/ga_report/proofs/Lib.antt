@@ -19,3 +19,4 @@ pub mod PanelPlaces
 pub mod PanelIndexes
 pub mod Bucketed
 pub mod Alone
+pub mod SomeReport

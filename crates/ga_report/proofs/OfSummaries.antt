@@ -130,7 +130,7 @@ take-out n (m ∷ ms) e = go (is_same_name n m) refl (take-out n ms) e
 less-equal : Less ≡ Equal → ⊥
 less-equal e = cc
 
--- a name of those behind another is behind it, and is another
+-- a name of those after another is after it, and is another
 behind : (n k : Name) (xs : List Name) → AllByRecursion (λ y. name_cmp n y ≡ Less) xs → has_name xs k ≡ true → name_cmp n k ≡ Less
 behind n k [] above has = absurd (false≢true has)
 behind n k (x ∷ xs) above has = elim (is_same_name k x) as (λ v. is_same_name k x ≡ v → (v || has_name xs k) ≡ true → name_cmp n k ≡ Less) [

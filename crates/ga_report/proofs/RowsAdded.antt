@@ -49,7 +49,7 @@ alike key x y e = ap (λ (k : Key). is_same_key k (undated key)) (same-item x.ke
 turned : (x y : SourceRow) → is_of x.key y ≡ is_of y.key x
 turned x y = (eq_by_cmp_equiv key_cmp_total).symm (undated y.key) (undated x.key)
 
--- how often an item stands there with a row more
+-- how often an item is there with a row more
 abbrev more : Key → SourceRow → List SourceRow → ℕ
 more key row items = cond (is_of key row) (cond (list_any (λ item. is_of item.key row) items) 0 1) 0
 
@@ -69,7 +69,7 @@ count-with key row (x ∷ xs) = elim (is_of x.key row) as (λ b. is_of x.key row
         → cond (is_of key x) 1 0 + count_by (is_of key) (with_row row xs) ≡ more key row xs + (cond (is_of key x) 1 0 + count_by (is_of key) xs)
     behind e = omega (arith, e)
 
--- an item of the row's stands there as often as one of its key's does
+-- an item of the row's is there as often as one of its key's does
 any-turned : (row : SourceRow) (items : List SourceRow) → list_any (λ item. is_of item.key row) items ≡ has_item row.key items
 any-turned row [] = refl
 any-turned row (x ∷ xs) = λ i. turned x row i || any-turned row xs i
@@ -170,14 +170,14 @@ module _ (seen : List SourceRow) (row : SourceRow) where
       go false f = refl
       go true f = absurd (omega (arith, not-counted row.key items e, are.once row.key ∙ ap {B = ℕ} (λ (b : Bool). cond b 1 0) f))
 
-  summed-with : (items : List SourceRow) → AreSummed seen items → AreSummed (row ∷ seen) (with_row row items)
+  pub summed-with : (items : List SourceRow) → AreSummed seen items → AreSummed (row ∷ seen) (with_row row items)
   summed-with items are = record {
     once = λ key. once-with key items are.once;
     sums = All-from_recursion (λ item. undate item ≡ item_of item.key (row ∷ seen)) (with_row row items)
         (sums-with items (at-most (has_item row.key seen) _ (are.once row.key)) (not-seen items are) (recursion_from_All _ items are.sums));
   }
 
--- a row put behind those that were seen
+-- a row put after those that were seen
 pub summed-behind : (seen : List SourceRow) (row : SourceRow) (items : List SourceRow) → AreSummed seen items → AreSummed (seen ++ row ∷ []) (with_row row items)
 summed-behind seen row items are = summed-of (row ∷ seen) (seen ++ row ∷ []) (with_row row items) (IsPermutation-sym _ _ (IsPermutation-to_front seen row)) (summed-with seen row items are)
 
@@ -218,7 +218,7 @@ with-place row (x ∷ xs) d below = elim (is_of x.key row) as (λ b. (n : ℕ) �
           rw next (ap (λ (r : List SourceRow). x ∷ r) rest)
     ] (place row (x ∷ xs)) refl below
 
--- the place is behind the items: the row is put there
+-- the place is after the items: the row is put there
 with-end : (row : SourceRow) (items : List SourceRow) → length items ≤ place row items → items ++ row ∷ [] ≡ with_row row items
 with-end row [] at = refl
 with-end row (x ∷ xs) at = elim (is_of x.key row) as (λ b. (n : ℕ) → n ≡ cond (not b) (1 + place row xs) 0 → length (x ∷ xs) ≤ n → x ∷ xs ++ row ∷ [] ≡ cond b (plus x row ∷ xs) (x ∷ with_row row xs)) [

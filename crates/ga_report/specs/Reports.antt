@@ -75,7 +75,7 @@ pub record IsPanelList (general : General) (most : ℕ) (rows : List SourceRow) 
   pub are_items : AreItems panel (is_row panel) rows items
   pub shown : Pairwise (IsRow general most rows) (take most items) list.rows
 
--- the report with the panels of a set, and with at most so many rows a list
+-- the report with the panels of a set, and with at most this many rows a list
 pub record IsReport (source : SourceValue) (set : List Bool) (most : ℕ) (report : Report) : Type 0 where
   pub general : report.general ≡ general_of source
   pub panels : Pairwise (IsPanelList (general_of source) most source.rows) (panels_of set) report.panels

@@ -15,13 +15,13 @@ use std::cmp::Ordering;
 use std::marker::Sync;
 use std::thread::Threads;
 
-/// One item of so many is looked at to find where those that come first end.
+/// One item of this many is looked at to find where those that come first end.
 const SAMPLED: usize = 32;
 
-/// So many more items of a sample are up to the threshold.
+/// This many more items of a sample are up to the threshold.
 const SPARE: u64 = 16;
 
-/// The first of the items that are groups of a panel with groups, at most so many, in the report's order.
+/// The first of the items that are groups of a panel with groups, at most this many, in the report's order.
 pub(crate) fn top_groups<'a>(
     alloc: Global,
     items: &[RowRef<'a>],
@@ -39,7 +39,7 @@ pub(crate) fn top_groups<'a>(
     top_items(alloc, rows, panel, most)
 }
 
-/// The first of the items that are entries of a group, at most so many, in the report's order.
+/// The first of the items that are entries of a group, at most this many, in the report's order.
 pub(crate) fn entries_of<'a>(
     alloc: Global,
     items: &[RowRef<'a>],
@@ -58,7 +58,7 @@ pub(crate) fn entries_of<'a>(
     top_items(alloc, rows, name.panel(), most)
 }
 
-/// The first of the items, at most so many, in the report's order. Those that aren't among them are not sorted.
+/// The first of the items, at most this many, in the report's order. Those that aren't among them are not sorted.
 pub(crate) fn top_items<'a>(
     alloc: Global,
     items: Vec<RowRef<'a>>,
@@ -71,8 +71,8 @@ pub(crate) fn top_items<'a>(
     Ok(in_report_order(rows, panel))
 }
 
-/// The first items of a panel, at most so many, in the report's order. They may be many, and are looked at in
-/// so many pieces side by side.
+/// The first items of a panel, at most this many, in the report's order. They may be many, and are looked at in
+/// this many pieces side by side.
 pub(crate) fn top_of_many<'a, R: Threads + Sync, T: RowSource + Sync>(
     rt: &R,
     alloc: Global,
@@ -101,7 +101,7 @@ fn in_report_order(items: Vec<RowRef<'_>>, panel: Panel) -> Vec<RowRef<'_>>
     items
 }
 
-/// The items that come first, at most so many, in any order.
+/// The items that come first, at most this many, in any order.
 fn first_items<'a>(
     alloc: Global,
     items: Vec<RowRef<'a>>,
@@ -147,7 +147,7 @@ fn likely_tops<'a, R: Threads + Sync, T: RowSource + Sync>(
     all_items(rt, alloc, pieces, source, panel_items)
 }
 
-/// Which item of a sample is the threshold, where so many items are wanted. A sample has a 32nd of those; up to the threshold
+/// Which item of a sample is the threshold, where this many items are wanted. A sample has a 32nd of those; up to the threshold
 /// it has twice as many and some more, so that hardly ever too few items stand up to it.
 fn threshold_rank(most: u64) -> usize
     ensures { result ≤ most }
@@ -155,7 +155,7 @@ fn threshold_rank(most: u64) -> usize
     (most / SAMPLED as u64 * 2 + SPARE).min(most) as usize
 }
 
-/// One of each so many items.
+/// One item of every this many.
 fn sample<'a, T: RowSource>(
     alloc: Global,
     source: &'a T,
@@ -170,7 +170,7 @@ fn sample<'a, T: RowSource>(
     Ok(few)
 }
 
-/// One of each so many items of a list.
+/// One of each this many items of a list.
 fn sample_of<'a>(alloc: Global, items: &[RowRef<'a>]) -> Result<Vec<RowRef<'a>>, NoMemory> {
     let mut few = Vec::with_capacity(alloc, items.len() / SAMPLED + 1)?;
     for item in items.iter().step_by(SAMPLED) {

@@ -8,7 +8,7 @@ use ga_base::NoMemory;
 use std::alloc::Global;
 use std::marker::Model;
 
-/// At least so many buckets for each row of a panel, so that most rows have one of their own.
+/// At least this many buckets for each row of a panel, so that most rows have one of their own.
 const BUCKETS_PER_ROW: usize = 8;
 
 /// More buckets take more memory than there is.
@@ -74,7 +74,7 @@ impl Buckets {
     }
 }
 
-/// How many buckets there are for so many rows: a power of two, so that the low bits of a hash may be any of them.
+/// How many buckets there are for this many rows: a power of two, so that the low bits of a hash may be any of them.
 fn buckets_for(rows: usize) -> usize
     ensures { 1 ≤ result }
 {
@@ -84,7 +84,7 @@ fn buckets_for(rows: usize) -> usize
         .next_power_of_two()
 }
 
-/// The bucket of a hash, of so many buckets: its low bits.
+/// The bucket of a hash, of this many buckets: its low bits.
 fn bucket_of(hash: u64, many: usize) -> usize
     requires { 1 ≤ many }
     ensures value { result ≡ bucket_at many hash }

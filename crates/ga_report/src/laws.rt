@@ -9,3 +9,8 @@ ghost use Rattle.ga_report.specs.declared.report.Report.{Report as TheReport};
 pub fn one_report()
     ensures { (source : SourceValue) (set : List Bool) (most : ℕ) (a b : TheReport) → IsReport source set most a → IsReport source set most b → a ≡ b }
 {}
+
+/// Each source of rows has a report.
+pub fn some_report()
+    ensures { (source : SourceValue) (set : List Bool) (most : ℕ) → (report : TheReport) × IsReport source set most report }
+{}

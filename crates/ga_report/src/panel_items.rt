@@ -30,7 +30,7 @@ pub(crate) struct PanelItems<'a> {
 }
 
 /// A panel's items: rows that differ in their day alone are added up. It takes the time of finding the panel's rows
-/// and of a look at each of them, which is shared by so many pieces of the rows side by side, and of one by its name for each
+/// and of a look at each of them, which is shared by this many pieces of the rows side by side, and of one by its name for each
 /// that isn't alone in its bucket; and the memory of two numbers and some buckets for each row.
 pub(crate) fn panel_items<'a, R: Threads + Sync, T: RowSource + Sync>(
     rt: &R,
@@ -115,7 +115,7 @@ fn partition<R: Threads + Sync, T: RowSource + Sync>(
     buckets.partition(alloc, &indexes)
 }
 
-/// The items of the rows at these row indexes, in so many pieces side by side: rows with another hash are of another item.
+/// The items of the rows at these row indexes, in this many pieces side by side: rows with another hash are of another item.
 #[cycle(adding)]
 fn sum_items<'a, R: Threads + Sync, T: RowSource + Sync>(
     rt: &R,

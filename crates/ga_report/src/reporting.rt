@@ -21,7 +21,7 @@ use std::alloc::Global;
 use std::marker::Sync;
 use std::thread::Threads;
 
-/// The rows of a panel that has many are looked at in so many pieces side by side.
+/// The rows of a panel that has many are looked at in this many pieces side by side.
 const PIECES: u32 = 4;
 
 /// No more panels there are, so that each may be a piece by itself.
@@ -107,7 +107,7 @@ pub(crate) fn shown_panels(alloc: Global, panels: &PanelSet) -> Result<Vec<Panel
     Ok(shown)
 }
 
-/// The lists of panels, one after the other, the rows of each looked at in so many pieces side by side.
+/// The lists of panels, one after the other, the rows of each looked at in this many pieces side by side.
 fn lists_in_turn<R: Threads + Sync, T: RowSource + Sync>(
     rt: &R,
     alloc: Global,
@@ -127,7 +127,7 @@ fn lists_in_turn<R: Threads + Sync, T: RowSource + Sync>(
     Ok(lists)
 }
 
-/// The list of a panel, whose rows are looked at in so many pieces side by side. Only in a panel with groups have rows children.
+/// The list of a panel, whose rows are looked at in this many pieces side by side. Only in a panel with groups have rows children.
 fn panel_list<R: Threads + Sync, T: RowSource + Sync>(
     rt: &R,
     alloc: Global,

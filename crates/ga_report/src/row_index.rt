@@ -44,7 +44,7 @@ impl Partition {
     }
 }
 
-/// The row indexes of the rows at these places, found in so many pieces side by side.
+/// The row indexes of the rows at these places, found in this many pieces side by side.
 pub(crate) fn indexes_at<R: Threads + Sync, T: RowSource + Sync>(
     rt: &R,
     alloc: Global,
@@ -82,7 +82,7 @@ pub(crate) fn indexes_in_turn<T: RowSource>(
     Ok(indexes)
 }
 
-/// The rows at these row indexes, found in so many pieces side by side.
+/// The rows at these row indexes, found in this many pieces side by side.
 pub(crate) fn rows_at<'a, R: Threads + Sync, T: RowSource + Sync>(
     rt: &R,
     alloc: Global,
@@ -116,7 +116,7 @@ fn rows_in_turn<'a, T: RowSource>(
     Ok(rows)
 }
 
-/// The rows at these row indexes that don't come after a threshold, found in so many pieces side by side.
+/// The rows at these row indexes that don't come after a threshold, found in this many pieces side by side.
 pub(crate) fn rows_near<'a, R: Threads + Sync, T: RowSource + Sync>(
     rt: &R,
     alloc: Global,

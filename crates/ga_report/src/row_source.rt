@@ -22,7 +22,7 @@ pub trait RowSource {
     fn len(&self) -> u64
         ensures { result ≡ length (view self.now).rows };
 
-    /// So many rows of a panel there are at most. Where so many are seen, a report looks for no more of them.
+    /// This many rows of a panel there are at most. Where this many are seen, a report looks for no more of them.
     fn at_most(&self, panel: Panel) -> u64
         ensures { count_by (λ row. is_same_panel row.key.panel panel) (view self.now).rows ≤ result };
 

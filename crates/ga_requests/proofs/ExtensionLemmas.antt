@@ -34,7 +34,7 @@ any-ends path statics r e = (
       (ap (λ suffix. ends_with eqb path suffix) end.1.2 ∙ (ends path end.0 _ refl).1 end.2),
 )
 
--- a dot, and no other dot behind it
+-- a dot, and no other dot after it
 abbrev pub is_ending : List ℕ → Bool
 is_ending [] = false
 is_ending (b ∷ rest) = (b == dot) && list_all (differs dot) rest

@@ -27,7 +27,7 @@ module _ (test : ℕ → Bool) (text : List ℕ) where
   pub before_none : IsFirstByte test text None → text ≡ before_first test text
   before_none h = sym (ap (λ n. take n text) (place_none h) ∙ take_all (length text) text (omega arith))
 
-  -- the text behind that place
+  -- the text after that place
   pub after_some : (k : ℕ) → IsFirstByte test text (Some k) → take (length text - (k + 1)) (drop (k + 1) text) ≡ after_first test text
   after_some k h =
       take_all (length text - (k + 1)) (drop (k + 1) text) (omega (arith, length-drop (k + 1) text)) ∙ ap (λ n. drop (n + 1) text) (sym (place_some k h))
@@ -54,7 +54,7 @@ module _ (stop : ℕ) (text front rest : List ℕ) (joined : text ≡ front ++ s
       let behind : k - length front ≡ suc (k - length front - 1) = omega arith in
       ap (λ xs. get_or xs k 0) joined ∙ get_or-append_right front (stop ∷ rest) (length front) k 0 refl (omega arith) ∙ ap (λ j. get_or (stop ∷ rest) j 0) behind
 
-  -- the byte behind a front without it stands in its first place
+  -- the byte after a front without it is in its first place
   pub first_is : Lacks stop front → (r : Option ℕ) → IsFirstByte (is_byte stop) text r → r ≡ Some (length front)
   first_is lacks None h = absurd (h (length front) (omega arith) inside stands)
   first_is lacks (Some k) h =
@@ -62,7 +62,7 @@ module _ (stop : ℕ) (text front rest : List ℕ) (joined : text ≡ front ++ s
       (λ le. ⊎_elim (λ lt. absurd (h.0.before (length front) (omega arith) lt stands)) (λ ge. let same : k ≡ length front = omega arith in ap Some same) (cases_lt (length front) k))
       (cases_lt k (length front))
 
-  -- the byte before a rest without it stands in its last place
+  -- the byte before a rest without it is in its last place
   pub last_is : Lacks stop rest → (r : Option ℕ) → IsLastByte (is_byte stop) text r → r ≡ Some (length front)
   last_is lacks None h = absurd (h (length front) (omega arith) inside stands)
   last_is lacks (Some k) h =

@@ -15,8 +15,8 @@ slash = byte_of (codes "/")
 abbrev pub number_sign : ℕ
 number_sign = byte_of (codes "#")
 
--- `rest` is what stands behind the first place of `mark` in the text: it stands behind one, and nothing longer
--- stands behind any
+-- `rest` is what follows the first place of `mark` in the text: it follows one, and nothing longer
+-- follows any
 pub record FollowsFirst (mark text rest : List ℕ) : Type 0 where
   pub split : (front : List ℕ) × (text ≡ front ++ (mark ++ rest))
   pub first : (front later : List ℕ) → text ≡ front ++ (mark ++ later) → length later ≤ length rest
@@ -25,7 +25,7 @@ pub record FollowsFirst (mark text rest : List ℕ) : Type 0 where
 abbrev pub ends_site : ℕ → Bool
 ends_site b = b == slash || b == question_mark || b == number_sign
 
--- `site` stands behind the first `://`, up to the first `/`, `?`, `#` or the end
+-- `site` follows the first `://`, up to the first `/`, `?`, `#` or the end
 abbrev pub Names : List ℕ → List ℕ → Type 0
 Names referrer site = (rest : List ℕ) × FollowsFirst (codes "://") referrer rest × (site ≡ before_first ends_site rest)
 
@@ -34,7 +34,7 @@ abbrev pub SiteIs : List ℕ → Option (List ℕ) → Type 0
 SiteIs referrer None = (site : List ℕ) → Names referrer site → site ≡ []
 SiteIs referrer (Some site) = Names referrer site × (site ≢ [])
 
--- what stands behind the first `?` of the whole referrer, up to the first `#` that follows it; empty without a `?`
+-- what follows the first `?` of the whole referrer, up to the first `#` that follows it; empty without a `?`
 abbrev pub query_of : List ℕ → List ℕ
 query_of referrer = before_first (λ b. b == number_sign) (after_first (λ b. b == question_mark) referrer)
 

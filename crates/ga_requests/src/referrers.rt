@@ -59,8 +59,8 @@ pub fn referral_of(alloc: Global, referrer: &str) -> Result<Referral<'_>, NoMemo
     })
 }
 
-/// The site that a referrer names, with its port, borrowed from it: what stands behind the first `://`, up to the
-/// first `/`, `?`, `#` or the end (own profile). `None` exactly where there is no `://` or nothing stands there.
+/// The site that a referrer names, with its port, borrowed from it: what follows the first `://`, up to the
+/// first `/`, `?`, `#` or the end (own profile). `None` exactly where there is no `://` or nothing is there.
 pub fn site_of(referrer: &str) -> Option<&str>
     ensures some { IfSome result (λ site. SiteIs referrer.now (Some site.now)) }
     ensures none { IfNone result (SiteIs referrer.now None) }
@@ -81,7 +81,7 @@ pub fn referring_site(alloc: Global, referrer: &Text) -> Result<Option<Text>, No
 }
 
 /// The phrase that was searched for: where the referrer's site holds `google.`, the decoded value of the first pair
-/// named `q` with a value that isn't empty, in what stands behind the first `?` of the whole referrer and before the
+/// named `q` with a value that isn't empty, in what follows the first `?` of the whole referrer and before the
 /// first `#` after it. The pairs are those of HTML forms (URL Standard, section 5). `None` exactly where the site holds
 /// no `google.` or there is no such pair. Only Google's searches are looked at (own profile).
 pub fn keyphrase(alloc: Global, referrer: &Text) -> Result<Option<Text>, NoMemory>

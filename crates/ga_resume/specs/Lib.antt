@@ -1,4 +1,5 @@
 pub mod Entries
+pub mod Following
 pub mod ReadPart
 pub mod Segment
 pub mod Steps

@@ -15,7 +15,7 @@ pub enum PlaceFault {
     /// No byte came at this place, which is below the size.
     #[error("no byte at {at}")]
     FileShort { at: u64 },
-    /// Want of memory.
+    /// Out of memory.
     #[error("no memory")]
     NoMemory,
 }

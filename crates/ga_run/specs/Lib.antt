@@ -1,14 +1,4 @@
-pub mod Course
-pub mod Ends
-pub mod Inputs
-pub mod Keeping
-pub mod Leaves
-pub mod OneRun
-pub mod Outside
-pub mod Printing
-pub mod Reports
-pub mod Run
-pub mod Setups
-pub mod Statuses
-pub mod Steps
-pub mod Told
+-- Lists of steps in a world in memory, and what is promised of them.
+pub mod History
+pub mod Parts
+pub mod Headline

@@ -1,127 +1,47 @@
-//! What holds of all runs and reports. Each function's contract is the law; what its body calls are the laws that it
-//! rests on.
+//! What holds of all lists of steps. Each function's contract is the law; what its body calls are the laws that it rests on.
 
-ghost use Rattle.std.specs.Prelude.{◌≡◌, ℕ, List, Option, Result, Ok};
-ghost use Rattle.ga_agents.specs.declared.row.Rule.{Rule};
-ghost use Rattle.ga_base.specs.declared.counts.Counter.{Counter};
-ghost use Rattle.ga_base.specs.declared.counts.Totals.{Totals};
-ghost use Rattle.ga_disk.specs.Sides.{Sides};
-ghost use Rattle.ga_line.specs.declared.setup.LineSetup.{LineSetup as TheSetup};
-ghost use Rattle.ga_outcomes.specs.LineOutcomes.{CountsLines, FillsAmong};
-ghost use Rattle.ga_ports.specs.Files.{FilesView};
-ghost use Rattle.ga_ports.specs.Outs.{OutsView};
-ghost use Rattle.ga_summary.specs.SummaryRows.{SummaryValue};
-ghost use Rattle.ga_words.specs.WordsOf.{WordsOf};
-ghost use Rattle.ga_words.specs.declared.settings.Settings.{Settings as TheSettings};
-ghost use Rattle.ga_run.specs.OneRun.{Alike, DifferInWorkers, HaveSameInputs, IsUntroubled, RunView, SidesAgree, run_of};
-ghost use Rattle.ga_run.specs.Reports.{IsTextOf};
-ghost use Rattle.ga_run.specs.Setups.{IsLineSetup, setup_of};
-ghost use Rattle.ga_run.specs.Steps.Setups.{GivesLineSetup};
-ghost use Rattle.ga_run.specs.Told.{Answers, Yield};
-ghost use Rattle.ga_run.specs.Outside.{outside_of};
-ghost use Rattle.ga_run.specs.declared.setups.SetupFault.{SetupFault as TheFault};
-ghost use Rattle.ga_run.specs.declared.status.Status.{Status as TheStatus};
+ghost use Rattle.std.specs.Prelude.{◌∷◌, ◌++◌, ℕ, [], List, Option};
+ghost use Rattle.ga_run.specs.Headline.{Headline};
+ghost use Rattle.ga_run.specs.History.{History, Steps, then_status};
+ghost use Rattle.ga_run.specs.Parts.{Adjoin, AreOnePass, Part};
+ghost use Rattle.ga_run.specs.declared.history.Step.{Step as TheStep};
+ghost use Rattle.ga_run.specs.declared.history.World.{World as TheWorld};
+ghost use Rattle.ga_one_run.specs.declared.status.Status.{Status as TheStatus};
 
-use ga_agents::laws::one_reading;
-use ga_dates::laws::one_format;
-use ga_disk::Disk;
-use ga_format::laws::one_answer as one_answer_of_formats;
-use ga_line::laws::one_meaning;
-use ga_logs::laws::{one_course, one_following, one_portion, read_as_told};
-use ga_panels::laws::one_list_of_keys;
-use ga_report::laws::one_report as one_report_of_rows;
+use ga_disk::laws::{a_crash_is_settled, a_crash_leaves_an_image};
+use ga_line::laws::lines_added;
+use ga_logs::laws::read_as_told;
+use ga_ports::laws::files_stay;
 use ga_store::laws::one_database;
-use ga_summary::laws::one_sum;
-use ga_words::laws::one_reading as one_reading_of_words;
+use ga_summary::laws::merged_sums;
+use ga_words::laws::one_reading;
 
-/// The formats of settings mean one thing: a way to read lines, or one refusal.
-pub(crate) fn one_outcome()
-    ensures { (s : TheSettings) (a b : Result TheSetup TheFault) → GivesLineSetup s a → GivesLineSetup s b → a ≡ b }
+/// Every list of steps in a world in which nothing stood before keeps the promise of `specs/Headline.antt`, step by step: the
+/// database is that of the kept runs, a tracked run that is done printed exactly the report on all their lines, an acknowledged
+/// run is never taken back, and a run fails only by the causes of its status.
+pub fn headline()
+    ensures { (steps : List TheStep) (statuses : List TheStatus) (old new : TheWorld) → Headline steps statuses old new }
 {
-    one_format();
-    one_answer_of_formats();
-}
-
-/// Words say settings once at the most, and the formats of these are read in one way.
-pub fn one_setup()
-    ensures { (words : List (List ℕ)) (s other : TheSettings) (a b : TheSetup) → WordsOf words (Ok s) → WordsOf words (Ok other)
-        → IsLineSetup s a → IsLineSetup other b → (s ≡ other) × (a ≡ b) }
-{
-    one_outcome();
-    one_reading_of_words();
-}
-
-/// Lines that are read as settings say have one sum, or fill one counter with one value, and not both.
-pub fn one_count()
-    ensures sum { (s : TheSettings) (line : TheSetup) (rules : List Rule) → IsLineSetup s line
-        → (start : Totals) (all : List (List ℕ)) (a b : SummaryValue)
-        → CountsLines (setup_of line s rules) start all a → CountsLines (setup_of line s rules) start all b → a ≡ b }
-    ensures counter { (s : TheSettings) (line : TheSetup) (rules : List Rule) → IsLineSetup s line
-        → (start : Totals) (all : List (List ℕ)) (which which' : Counter) (total total' : ℕ)
-        → FillsAmong (setup_of line s rules) start all which total → FillsAmong (setup_of line s rules) start all which' total'
-        → (which ≡ which') × (total ≡ total') }
-    ensures apart { (s : TheSettings) (line : TheSetup) (rules : List Rule) → IsLineSetup s line
-        → (start : Totals) (all : List (List ℕ)) (sum : SummaryValue) (which : Counter) (total : ℕ)
-        → CountsLines (setup_of line s rules) start all sum → FillsAmong (setup_of line s rules) start all which total → ⊥ }
-{
-    one_meaning();
-    one_list_of_keys();
-    one_sum();
-}
-
-/// A summary is printed as one text.
-pub fn one_text()
-    ensures { (s : TheSettings) (sum : SummaryValue) (a b : List ℕ) → IsTextOf s sum a → IsTextOf s sum b → a ≡ b }
-{
-    one_report_of_rows();
-}
-
-/// Over told files and sides a run that the settings say has one answer: one status, and where it is done one text, one sum and
-/// one list of entries.
-pub fn one_answer()
-    ensures { (s : TheSettings) (line : TheSetup) → IsLineSetup s line → (files : FilesView) (sides : Sides) (a b : TheStatus)
-        (yielded other : Option Yield) → Answers line s files sides a yielded → Answers line s files sides b other
-        → (a ≡ b) × (yielded ≡ other) }
-{
+    one_database();
+    merged_sums();
+    read_as_told();
     one_reading();
-    one_count();
-    one_course();
-    one_database();
-    one_portion();
-    one_following();
-    one_text();
+    files_stay();
+    a_crash_leaves_an_image();
+    a_crash_is_settled();
 }
 
-/// A run ends alike by any workers: two runs whose words say the same but for `--jobs` and `--chunk-size`, over told files with
-/// the same contents and told sides that say one database or one damage, have one status, the same report in the same place, the
-/// same bytes written to standard error, and the same database, where no count of a fault rose and no memory was wanted.
-pub fn one_run_by_any_workers<D: Disk, E: Disk>()
-    ensures { (words words' : List (List ℕ)) (sides sides' : Sides) (files files' others others' : FilesView) (disk disk' : D) (other other' : E)
-        (outs outs' targets targets' : OutsView) (status end : TheStatus)
-        → let a : RunView = run_of (outside_of files (D.view disk) (D.images disk) outs) (outside_of files' (D.view disk') (D.images disk') outs') status in
-        let b : RunView = run_of (outside_of others (E.view other) (E.images other) targets) (outside_of others' (E.view other') (E.images other') targets') end in
-        DifferInWorkers words words' → IsUntroubled words sides a → IsUntroubled words' sides' b → SidesAgree sides sides'
-        → HaveSameInputs words a b → Alike sides sides' a b }
-{
-    one_answer();
-    one_database();
-    one_reading_of_words();
-    read_as_told();
-}
+/// A list of steps goes on by one step more: so a caller that makes steps one by one has a history of them.
+pub fn histories_go_on()
+    ensures { (steps : List TheStep) (statuses : List TheStatus) (old mid new : TheWorld) (step : TheStep)
+        (status : Option TheStatus) → History steps statuses old mid → Steps step status mid new
+        → History (steps ++ step ∷ []) (then_status statuses status) old new }
+{}
 
-/// Two runs with the same words, over told files with the same contents and told sides that say one database or one damage, end
-/// alike where no count of a fault rose and no memory was wanted: with one status, the same report in the same place, the same
-/// bytes written to standard error, and the same database. So a run is a function of the database that it finds, and not of the
-/// bytes that hold it.
-pub fn one_run<D: Disk, E: Disk>()
-    ensures { (words : List (List ℕ)) (sides sides' : Sides) (files files' others others' : FilesView) (disk disk' : D) (other other' : E)
-        (outs outs' targets targets' : OutsView) (status end : TheStatus)
-        → let a : RunView = run_of (outside_of files (D.view disk) (D.images disk) outs) (outside_of files' (D.view disk') (D.images disk') outs') status in
-        let b : RunView = run_of (outside_of others (E.view other) (E.images other) targets) (outside_of others' (E.view other') (E.images other') targets') end in
-        IsUntroubled words sides a → IsUntroubled words sides' b → SidesAgree sides sides' → HaveSameInputs words a b
-        → Alike sides sides' a b }
+/// Parts of a log that adjoin from its first byte on, and end after a line feed, have the lines of the log up to the end of the
+/// last part, each once and in their order.
+pub fn parts_are_one_pass()
+    ensures { (log : List ℕ) (parts : List Part) → Adjoin log 0 parts → AreOnePass log parts }
 {
-    one_answer();
-    one_database();
-    read_as_told();
+    lines_added();
 }

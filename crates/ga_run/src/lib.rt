@@ -1,19 +1,12 @@
-//! One run of goaccess: from the words of the command line, with the formats that they say, to the report.
+//! Runs of goaccess: one run, which is `goaccess_run` of `ga_one_run`, and lists of runs.
 //!
-//! Start with `goaccess_run`, the call that the program makes. What it does is one record, `IsRun` of `specs/Run.antt`, over
-//! plain views of what the run stands in (`specs/Outside.antt`): the files, the disk of its database and the targets. What each
-//! status shows stands in `specs/Ends.antt`, and in `specs/Told.antt` the one answer of a run over told files and sides. `laws`
-//! says what holds of all runs, `one_run` first: words, told files and told sides fix what a run does.
+//! Start with `run_all`, which makes steps in a world in memory: logs that grow and change their names, runs, and crashes. What
+//! a list of steps is is in `specs/History.antt`, and what is promised of it in `specs/Headline.antt`, term by term. `laws`
+//! has the promise as a law over all lists.
 #![tactic(auto)]
 
-mod faults;
+mod history;
 pub mod laws;
-mod printing;
-mod rules;
-mod run;
-mod setups;
-mod status;
 
-pub use printing::{deliver, print};
-pub use run::goaccess_run;
-pub use status::{Input, Status, Which};
+pub use ga_one_run::{Input, Status, Which, goaccess_run};
+pub use history::{StatusList, Step, World, run_all, run_step};

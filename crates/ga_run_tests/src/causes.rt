@@ -3,8 +3,8 @@
 use crate::world::{World, words_of};
 use ga_base::{Bytes, Text};
 use ga_disk::{Disk, MemDisk};
+use ga_one_run::goaccess_run;
 use ga_ports::{MemOuts, NoGate, ShortFiles, To};
-use ga_run::goaccess_run;
 use std::alloc::Global;
 use std::test::Fail;
 use std::thread::Threads;

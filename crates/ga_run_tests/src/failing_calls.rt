@@ -3,8 +3,8 @@
 use crate::world::World;
 use ga_base::Text;
 use ga_disk::{Disk, MemDisk};
+use ga_one_run::Status;
 use ga_ports::{Failed, MemFiles, MemOuts, To};
-use ga_run::Status;
 use std::alloc::Global;
 use std::test::Fail;
 use std::thread::Threads;
@@ -147,7 +147,7 @@ fn a_call_of_the_disk_fails(rt: HostRuntime) -> Result<(), Fail> {
     Err(Fail::new("no run is done"))
 }
 
-/// Whether an output that takes so many bytes has them, and the run is kept.
+/// Whether an output that takes this many bytes has them, and the run is kept.
 fn is_kept_with_room<R: Threads + Sync>(rt: &R, alloc: Global, room: usize) -> Result<bool, Fail> {
     let mut world = world_before(rt, alloc)?;
     let mut outs = MemOuts::new(alloc);

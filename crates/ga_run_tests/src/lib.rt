@@ -1,6 +1,6 @@
 //! Tests of whole runs over forms in memory, by the call that the program makes.
 //!
-//! Tables of runs and of histories of runs stand in files of their own, which `tools/make_cases.py` writes: their answers were
+//! Tables of runs and of histories of runs are in files of their own, which `tools/make_cases.py` writes: their answers were
 //! worked out by a program in another language. Each run is tried by several workers.
 #![tactic(auto)]
 

@@ -1,8 +1,8 @@
 use crate::world::World;
 use ga_base::Text;
 use ga_disk::Disk;
+use ga_one_run::Status;
 use ga_ports::{MemOuts, To};
-use ga_run::Status;
 use std::test::Fail;
 
 #[test]

@@ -1,8 +1,8 @@
 use crate::world::{World, words_of};
 use ga_base::{NoMemory, Text};
 use ga_disk::MemDisk;
+use ga_one_run::{Status, goaccess_run};
 use ga_ports::{Failed, Files, Gate, HoldGate, MemFiles, MemOuts, NoGate, To};
-use ga_run::{Status, goaccess_run};
 use std::alloc::Global;
 use std::hint::spin_loop;
 use std::sync::atomic::{AtomicBool, Ordering};
@@ -70,7 +70,7 @@ impl Gate for MirrorGate {
 /// A line that is counted, with its line feed.
 const LINE: &[u8] = b"192.0.2.1 - - [01/Jan/2024:00:00:00 +0000] \"GET /a HTTP/1.1\" 200 10\n";
 
-/// Two jobs count three lines, one at a time, behind this gate, by words that begin so.
+/// Two jobs count three lines, one at a time, with this gate, by words that begin so.
 fn run_behind<R: Threads + Sync, G: Gate>(
     rt: &R,
     alloc: Global,
@@ -126,7 +126,7 @@ impl Files for WatchedFiles {
     }
 }
 
-/// A log of lines that are 66 bytes longer than so many, and what the report says of it.
+/// A log of lines that are 66 bytes longer than this many, and what the report says of it.
 const LONG: [(&[usize], &str); 2] = [
     (
         &[65_469, 65_470],
@@ -138,7 +138,7 @@ const LONG: [(&[usize], &str); 2] = [
     ),
 ];
 
-/// A line whose URL has so many bytes behind its slash.
+/// A line whose URL has this many bytes after its slash.
 fn line_of(alloc: Global, length: usize) -> Result<Vec<u8>, NoMemory> {
     let mut line = Vec::new(alloc);
     line.extend_from_slice(b"192.0.2.1 - - [01/Jan/2024:00:00:00 +0000] \"GET /")?;
@@ -244,7 +244,7 @@ fn lines_are_as_wild_as_they_come(rt: HostRuntime) -> Result<(), Fail> {
     Ok(())
 }
 
-/// A log of so many lines, each from a host of its own.
+/// A log of this many lines, each from a host of its own.
 fn many_hosts(alloc: Global, lines: u32) -> Result<Vec<u8>, NoMemory> {
     let mut log = Vec::new(alloc);
     for n in 0..lines {
@@ -255,7 +255,7 @@ fn many_hosts(alloc: Global, lines: u32) -> Result<Vec<u8>, NoMemory> {
     Ok(log)
 }
 
-/// So many keys are counted in parts, and so many rows are looked at in pieces, side by side.
+/// This many keys are counted in parts, and this many rows are looked at in pieces, side by side.
 #[test]
 fn many_hosts_have_one_report(rt: HostRuntime) -> Result<(), Fail> {
     let alloc = rt.alloc();

@@ -1,7 +1,7 @@
 use ga_base::{NoMemory, Text, Texts};
 use ga_disk::MemDisk;
+use ga_one_run::{Status, goaccess_run};
 use ga_ports::{MemFiles, MemOuts, NoGate, To};
-use ga_run::{Status, goaccess_run};
 use std::alloc::Global;
 use std::thread::Threads;
 

@@ -4,7 +4,7 @@ use Rattle.std.specs.List.{All, flat_map, list_any}
 use Rattle.std.specs.Hash.FoldHasher as hashes
 use Rattle.ga_shards.specs.Numbers.{NumberingSeen, noted, place_of}
 
--- in which of so many shards an item is, by what it feeds
+-- in which of this many shards an item is, by what it feeds
 abbrev pub shard_at : {T : Type 0} → (T → List (List ℕ)) → ℕ → T → ℕ
 shard_at input shards item = hashes.finish (fold hashes.write hashes.initial (input item)) % shards
 
@@ -32,7 +32,7 @@ around shard shards item = slice_index_or shards (shard item) []
 abbrev pub number_of : {T : Type 0} → (T → T → Bool) → (T → ℕ) → List (List T) → T → ℕ
 number_of eq shard shards item = start_of shards (shard item) + place_of eq (around shard shards item) item
 
--- the shards one behind the other, with the number of each item
+-- the shards one after the other, with the number of each item
 abbrev pub shifted : {T : Type 0} → (T → T → Bool) → (T → ℕ) → List (List T) → List (List T) → NumberingSeen T
 shifted eq shard shards lists = record {
   items = all_of shards;
@@ -47,7 +47,7 @@ pub record AreNumbered {T : Type 0} (eq : T → T → Bool) (shard : T → ℕ) 
   pub starts : (s : ℕ) → s < length shards → slice_index begin s ≡ start_of shards s
   pub known : All (λ item. list_any (eq item) (around shard shards item) ≡ true) (all_of lists)
 
--- so many shards have the different items of the lists, each its own
+-- this many shards have the different items of the lists, each its own
 pub record AreParts {T : Type 0} (eq : T → T → Bool) (shard : T → ℕ) (shards : ℕ) (lists parts : List (List T)) : Type 0 where
   pub some : 1 ≤ shards
   pub many : length parts ≡ shards

@@ -44,7 +44,7 @@ pub fn number_keyed<R: Threads + Sync, T: Noted + Drop>(
     Ok(Numbering::with(concat_items(alloc, parts)?, numbers))
 }
 
-/// Shards that have the different items of lists, one behind the other, are a numbering of these.
+/// Shards that have the different items of lists, one after the other, are a numbering of these.
 fn shards_are_a_numbering<T: Hash>()
     ensures known { (shards : ℕ) (lists parts : List (List T)) → AreParts T.eq (shard_at T.hash_input shards) shards lists parts
         → All (λ item. list_any (T.eq item) (around (shard_at T.hash_input shards) parts item) ≡ true) (all_of lists) }
@@ -97,7 +97,7 @@ fn all_numbers<R: Threads + Sync, T: Noted>(
     )
 }
 
-/// The values, where none of the results is want of memory.
+/// The values, where none of the results is lack of memory.
 fn collect_all<X: Drop>(
     alloc: Global,
     results: Vec<Result<X, NoMemory>>,
@@ -111,7 +111,7 @@ fn collect_all<X: Drop>(
     Ok(all)
 }
 
-/// In which of so many shards an item is. A hash of the standard library decides, which costs little: who makes items that
+/// In which of this many shards an item is. A hash of the standard library decides, which costs little: who makes items that
 /// collide under it fills one shard, and its map is keyed.
 fn shard_of<T: Noted>(item: &T, shards: u32) -> u32
     requires { 1 ≤ shards }
@@ -213,7 +213,7 @@ fn number_in<T: Noted>(parts: &[Dictionary<T>], starts: &[u32], item: &T) -> u32
     starts[shard] + parts[shard].find(item).unwrap()
 }
 
-/// The items of all shards, one behind the other.
+/// The items of all shards, one after the other.
 fn concat_items<T: Noted + Drop>(
     alloc: Global,
     parts: Vec<Dictionary<T>>,

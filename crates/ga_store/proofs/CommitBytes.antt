@@ -1,4 +1,4 @@
--- The bytes of a side along a commit: the gate closed, the tail behind it, the gate opened.
+-- The bytes of a side along a commit: the gate closed, the tail after it, the gate opened.
 use Rattle.std.proofs.Common.{◌≡◌, ◌≢◌, ◌⊎◌, ℕ, ◌+◌, ◌-◌, ◌<◌, ◌≤◌, ◌==◌, ◌&&◌, Bool, true, false, List, [], ◌∷◌, ◌++◌, length, get_or, take, drop, max, nat_lt, nat_le, refl, sym, ◌∙◌, ap, inl, inr, arith, length-append, length-take, length-drop}
 use Rattle.std.specs.Prelude.{if◌then◌else◌}
 use Rattle.std.proofs.lemmas.Bool.Decides.{nat_tests}
@@ -121,7 +121,7 @@ torn-closing gate old new le must torn = by-length (nat_le (length old) gate) re
         let longer : gate < length old = grind (arith, nat_tests) in
         by-byte (get_or new gate 0 == open_gate) longer refl
 
--- ---- the tail stands behind it
+-- ---- the tail follows it
 
 pub closed-front : (gate : ℕ) (old new : List ℕ) → gate < length old → get_or old gate 0 ≢ open_gate → SameFront (gate + 1) old new → is_open_at new gate ≡ false
 closed-front gate old new within other front =
@@ -166,7 +166,7 @@ module _ (w : Work) (side : List ℕ) (within : w.gate < length side) where
             ∙ take_at w.tail rest (length w.tail) refl;
       }
 
--- bytes that stand behind a torn gate stand there still
+-- bytes that follow a torn gate stand there still
 pub stands-torn : (gate : ℕ) (tail old new : List ℕ) → 0 < length tail → TornAt gate 1 old new → StandsAt old (gate + 1) tail → StandsAt new (gate + 1) tail
 stands-torn gate tail old new some torn stands =
     let shorter = torn.no_shorter in

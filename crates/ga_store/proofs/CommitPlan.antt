@@ -20,21 +20,21 @@ use Rattle.ga_store.proofs.Fronts.{adds0, adds1, closes0, closes1, sides-stay, s
 use Rattle.ga_store.proofs.OnePart.{one-snapshot}
 use Rattle.ga_store.proofs.Torn.{tail-gate, tail-part}
 
--- work behind a gate of a side, from the one database to the other
+-- work after a gate of a side, from the one database to the other
 pub record IsPlanned (n gate : ℕ) (tail : List ℕ) (old new : DbValue) (sides : Sides) : Type 0 where
   pub side : n < 2
   pub reaches : gate ≤ length (of_side n sides)
   pub has : DbOf sides (stored old)
   -- whatever is changed from the gate on, the old database stays where the gate is closed
   pub keeps : (bytes : List ℕ) → SameFront gate (of_side n sides) bytes → is_open_at bytes gate ≡ false → DbOf (with_side n bytes sides) (stored old)
-  -- where it is open, and the tail stands behind it, the new database is there, and the old one isn't
+  -- where it is open, and the tail follows it, the new database is there, and the old one isn't
   pub comes : (bytes : List ℕ) → SameFront gate (of_side n sides) bytes → is_open_at bytes gate ≡ true → StandsAt bytes (gate + 1) tail
       → DbOf (with_side n bytes sides) (stored new)
   pub apart : (bytes : List ℕ) → is_open_at bytes gate ≡ true → StandsAt bytes (gate + 1) tail → DbOf (with_side n bytes sides) (stored old) → ⊥
 
 -- ---- slots
 
--- the gate behind the last record is closed, and the side reaches it
+-- the gate after the last record is closed, and the side reaches it
 slot-closed : {number : ℕ} {side : List ℕ} {db last : DbValue} → ReadsOn number side db (stored last) → is_open_at side last.slot ≡ false
 slot-closed (ends gate) = gate
 slot-closed (goes_on t on) = slot-closed on

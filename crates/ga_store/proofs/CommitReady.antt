@@ -46,7 +46,7 @@ closed-reaches side gate seen seen' reaches is = subst (λ (o : Option Sides). R
         let within = off.within in
         omega (arith, ap length same)
 
--- and still is, with the tail behind it
+-- and still is, with the tail after it
 pub tail-reaches : (w : Work) (seen seen' : Option Sides) → Reaches w.side (w.gate + 1) seen → seen' ≡ option_map (after_tail w) seen
     → Reaches w.side w.gate seen'
 tail-reaches w seen seen' reaches is = subst (λ (o : Option Sides). Reaches w.side w.gate o) (sym is) (by seen reaches)

@@ -108,7 +108,7 @@ reads-same front gate (goes_on t on) = goes_on (takes-on-same _ _ _ _ _ (slots-r
 
 -- ---- the old database stays
 
--- a write at the slot or behind it leaves the old database, where the gate at the slot is closed
+-- a write at the slot or after it leaves the old database, where the gate at the slot is closed
 pub stays0 : {sides : Sides} {db : DbValue} (new : List ℕ) → DbOf sides (stored db) → db.side ≡ Some 0 → SameFront db.slot sides.side0 new
     → is_open_at new db.slot ≡ false → DbOf (record { side0 = new; side1 = sides.side1 }) (stored db)
 stays0 new (nothing a b) is front gate = cc
@@ -140,7 +140,7 @@ closes0 new (chosen0 has yields on) is gate = let side = (sides-stay on).0 in cc
 
 -- ---- the new database comes
 
--- a record behind the gate at the slot, and a closed gate behind it, add to the chosen side
+-- a record after the gate at the slot, and a closed gate after it, add to the chosen side
 pub adds : {number : ℕ} {old new : List ℕ} {db last next : DbValue} → SameFront last.slot old new → TakesOn new last next
     → is_open_at new next.slot ≡ false → ReadsOn number old db (stored last) → ReadsOn number new db (stored next)
 adds front t gate (ends old_gate) = goes_on t (ends gate)

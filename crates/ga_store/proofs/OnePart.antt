@@ -1,4 +1,4 @@
--- One part stands at a place, and one snapshot at the start of a side.
+-- One part is at a place, and one snapshot at the start of a side.
 use Rattle.std.proofs.Common.{◌≡◌, ℕ, ◌+◌, ◌≤◌, List, ◌++◌, length, take, drop, refl, sym, ◌∙◌, ap, subst, arith, length-append}
 use Rattle.std.specs.Int.{w64, from_be_bytes}
 use Rattle.std.proofs.lemmas.List.{append_assoc, take-take, take_at}

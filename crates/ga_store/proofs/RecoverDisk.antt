@@ -154,7 +154,7 @@ both-told : (seen : Option Sides) (side0 side1 : List ℕ) → IfSome seen (λ s
 both-told None side0 side1 first second = tt
 both-told (Some seen) side0 side1 first second = same-sides seen _ (sym first) (sym second)
 
--- so many calls read so many bytes
+-- this many calls read this many bytes
 reads-exact : (bytes reads : ℕ) → InPieces bytes reads → reads ≡ reads_of bytes
 reads-exact bytes reads pieces =
     let enough = pieces.enough in

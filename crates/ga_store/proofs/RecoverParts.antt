@@ -9,7 +9,7 @@ use Rattle.sha2.proofs.Facts256.{length-sha256}
 use Rattle.ga_store.specs.SideParts.{IsPartAt, StandsAt, part_bytes}
 use Rattle.ga_codec.specs.Spelling.{eight_bytes}
 
--- the first of two rows of bytes stands there too
+-- the first of two rows of bytes is there too
 pub stands-first : (x a b : List ℕ) (at : ℕ) → StandsAt x at (a ++ b) → StandsAt x at a
 stands-first x a b at s =
     let long = length-append a b in
@@ -19,7 +19,7 @@ stands-first x a b at s =
       same = sym (take-take (length a) (length (a ++ b)) (drop at x) (omega arith)) ∙ ap (λ (t : List ℕ). take (length a) t) s.same ∙ take_at a b (length a) refl;
     }
 
--- and the second behind it
+-- and the second after it
 pub stands-second : (x a b : List ℕ) (at to : ℕ) → to ≡ at + length a → StandsAt x at (a ++ b) → StandsAt x to b
 stands-second x a b at to is s =
     let long = length-append a b in
@@ -135,7 +135,7 @@ part-here side front rest body at le bytes is size fits s =
     let all : StandsAt (drop at side) 0 (part_bytes body) = stands-both (drop at side) (eight_bytes (length body)) (body ++ sha256 body) 0 8 refl here behind in
     record { size = fits; stands = stands-behind side (part_bytes body) 0 at at (omega arith) le all }
 
--- the length of a part that stands at a place, and what is behind it
+-- the length of a part that is at a place, and what is after it
 pub record HasLength (front rest body : List ℕ) : Type 0 where
   pub size : length body ≡ from_be_bytes w64 front
   pub behind : StandsAt rest 0 (body ++ sha256 body)
@@ -154,7 +154,7 @@ part-only side front rest body at le is part =
       behind = subst (λ (b : List ℕ). StandsAt b 0 (body ++ sha256 body)) (sym is.is_rest) behind;
     }
 
--- one part stands at a place
+-- one part is at a place
 pub one-part : (side a b : List ℕ) (at : ℕ) → IsPartAt side at a → IsPartAt side at b → a ≡ b
 one-part side a b at p q =
     let long = part-long side a at p in

@@ -1,4 +1,4 @@
--- A run record behind a gate that is taken on, and one that isn't.
+-- A run record after a gate that is taken on, and one that isn't.
 use Rattle.std.proofs.Common.{◌≡◌, ℕ, ◌+◌, ◌<◌, true, List, Option, Some, None, refl, ap, ◌∙◌, subst, arith}
 use Rattle.ga_base.specs.declared.counts.Counter.{Counter}
 use Rattle.ga_summary.specs.Limits.{passes}
@@ -39,7 +39,7 @@ taken-on side old new delta next gate h limits merged others = record {
 pub lacking : {side : List ℕ} {old next : DbValue} → LacksRecord side old.slot → TakesOn side old next → ⊥
 lacking none t = none t.body t.delta t.part t.spells
 
--- one run record stands behind a gate
+-- one run record follows a gate
 pub one-record : OneDelta → (side : List ℕ) (old next : DbValue) (delta : DeltaValue) (end : ℕ) → HasRecord side old.slot delta end → (t : TakesOn side old next) → delta ≡ t.delta
 one-record law side old next delta end h t =
     let same = one-part side h.body t.body (old.slot + 1) h.part t.part in

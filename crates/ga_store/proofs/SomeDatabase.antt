@@ -20,7 +20,7 @@ closed-past side at le = grind (arith, nat_tests)
 later-slot : {side : List ℕ} {old new : DbValue} → TakesOn side old new → old.slot < new.slot
 later-slot t = omega (arith, ap (λ (db : DbValue). db.slot) t.others)
 
--- the side says something from a database on, if it does so from each that takes on the record behind it
+-- the side says something from a database on, if it does so from each that takes on the record after it
 next-end : (number : ℕ) (side : List ℕ) (db : DbValue) (gate : Bool) → is_open_at side db.slot ≡ gate
     → ((new : DbValue) → TakesOn side db new → ((reading : Reading) → ReadsOn number side new reading → ⊥) → ⊥)
     → ((reading : Reading) → ReadsOn number side db reading → ⊥) → ⊥
@@ -34,7 +34,7 @@ some-end zero number side db le none = none (stored db) (ends (closed-past side 
 some-end (suc left) number side db le none =
     next-end number side db (is_open_at side db.slot) refl (λ new t. some-end left number side new (omega (arith, le, later-slot t))) none
 
--- a side's first gate is closed, or a snapshot is behind it, or none
+-- a side's first gate is closed, or a snapshot is after it, or none
 by-first : (side : List ℕ) (gate : Bool) → is_open_at side 0 ≡ gate → (is_open_at side 0 ≡ false → ⊥)
     → ((snapshot : SnapshotValue) (next : ℕ) → HasSnapshot side snapshot next → ⊥) → (LacksSnapshot side → ⊥) → ⊥
 by-first side false e empty has lacks = empty e

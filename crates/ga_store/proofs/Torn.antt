@@ -52,7 +52,7 @@ closed-by-end side at le =
     let ends : nat_lt (at + 1) (length side) ≡ false = grind (arith, nat_tests) in
     rw ends refl
 
--- the part and the gate behind it, one by one
+-- the part and the gate after it, one by one
 pub tail-part : (side body : List ℕ) (at : ℕ) → length body < 2 ^ 64 → StandsAt side at (closed_part body) → IsPartAt side at body
 tail-part side body at size stands =
     let part = part_bytes body in

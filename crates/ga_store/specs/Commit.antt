@@ -12,7 +12,7 @@ use Rattle.ga_store.specs.Database.{DbValue, of_snapshot}
 use Rattle.ga_store.specs.declared.mode.Mode.{Mode}
 use Rattle.ga_store.specs.declared.mode.Mode.TheVariants.{Append, Overwrite}
 
--- a side has room for so many run records behind its snapshot
+-- a side has room for this many run records after its snapshot
 abbrev pub most_records : ℕ
 most_records = 64
 
@@ -21,23 +21,23 @@ pub record Work : Type 0 where
   -- the side that is written, and the place of the gate there
   pub side : ℕ
   pub gate : ℕ
-  -- what is written behind it: a part, and a closed gate
+  -- what is written after it: a part, and a closed gate
   pub tail : List ℕ
-  -- it is a new generation, which the side ends behind, and not a run record
+  -- it is a new generation, which the side ends after, and not a run record
   pub is_new : Bool
 
--- a part with this body, and a closed gate behind it
+-- a part with this body, and a closed gate after it
 abbrev pub closed_part : List ℕ → List ℕ
 closed_part body = part_bytes body ++ closed_gate ∷ []
 
--- the side after a whole commit: what stands in front of the gate, the open gate, the part, the next gate, and what stood
--- behind that unless it was cut off
+-- the side after a whole commit: what is in front of the gate, the open gate, the part, the next gate, and what stood
+-- after that unless it was cut off
 abbrev pub committed : Work → List ℕ → List ℕ
 committed w side = take w.gate side ++ open_gate ∷ w.tail ++ (if w.is_new then [] else drop (w.gate + 1 + length w.tail) side)
 
 -- ---- the calls of a commit
 
--- a gate is closed where no byte stands there, or that of an open gate
+-- a gate is closed where no byte is there, or that of an open gate
 abbrev pub must_close : ℕ → List ℕ → Bool
 must_close gate side = nat_le (length side) gate || (slice_index side gate == open_gate)
 

@@ -31,7 +31,7 @@ pub record IsReady (work : Work) (disk : DiskView) (images : Images) : Type 0 wh
 abbrev pub after_work : Work → Sides → Sides
 after_work work sides = with_side work.side (committed work (of_side work.side sides)) sides
 
--- so many calls of the disk
+-- this many calls of the disk
 abbrev pub Takes : ℕ → DiskView → DiskView → Type 0
 Takes n disk disk' = disk'.counts.calls ≡ raised disk.counts.calls n
 
@@ -41,7 +41,7 @@ pub record CommitsFrom (old new : DbValue) (work : Work) (sides : Sides) (disk d
   pub later : IsLater old new
   -- at each moment each image has the old or the new database
   pub moments : LeavesOnly images images' (HasEither old new)
-  -- after Ok each has the new one, and is what a read gives: the work stands there, and nothing else is changed
+  -- after Ok each has the new one, and is what a read gives: the work is there, and nothing else is changed
   pub done : OnOk result (AllHave images' new)
   pub written : OnOk result ((disk'.seen ≡ Some (after_work work sides)) × OnlyImage images' (after_work work sides))
   -- it makes these calls and no others

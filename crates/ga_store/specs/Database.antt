@@ -16,9 +16,9 @@ pub record DbValue : Type 0 where
   pub generation : ℕ
   -- the side that was chosen; None where nothing is stored
   pub side : Option ℕ
-  -- the number of run records behind its snapshot
+  -- the number of run records after its snapshot
   pub records : ℕ
-  -- the place of the first closed gate behind them
+  -- the place of the first closed gate after them
   pub slot : ℕ
 
 -- what two sides say: a database, or damage at a place of a side
@@ -28,7 +28,7 @@ pub data Reading : Type 0 where
 
 -- ---- one side
 
--- behind the open gate at its start stands a part with this snapshot, and the next gate at this place
+-- after the open gate at its start stands a part with this snapshot, and the next gate at this place
 pub record HasSnapshot (side : List ℕ) (snapshot : SnapshotValue) (next : ℕ) : Type 0 where
   pub gate : is_open_at side 0 ≡ true
   pub body : List ℕ
@@ -36,12 +36,12 @@ pub record HasSnapshot (side : List ℕ) (snapshot : SnapshotValue) (next : ℕ)
   pub spells : SpellSnapshot body snapshot
   pub behind : next ≡ 1 + length (part_bytes body)
 
--- the gate at its start is open, and no part with a snapshot stands there
+-- the gate at its start is open, and no part with a snapshot is there
 pub record LacksSnapshot (side : List ℕ) : Type 0 where
   pub gate : is_open_at side 0 ≡ true
   pub none : (body : List ℕ) (snapshot : SnapshotValue) → IsPartAt side 1 body → SpellSnapshot body snapshot → ⊥
 
--- the run record behind the open gate at the slot takes the database on; its totals pass no limit
+-- the run record after the open gate at the slot takes the database on; its totals pass no limit
 pub record TakesOn (side : List ℕ) (old new : DbValue) : Type 0 where
   pub gate : is_open_at side old.slot ≡ true
   pub body : List ℕ
@@ -58,7 +58,7 @@ pub record TakesOn (side : List ℕ) (old new : DbValue) : Type 0 where
   }
 
 -- from a database on, as far as it was read of the side with this number, to what the side says: its records are those
--- behind open gates up to the first closed one, and what stands behind that is ignored
+-- after open gates up to the first closed one, and what follows that is ignored
 pub data ReadsOn (number : ℕ) (side : List ℕ) : DbValue → Reading → Type 0 where
   ends : {db : DbValue} → is_open_at side db.slot ≡ false → ReadsOn number side db (stored db)
   goes_on : {old new : DbValue} {reading : Reading} → TakesOn side old new → ReadsOn number side new reading → ReadsOn number side old reading
@@ -77,7 +77,7 @@ no_summary = record {
 abbrev pub empty_db : DbValue
 empty_db = record { summary = no_summary; entries = []; generation = 0; side = None; records = 0; slot = 0 }
 
--- the database of a snapshot, before the records behind it
+-- the database of a snapshot, before the records after it
 abbrev pub of_snapshot : ℕ → ℕ → SnapshotValue → DbValue
 of_snapshot number next s = record {
   summary = s.summary;

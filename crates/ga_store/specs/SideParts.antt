@@ -1,4 +1,4 @@
--- What stands on a side: a gate, and behind each open gate a part and the next gate.
+-- What stands on a side: a gate, and after each open gate a part and the next gate.
 use Rattle.std.specs.Prelude.{◌≡◌, ℕ, ◌+◌, ◌<◌, ◌≤◌, ◌==◌, ◌&&◌, ◌^◌, Bool, List, ◌++◌, length, take, drop, nat_lt, slice_index}
 use Rattle.sha2.specs.Sha256.{sha256}
 use Rattle.ga_codec.specs.Spelling.{eight_bytes}
@@ -11,7 +11,7 @@ open_gate = 79
 abbrev pub closed_gate : ℕ
 closed_gate = 0
 
--- a gate is open where its byte says so and the side goes on behind it
+-- a gate is open where its byte says so and the side goes on after it
 abbrev pub is_open_at : List ℕ → ℕ → Bool
 is_open_at side at = nat_lt (at + 1) (length side) && (slice_index side at == open_gate)
 
@@ -24,7 +24,7 @@ pub record StandsAt (side : List ℕ) (at : ℕ) (bytes : List ℕ) : Type 0 whe
 abbrev pub part_bytes : List ℕ → List ℕ
 part_bytes body = eight_bytes (length body) ++ body ++ sha256 body
 
--- a part with this body stands at a place
+-- a part with this body is at a place
 pub record IsPartAt (side : List ℕ) (at : ℕ) (body : List ℕ) : Type 0 where
   pub size : length body < 2 ^ 64
   pub stands : StandsAt side at (part_bytes body)

@@ -49,7 +49,7 @@ pub record Looks (failed : Bool) (disk disk' : DiskView) (images images' : Image
 abbrev pub most_read : ℕ
 most_read = 2 ^ 20
 
--- so many bytes are read by this number of calls, each of which but the last reads as many as one may
+-- this many bytes are read by this number of calls, each of which but the last reads as many as one may
 abbrev pub reads_of : ℕ → ℕ
 reads_of bytes = (bytes + (most_read - 1)) / most_read
 

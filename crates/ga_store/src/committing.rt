@@ -13,7 +13,7 @@ const CLOSED: u8 = 0;
 /// Writes prepared work. It takes no memory.
 ///
 /// Where a gate stands that reads open or isn't there, it is closed first. Then the part is written with a closed gate
-/// behind it, and is synced before the gate in front of it is opened by a write of its own.
+/// after it, and is synced before the gate in front of it is opened by a write of its own.
 pub fn commit<D: Disk>(disk: &mut D, work: Prepared) -> Result<(), StoreFault>
     requires open { IsTrue (D.view disk.old).is_open }
     requires ready { IsReady work (D.view disk.old) (D.images disk.old) }
@@ -38,7 +38,7 @@ fn close_gate<D: Disk>(disk: &mut D, side: u32, gate: u64) -> Result<(), StoreFa
     set_gate(disk, side, gate, CLOSED)
 }
 
-/// Whether no byte stands at a gate's place, or that of an open gate.
+/// Whether no byte is at a gate's place, or that of an open gate.
 fn must_close<D: Disk>(disk: &mut D, side: u32, gate: u64) -> Result<bool, StoreFault>
     requires open { IsTrue (D.view disk.old).is_open }
     requires side { side < 2 }
@@ -65,7 +65,7 @@ fn set_gate<D: Disk>(disk: &mut D, side: u32, gate: u64, byte: u8) -> Result<(),
     Ok(())
 }
 
-/// Writes the part and the next gate behind a closed one, and syncs them.
+/// Writes the part and the next gate after a closed one, and syncs them.
 fn fill<D: Disk>(disk: &mut D, work: &Prepared) -> Result<(), StoreFault>
     requires open { IsTrue (D.view disk.old).is_open }
     requires side { work.now.side < 2 }

@@ -25,9 +25,9 @@ pub struct Db {
     pub generation: u64,
     /// The side that has it; None where nothing is stored.
     pub side: Option<u32>,
-    /// The number of run records behind the snapshot.
+    /// The number of run records after the snapshot.
     pub records: u64,
-    /// The place of the first closed gate behind them.
+    /// The place of the first closed gate after them.
     pub slot: u64,
     ghost numbered: { generation ≤ LIMIT },
 }
@@ -51,7 +51,7 @@ impl Db {
         }
     }
 
-    /// The database of the snapshot on a side, before the records behind it.
+    /// The database of the snapshot on a side, before the records after it.
     pub(crate) fn of_first(side: u32, first: FirstPart) -> Db
         ensures { db_value result ≡ of_snapshot side first.next (snapshot_value first.snapshot) }
     {

@@ -3,7 +3,7 @@ ghost use Rattle.ga_base.specs.declared.counts.TheConstants.{LIMIT};
 
 use ga_codec::{Delta, Snapshot};
 
-/// The snapshot at the start of a side, and the place of the gate behind it.
+/// The snapshot at the start of a side, and the place of the gate after it.
 #[derive(Debug, Drop)]
 pub(crate) struct FirstPart {
     pub(crate) snapshot: Snapshot,
@@ -11,7 +11,7 @@ pub(crate) struct FirstPart {
     ghost numbered: { snapshot.generation ≤ LIMIT },
 }
 
-/// A run record on a side, and the place of the gate behind it.
+/// A run record on a side, and the place of the gate after it.
 #[derive(Debug, Drop)]
 pub(crate) struct RecordPart {
     pub(crate) delta: Delta,

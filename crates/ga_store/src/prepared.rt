@@ -15,7 +15,7 @@ use sha2::{Digest, Sha256};
 use std::alloc::Global;
 use std::marker::Model;
 
-/// How many run records a side has room for behind its snapshot.
+/// How many run records a side has room for after its snapshot.
 const MOST_RECORDS: u64 = 64;
 
 /// The work of one run, ready to be written without memory.
@@ -25,9 +25,9 @@ pub struct Prepared {
     side: u32,
     /// The place of the gate there.
     gate: u64,
-    /// What is written behind it: a part, and a closed gate.
+    /// What is written after it: a part, and a closed gate.
     tail: Bytes,
-    /// Whether it is a new generation, behind which the side ends.
+    /// Whether it is a new generation, after which the side ends.
     is_new: bool,
 }
 
@@ -92,7 +92,7 @@ fn summary_is_sound(summary: &Summary)
     summary.totals();
 }
 
-/// A run record behind the last one.
+/// A run record after the last one.
 fn record(
     alloc: Global,
     db: &Db,
@@ -177,7 +177,7 @@ fn other_side(side: Option<u32>) -> u32
     }
 }
 
-/// A part with this body, and a closed gate behind it.
+/// A part with this body, and a closed gate after it.
 fn closed_part(alloc: Global, body: &[u8]) -> Result<Bytes, NoMemory>
     ensures part { IfOk result (λ tail. tail ≡ closed_part body.now) }
     ensures size { length body.now < 2 ^ 64 }
@@ -205,7 +205,7 @@ impl Prepared {
         self.gate
     }
 
-    /// What is written behind it: a part, and a closed gate.
+    /// What is written after it: a part, and a closed gate.
     pub fn tail(&self) -> &[u8]
         ensures { result.now ≡ self.now.tail }
     {

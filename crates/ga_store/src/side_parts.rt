@@ -7,17 +7,17 @@ use sha2::{Digest, Sha256};
 /// The byte of an open gate.
 pub(crate) const OPEN: u8 = 0x4f;
 
-/// The number of bytes of a part beside its body: the length in front, and the digest behind.
+/// The number of bytes of a part beside its body: the length in front, and the digest after.
 pub(crate) const FRAME: usize = 40;
 
-/// Whether the gate at a place of a side is open: its byte says so, and the side goes on behind it.
+/// Whether the gate at a place of a side is open: its byte says so, and the side goes on after it.
 pub(crate) fn is_open(side: &[u8], at: usize) -> bool
     ensures { result ≡ is_open_at side.now at }
 {
     at < side.len() && at + 1 < side.len() && side[at] == OPEN
 }
 
-/// The body of the part that stands at a place of a side, where one does.
+/// The body of the part that is at a place of a side, where one does.
 pub(crate) fn body_at(side: &[u8], at: usize) -> Option<&[u8]>
     requires { at ≤ length side.now }
     ensures some { IfSome result (λ body. IsPartAt side.now at body.now) }
@@ -28,7 +28,7 @@ pub(crate) fn body_at(side: &[u8], at: usize) -> Option<&[u8]>
     digested_body(rest, u64::from_be_bytes(*size))
 }
 
-/// The first `size` bytes, where their digest stands behind them.
+/// The first `size` bytes, where their digest follows them.
 fn digested_body(bytes: &[u8], size: u64) -> Option<&[u8]>
     ensures some { IfSome result (λ body. (length body.now ≡ size) × StandsAt bytes.now 0 (body.now ++ sha256 body.now)) }
     ensures none { IfNone result ((body : List ℕ) → length body ≡ size → StandsAt bytes.now 0 (body ++ sha256 body) → ⊥) }

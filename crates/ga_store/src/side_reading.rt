@@ -74,7 +74,7 @@ fn read_first(alloc: Global, number: u32, side: &[u8]) -> Result<Option<FirstPar
     }
 }
 
-/// Takes the records behind the snapshot of a side with this number, up to the first closed gate.
+/// Takes the records after the snapshot of a side with this number, up to the first closed gate.
 fn read_on(alloc: Global, number: u32, side: &[u8], first: FirstPart) -> Result<Db, StoreFault>
     ensures { Answers (ReadsOn number side.now (of_snapshot number first.next (snapshot_value first.snapshot))) result }
 {
@@ -85,7 +85,7 @@ fn read_on(alloc: Global, number: u32, side: &[u8], first: FirstPart) -> Result<
     Ok(db)
 }
 
-/// Takes the record behind the open gate at the slot.
+/// Takes the record after the open gate at the slot.
 fn take_record(alloc: Global, number: u32, side: &[u8], db: &mut Db) -> Result<(), StoreFault>
     requires open { is_open_at side.now db.old.slot ≡ true }
     requires few { db.old.records ≤ db.old.slot }
@@ -107,7 +107,7 @@ fn take_record(alloc: Global, number: u32, side: &[u8], db: &mut Db) -> Result<(
     }
 }
 
-/// The run record behind the open gate at a place of a side with this number.
+/// The run record after the open gate at a place of a side with this number.
 fn read_record(alloc: Global, number: u32, side: &[u8], slot: u64) -> Result<RecordPart, StoreFault>
     requires { is_open_at side.now slot ≡ true }
     ensures record { AnswersRecord number side.now slot result }

@@ -47,7 +47,7 @@ const THREE_ROWS: &[u8] = b"\
     \x18\x19\x1a\x1b\x1c\x1d\x1e\x1f\x00\x00\x00\x00\x00\x00\x00\xc8\
 ";
 
-/// Whether what these bytes spell is a snapshot of this generation with so many keys, and is spelled so.
+/// Whether what these bytes spell is a snapshot of this generation with this many keys, and is spelled so.
 fn spells(alloc: Global, bytes: &[u8], generation: u64, keys: u64) -> Result<bool, CodecFault> {
     let snapshot = read_snapshot(alloc, bytes)?;
     if snapshot.generation != generation || snapshot.summary.len() != keys {

@@ -41,7 +41,7 @@ fn store<D: Disk>(alloc: Global, disk: &mut D, mode: Mode) -> Result<(), StoreFa
     commit(disk, work)
 }
 
-/// A disk after a first run and so many more.
+/// A disk after a first run and this many more.
 fn disk_after(alloc: Global, more: u32) -> Result<MemDisk, Fail>
     ensures { IfOk result (λ disk. IsTrue (disk_view disk).is_open) }
 {
@@ -54,7 +54,7 @@ fn disk_after(alloc: Global, more: u32) -> Result<MemDisk, Fail>
     Ok(disk)
 }
 
-/// How many runs come after the first, and the two sides then, by the letters of `recovery`: 64 runs are records behind the first
+/// How many runs come after the first, and the two sides then, by the letters of `recovery`: 64 runs are records after the first
 /// generation, and the next begins another on the other side.
 const RUNS: [(u32, &str, &str); 4] = [
     (0, "F", ""),
@@ -71,7 +71,7 @@ const RUNS: [(u32, &str, &str); 4] = [
     ),
 ];
 
-/// Whether the sides are these after so many runs.
+/// Whether the sides are these after this many runs.
 fn writes(alloc: Global, more: u32, side0: &str, side1: &str) -> Result<bool, Fail> {
     let disk = disk_after(alloc, more)?;
     Ok(
@@ -127,7 +127,7 @@ struct Run {
     new: (u64, u64),
 }
 
-/// Whether a run is stored though its disk fails after so many calls. A crash by a pick leaves the new numbers then, and else the old
+/// Whether a run is stored though its disk fails after this many calls. A crash by a pick leaves the new numbers then, and else the old
 /// ones or the new ones.
 fn is_stored(alloc: Global, run: &Run, calls: u64, pick: u8) -> Result<bool, Fail> {
     let mut disk = disk_of(alloc, run.sides)?;

@@ -3,7 +3,7 @@ use ga_disk::{Disk, MemDisk};
 use ga_ports::Failed;
 use std::test::Fail;
 
-/// Syncs three bytes on side 0, and then writes two behind them and one on side 1, which stay unsynced.
+/// Syncs three bytes on side 0, and then writes two after them and one on side 1, which stay unsynced.
 fn write_some(disk: &mut MemDisk, path: &Text) -> Result<(), Failed> {
     disk.open(path)?;
     disk.write_at(0, 0, b"abc")?;

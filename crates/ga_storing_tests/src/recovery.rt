@@ -127,7 +127,7 @@ MA - => side 0 damaged at 115
 MRA - => side 0 damaged at 221
 ";
 
-/// The bytes that a letter stands for.
+/// The bytes that a letter represents.
 fn piece(letter: char) -> &'static [u8] {
     match letter {
         'F' => FIRST,
@@ -142,7 +142,7 @@ fn piece(letter: char) -> &'static [u8] {
     }
 }
 
-/// The side that letters stand for.
+/// The side that letters represent.
 pub fn side_of(alloc: Global, text: &str) -> Result<Vec<u8>, Fail> {
     let (letters, change) = text.split_once('@').unwrap_or((text, ""));
     let mut side = Vec::new(alloc);

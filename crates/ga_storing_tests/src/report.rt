@@ -3,7 +3,7 @@ use ga_report::hundredths;
 use std::alloc::Global;
 use std::test::Fail;
 
-/// Numbers with a bar and a whole behind each, and the share in hundredths of a percent.
+/// Numbers with a bar and a whole after each, and the share in hundredths of a percent.
 const SHARES: &str = "\
 ## shares are rounded to the nearest
 1|3 => 3333

@@ -60,7 +60,7 @@ IsSumOf-append xs ys a b s x y m = record {
   ordered = m.ordered;
 }
 
--- a sum may stand for another sum of the same outcomes
+-- a sum may represent another sum of the same outcomes
 pub IsMerged-same : (xs : List Outcome) (a b c s : SummaryValue) → IsSumOf xs b → IsSumOf xs c → IsMerged a b s → IsMerged a c s
 IsMerged-same xs a b c s x y m = record {
   totals = m.totals ∙ ap (λ (t : Totals). totals_plus a.totals t) (x.totals ∙ sym y.totals);

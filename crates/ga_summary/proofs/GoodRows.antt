@@ -1,4 +1,4 @@
--- Rows that are good, with one more behind them: when all are good.
+-- Rows that are good, with one more after them: when all are good.
 use Rattle.std.proofs.Common.{◌≡◌, ℕ, zero, suc, ◌<◌, ◌≤◌, Bool, true, false, cond, ◌&&◌, ◌||◌, ◌==◌, List, [], ◌∷◌, ◌++◌, Option, Some, None, Less, is_some, length, get_or, refl, sym, ap, ◌∙◌, subst, eq-eqb, eqb→eq, T, append-nil, arith}
 use Rattle.std.specs.Ordering.{is_eq, ordering_reverse}
 use Rattle.std.specs.Option.{option_or}

@@ -22,6 +22,8 @@ pub mod Faults
 pub mod Appends
 pub mod OneLine
 pub mod Unique
+pub mod SomeSum
+pub mod DatedSums
 pub mod SoundSums
 pub mod NamePass
 pub mod RowPass

@@ -14,7 +14,7 @@ pub map-same : {A : Type 0} (xs : List A) → map (λ x. x) xs ≡ xs
 map-same [] = refl
 map-same (x ∷ xs) = ap (λ (l : List _). x ∷ l) (map-same xs)
 
--- what stands at a place, put there again
+-- what is at a place, put there again
 pub set-same : {A : Type 0} (xs : List A) (i : ℕ) (d : A) → i < length xs → set xs i (get_or xs i d) ≡ xs
 set-same [] i d lt = refl
 set-same (x ∷ xs) zero d lt = refl

@@ -43,7 +43,7 @@ names_drop n names s = names_sorted (drop n names) (rises_drop name_cmp (λ n. n
 apart : (low high : Name) → name_cmp low high ≡ Less → is_eq (name_cmp high low) ≡ false
 apart low high less = ap is_eq (name_cmp_total.antisymm high low ∙ ap ordering_reverse less)
 
--- a name above the one that stands at a place is to be found behind it
+-- a name above the one that is at a place is to be found after it
 pub found_behind : (names : List Name) (i : ℕ) (name other : Name) → StandsAt name_cmp (λ n. n) name names i → name_cmp name other ≡ Less → has_name (drop (suc i) names) other ≡ has_name names other
 found_behind [] i name other stands less = refl
 found_behind (n ∷ names) zero name other stands less =
@@ -53,7 +53,7 @@ found_behind (n ∷ names) (suc i) name other stands less =
     let below : name_cmp n name ≡ Less = name_cmp_total.antisymm n name ∙ ap ordering_reverse (stands.before 0 name (omega arith)) in
     rw (apart n other (name_cmp_total.trans n name other below less)) (found_behind names i name other (stands_tail name_cmp name_cmp_total (λ n. n) name n names i stands) less)
 
--- what stands behind a name that is found
+-- what follows a name that is found
 pub behind_found : (names : List Name) → IsStrictlySortedBy name_cmp names → (name : Name) (i m : ℕ) → StandsAt name_cmp (λ n. n) name names i → length names - (i + 1) ≤ m → IsBehind names name (take m (drop (i + 1) names))
 behind_found names s name i m stands enough =
     let rest : take m (drop (suc i) names) ≡ drop (suc i) names = take_all m (drop (suc i) names) (omega (arith, length-drop (suc i) names)) in

@@ -20,6 +20,7 @@ use Rattle.ga_base.specs.Orders.{key_cmp, name_cmp, is_same_key, name_of}
 use Rattle.ga_summary.specs.Outcomes.{Hit, Counted, has_key, is_by, greatest_time, sums_of, has_visit}
 use Rattle.ga_summary.specs.SummaryRows.{SummaryRow, IsInOrder, row_at, sums_at, names_at, has_name, has_pair, no_sums}
 use Rattle.ga_summary.specs.OneLine.{names_of, line_sums, line_row, line_value}
+use Rattle.ga_summary.specs.Dated.{IsDated}
 use Rattle.ga_summary.specs.Sums.{IsSumOf}
 use Rattle.ga_base.specs.Layers.{HasForm}
 use Rattle.ga_summary.specs.Sound.{IsSummary, IsCountable, HasRow, layer_rows, day_rows, SumsWithin}
@@ -105,10 +106,10 @@ module _ (hit : Hit) where
           or_true false = refl
 
   -- the sum of one counted line
-  pairs-line : (date : ℕ) → IsCountable date hit → (key : Key) (visitor : Visitor) → has_pair (line_value hit).rows key visitor ≡ has_visit key visitor (Counted hit ∷ [])
-  pairs-line date can key visitor =
+  pairs-line : IsDated hit → (key : Key) (visitor : Visitor) → has_pair (line_value hit).rows key visitor ≡ has_visit key visitor (Counted hit ∷ [])
+  pairs-line dated key visitor =
       ap (λ (names : List Name). (visitor.date == key.date) && has_name names (name_of visitor)) (names_at-line key)
-      ∙ split (has_key key hit) hit.visitor (λ has. at_key (λ (k : Key). k.date ≡ date) can.dated key has) can.visitor
+      ∙ split (has_key key hit) hit.visitor (λ has. dated key has)
     where
       either : (b v : Bool) → (b && (v || false)) ≡ ((b && v) || false)
       either true v = refl
@@ -121,13 +122,13 @@ module _ (hit : Hit) where
       none true = refl
       none false = refl
 
-      split : (b : Bool) (v : Option Visitor) → (b ≡ true → key.date ≡ date) → ForSome v (λ w. w.date ≡ date)
+      split : (b : Bool) (v : Option Visitor) → (b ≡ true → ForSome v (λ w. w.date ≡ key.date))
           → ((visitor.date == key.date) && has_name (cond b (names_of v) []) (name_of visitor)) ≡ list_any (λ (h : Hit). is_by visitor h.visitor) (cond b (record hit { visitor = v } ∷ []) [])
-      split false v p q = none _
-      split true None p q = none _
-      split true (Some w) p q = same_day key.date w.date _ (p refl ∙ sym (q w refl))
+      split false v p = none _
+      split true None p = none _
+      split true (Some w) p = same_day key.date w.date _ (sym (p refl w refl))
 
-  sums_of-line : (key : Key) → sums_of key (Counted hit ∷ []) ≡ cond (has_key key hit) (line_sums hit.bytes hit.micros) no_sums
+  pub sums_of-line : (key : Key) → sums_of key (Counted hit ∷ []) ≡ cond (has_key key hit) (line_sums hit.bytes hit.micros) no_sums
   sums_of-line key = split (has_key key hit)
     where
       weigh : List Hit → Sums
@@ -144,11 +145,12 @@ module _ (hit : Hit) where
       split true = refl
       split false = refl
 
-  module _ (date : ℕ) (can : IsCountable date hit) where
+  -- a line whose keys rise and are of its visitor's day
+  module _ (rising : IsStrictlySortedBy key_cmp hit.keys) (dated : IsDated hit) where
     -- the rows are in order
     ordered-line : IsInOrder (line_value hit).rows
     ordered-line = record {
-      keys = subst (IsStrictlySortedBy key_cmp) (sym (keys-line hit.keys)) can.rising;
+      keys = subst (IsStrictlySortedBy key_cmp) (sym (keys-line hit.keys)) rising;
       names = All-from_recursion _ _ (all_names hit.keys);
     }
       where
@@ -160,14 +162,21 @@ module _ (hit : Hit) where
         all_names [] = tt
         all_names (key ∷ keys) = (one_name hit.visitor, all_names keys)
 
-    pub IsSumOf-line : IsSumOf (Counted hit ∷ []) (line_value hit)
-    IsSumOf-line = record {
+    pub rising-sum : IsSumOf (Counted hit ∷ []) (line_value hit)
+    rising-sum = record {
       totals = same_totals _ _ refl refl refl refl (omega arith) (omega arith);
       sums = λ key. sums_at-line key ∙ sym (sums_of-line key);
-      pairs = pairs-line date can;
+      pairs = pairs-line dated;
       present = λ key. present-line key ∙ present_is key;
       ordered = ordered-line;
     }
+
+  module _ (date : ℕ) (can : IsCountable date hit) where
+    of_its_day : IsDated hit
+    of_its_day key has w is = can.visitor w is ∙ sym (at_key (λ (k : Key). k.date ≡ date) can.dated key has)
+
+    pub IsSumOf-line : IsSumOf (Counted hit ∷ []) (line_value hit)
+    IsSumOf-line = rising-sum can.rising of_its_day
 
     has_key_of : (key : Key) → HasRow (line_value hit).rows key → has_key key hit ≡ true
     has_key_of key has = sym (present-line key) ∙ has
@@ -185,7 +194,7 @@ module _ (hit : Hit) where
     day_sums : sums_at (line_value hit).rows (day_key date) ≡ line_sums hit.bytes hit.micros
     day_sums = rw (sums_at-line (day_key date), has_contained (day_key date) can.day)
 
-    -- a sum over rows whose keys all stand in one layer is at most one line's
+    -- a sum over rows whose keys all are in one layer is at most one line's
     in_one_layer : (f : SummaryRow → ℕ) (m : ℕ) → ((key : Key) → f (line_row (line_sums hit.bytes hit.micros) hit.visitor key) ≡ m) → (test : Key → Bool) (layer : Layer) → All (λ key. test key ≡ true → in_layer layer key ≡ true) hit.keys → sum_by f (filter (λ (row : SummaryRow). test row.key) (line_value hit).rows) ≤ m
     in_one_layer f m each test layer within =
         rw (sum_by-filter f (λ (row : SummaryRow). test row.key) (line_value hit).rows)
@@ -261,7 +270,7 @@ module _ (hit : Hit) where
 
     pub IsSummary-line : IsSummary (line_value hit)
     IsSummary-line = record {
-      ordered = ordered-line;
+      ordered = ordered-line can.rising of_its_day;
       sound = record {
         rows = record {
           form = λ key has. at_key HasForm can.formed key (has_key_of key has);

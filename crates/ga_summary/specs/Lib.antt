@@ -2,6 +2,7 @@ pub mod SummaryRows
 pub mod Faults
 pub mod Outcomes
 pub mod Sums
+pub mod Dated
 pub mod Sound
 pub mod SummaryParts
 pub mod Limits

@@ -79,6 +79,6 @@ totals_of outcomes = let hits = hits_of outcomes in
       micros = sum_by (λ hit. hit.micros) hits;
     }
 
--- so many failed lines, and then so many excluded ones
+-- this many failed lines, and then this many excluded ones
 abbrev pub lines_of : ℕ → ℕ → List Outcome
 lines_of failed excluded = replicate failed Failed ++ replicate excluded Excluded

@@ -22,7 +22,7 @@ pub(crate) struct Entry {
     pub(crate) work: Vec<Name>,
 }
 
-/// So many names are put in their places one by one; more come in by one pass over all.
+/// This many names are put in their places one by one; more come in by one pass over all.
 const FEW_NAMES: usize = 8;
 
 impl Entry {

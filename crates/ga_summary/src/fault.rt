@@ -12,7 +12,7 @@ use std::fmt;
 pub enum MergeFault {
     /// The counter would pass `LIMIT`: it would have this value.
     CounterFull { which: Counter, total: u128 },
-    /// Want of memory.
+    /// Out of memory.
     NoMemory,
 }
 

@@ -3,7 +3,8 @@
 ghost use Rattle.std.specs.Prelude.{◌≡◌, ℕ, List, ◌++◌};
 ghost use Rattle.ga_summary.specs.Outcomes.{Outcome, totals_of};
 ghost use Rattle.ga_summary.specs.SummaryParts.{IsFirstBad};
-ghost use Rattle.ga_summary.specs.SummaryRows.{SummaryValue};
+ghost use Rattle.ga_summary.specs.Dated.{AllDated};
+ghost use Rattle.ga_summary.specs.SummaryRows.{IsInOrder, SummaryValue};
 ghost use Rattle.ga_summary.specs.Sound.{IsSound, IsSummary, AllCountable};
 ghost use Rattle.ga_base.specs.Totals.{TotalsFit};
 ghost use Rattle.ga_summary.specs.Sums.{IsSumOf, IsMerged};
@@ -21,6 +22,21 @@ pub fn one_sum()
 /// Two summaries come to one when they are merged.
 pub fn one_merged()
     ensures { (a b s t : SummaryValue) → IsMerged a b s → IsMerged a b t → s ≡ t }
+{}
+
+/// A list of outcomes has a sum, where each visitor is of the day of the keys that it is counted under.
+pub fn some_sum()
+    ensures { (xs : List Outcome) → AllDated xs → (s : SummaryValue) × IsSumOf xs s }
+{}
+
+/// Only such a list has one: the visitors of outcomes that have a sum are of the day of their keys.
+pub fn only_dated_sums()
+    ensures { (xs : List Outcome) (s : SummaryValue) → IsSumOf xs s → AllDated xs }
+{}
+
+/// Two summaries that are in order can be merged.
+pub fn some_merged()
+    ensures { (a b : SummaryValue) → IsInOrder a.rows → IsInOrder b.rows → (s : SummaryValue) × IsMerged a b s }
 {}
 
 /// A value is a summary, or it breaks first at one place.

@@ -7,7 +7,7 @@ use crate::order::same_panel;
 use ga_base::{Key, Panel};
 
 /// What the two layers of a panel on a day sum to, in the rows passed so far, which rise. Of panels and days that lie
-/// behind nothing is kept.
+/// after nothing is kept.
 #[derive(Clone, Copy, Debug)]
 pub(crate) struct LayerSums {
     panel: Panel,

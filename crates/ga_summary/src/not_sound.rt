@@ -13,7 +13,7 @@ pub enum NotSound {
     /// With the row at this place, from 0, the rows are no longer in order and sound; or this is the number of rows,
     /// which are, and the totals don't go with them.
     NotSound { at: u64 },
-    /// Want of memory.
+    /// Out of memory.
     NoMemory,
 }
 

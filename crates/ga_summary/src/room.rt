@@ -9,7 +9,7 @@ use crate::entries::find;
 use crate::entry::Entry;
 use ga_base::NoMemory;
 
-/// So many entries are put in their places one by one; more come in by one pass over all.
+/// This many entries are put in their places one by one; more come in by one pass over all.
 const FEW_ENTRIES: usize = 32;
 
 /// Reserves room for an entry's names at the entry of its key, if it is there.

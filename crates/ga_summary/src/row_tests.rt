@@ -110,7 +110,7 @@ pub(crate) fn key_rises(rows: &[PartRow], at: usize) -> bool
     at == 0 || compare_keys(&rows[at - 1].key, &rows[at].key).is_lt()
 }
 
-/// The names behind a name among names that rise, or None where it isn't there.
+/// The names after a name among names that rise, or None where it isn't there.
 fn behind<'a>(names: &'a [Name], name: &Name) -> Option<&'a [Name]>
     requires { IsStrictlySortedBy name_cmp names.now }
     ensures { MatchOption result (has_name names.now name.now ≡ false) (λ rest. IsBehind names.now name.now rest.now) }
@@ -121,7 +121,7 @@ fn behind<'a>(names: &'a [Name], name: &Name) -> Option<&'a [Name]>
     }
 }
 
-/// Whether each of the names is among the others, where both rise. Each is searched behind the one found last.
+/// Whether each of the names is among the others, where both rise. Each is searched after the one found last.
 pub(crate) fn all_among(names: &[Name], among: &[Name]) -> bool
     requires rising { IsStrictlySortedBy name_cmp names.now }
     requires rising_among { IsStrictlySortedBy name_cmp among.now }

@@ -82,7 +82,7 @@ impl Summary {
 
     /// The summary that has these parts, which has to be sound, with rows and names that rise.
     ///
-    /// It takes the time of one sorting pass over the rows. Want of memory comes of good parts alone.
+    /// It takes the time of one sorting pass over the rows. Lack of memory comes of good parts alone.
     pub fn from_parts(parts: SummaryParts) -> Result<Summary, NotSound>
         ensures ok { IfOk result (λ s. s ≡ value_of parts) }
 

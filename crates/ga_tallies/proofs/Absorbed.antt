@@ -61,7 +61,7 @@ module _ (other old new : TallySeen) (takes : TakesParts other old new) (fit : T
   abbrev visitor-numbers : List ℕ
   visitor-numbers = places_of is_same_visitor old.visitors other.visitors
 
-  -- what has a number in the other stands at the number that it got
+  -- what has a number in the other is at the number that it got
   key-placed : (k n : ℕ) (x : Key) → slice_get other.keys k ≡ Some x → slice_get key-numbers k ≡ Some n → slice_get new.keys n ≡ Some x
   key-placed k n x e p = subst (λ (l : List Key). slice_get l n ≡ Some x) (sym takes.keys) (placed is_same_key same-key other.keys old.keys k n x e p)
 

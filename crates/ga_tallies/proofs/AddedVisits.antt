@@ -14,7 +14,7 @@ use Rattle.ga_tallies.specs.Tallies.{lists_in, pairs_from, row_pairs}
 use Rattle.ga_tallies.proofs.PairLists.{at-row, both-numbers, lists-set}
 use Rattle.ga_tallies.proofs.PairRows.{contains-map, from-map, in-rows, of-row, row_at}
 
--- what is lent of a list at a place is what stands there
+-- what is lent of a list at a place is what is there
 pub lent-there : {T : Type 0} (xs : List T) (i : ℕ) (lent : Option (Bor T)) (x : Bor T) → IsItemAt xs i lent → lent ≡ Some x → slice_get xs i ≡ Some x.now
 lent-there xs i lent x at is =
     let here : (i < length xs) × ((d : _) → x.now ≡ get_or xs i d) = subst (λ (o : Option (Bor _)). MatchOption o (length xs ≤ i) (λ y. (i < length xs) × ((d : _) → y.now ≡ get_or xs i d))) is at.3 in
@@ -216,7 +216,7 @@ no-rows keys visitors s many old = adds-none (IsAmong s many (IsMapped keys visi
 
 -- ---- parts
 
--- what came to the pairs of some keys and to those of the keys behind them came to the pairs of all
+-- what came to the pairs of some keys and to those of the keys after them came to the pairs of all
 pub among-both : (P : ℕ × ℕ → Type 0) (s m n : ℕ) (a more b others : List (ℕ × ℕ)) → AddsSuch (IsAmong s m P) a more → AddsSuch (IsAmong (s + m) n P) b others
     → AddsSuch (IsAmong s (m + n) P) (a ++ b) (more ++ others)
 among-both P s m n a more b others one two = record {

@@ -102,7 +102,7 @@ module _ (keys visitors : List ℕ) where
       later : IsMapped keys visitors pairs p → IsMapped keys visitors (pair ∷ pairs) p
       later is = (is.0, is.1, is.2, is.3, Contains-append_right (pair ∷ []) pairs (is.0, is.1) is.4, is.5, is.6, is.7)
 
-  -- they came, put behind those that were there
+  -- they came, put after those that were there
   came-behind : (pairs old : List (ℕ × ℕ)) → AddsSuch (IsMapped keys visitors pairs) old (old ++ came keys visitors pairs)
   came-behind pairs old = record {
     kept = λ p at. Contains-append_left old (came keys visitors pairs) p at;

@@ -1,4 +1,4 @@
--- Pairs that came to the rows of some keys and to those of the keys behind them.
+-- Pairs that came to the rows of some keys and to those of the keys after them.
 use Rattle.std.proofs.Common.{◌≡◌, ◌<◌, ℕ, ◌+◌, ⊎_elim, inl, inr, List, ◌++◌, length, Ok, Err, OnOk, refl, sym, ap, ◌∙◌, subst, arith}
 use Rattle.std.proofs.lemmas.List.{length-append, length-map, map-append}
 use Rattle.std.specs.Prelude.{Result}
@@ -19,7 +19,7 @@ pairs-both s low high =
     ap (pairs_from s) (map-append (λ (r : SmallVec ℕ). r.items) low high) ∙ pairs-append s (lists_in low) (lists_in high)
     ∙ ap (λ n. pairs_from s (lists_in low) ++ pairs_from (s + n) (lists_in high)) (length-map low (λ (r : SmallVec ℕ). r.items))
 
--- so many rows are those of the first keys
+-- this many rows are those of the first keys
 pub parts-added : (P : ℕ × ℕ → Type 0) (s many : ℕ) (rows low high more others : List (SmallVec ℕ)) → rows ≡ low ++ high → length low ≡ many → length more ≡ length low
     → AddsSuch (IsAmong s (length low) P) (pairs_from s (lists_in low)) (pairs_from s (lists_in more))
     → AddsSuch (IsAmong (s + many) (length high) P) (pairs_from (s + many) (lists_in high)) (pairs_from (s + many) (lists_in others))

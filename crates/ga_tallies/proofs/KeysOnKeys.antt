@@ -1,4 +1,4 @@
--- Keys that are noted behind others.
+-- Keys that are noted after others.
 use Rattle.std.proofs.Common.{◌≡◌, ℕ, ◌+◌, ◌<◌, List, [], ◌∷◌, ◌++◌, Option, ap, sym, ◌∙◌, length, take, get_or, subst}
 use Rattle.std.specs.Prelude.{flat_map}
 use Rattle.std.proofs.lemmas.List.{flat_map_more, take_more}

@@ -36,7 +36,7 @@ one-added old mid x same = record {
   only = λ y at. ⊎_elim (λ there. inl (same.only y there)) (λ it. inr it) (Contains-push_cases mid x y at);
 }
 
--- what stands there comes to no others
+-- what is there comes to no others
 pub already-there : {T : Type 0} (old : List T) (x : T) → Contains old x → AddsOne x old old
 already-there old x at = record { kept = λ y there. there; there = at; only = λ y there. inl there }
 
@@ -156,7 +156,7 @@ written-added rows k v row new within is adds =
 
 -- ---- the pairs of one row more
 
--- the pairs of some rows, and those of the rows behind them
+-- the pairs of some rows, and those of the rows after them
 pub pairs-append : (s : ℕ) (rows more : List (List ℕ)) → pairs_from s (rows ++ more) ≡ pairs_from s rows ++ pairs_from (s + length rows) more
 pairs-append s [] more = let is : s ≡ s + 0 = omega arith in ap (λ n. pairs_from n more) is
 pairs-append s (row ∷ rows) more =

@@ -15,7 +15,7 @@ from-map f (z ∷ xs) y (k, lt, e) =
     let within : k < length (z ∷ xs) = omega arith in
     (get_or (z ∷ xs) k z, Contains-get_or (z ∷ xs) k z within, sym (get_or-map f (z ∷ xs) k z y within) ∙ e)
 
--- the row of a key, and none behind the last
+-- the row of a key, and none after the last
 abbrev pub row_at : List (List ℕ) → ℕ → List ℕ
 row_at rows k = get_or rows k []
 
@@ -47,14 +47,14 @@ in-rows s (suc i) (row ∷ rows) v at =
     let is : (s + 1) + i ≡ s + suc i = omega arith in
     subst (λ n. Contains (pairs_from s (row ∷ rows)) (n, v)) is there
 
--- a pair that is there stands in its key's row
+-- a pair that is there is in its key's row
 pub row-of-pair : (rows : List (List ℕ)) (k v : ℕ) → Contains (pairs_in rows) (k, v) → Contains (row_at rows k) v
 row-of-pair rows k v at =
     let from = of-row 0 rows k v at in
     let is : from.0 ≡ k = omega (arith, from.1) in
     subst (λ i. Contains (row_at rows i) v) is from.2
 
--- and what stands in a key's row is a pair that is there
+-- and what is in a key's row is a pair that is there
 pub pair-of-row : (rows : List (List ℕ)) (k v : ℕ) → Contains (row_at rows k) v → Contains (pairs_in rows) (k, v)
 pair-of-row rows k v at =
     let is : 0 + k ≡ k = omega arith in

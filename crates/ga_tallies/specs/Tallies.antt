@@ -75,14 +75,14 @@ seen_in parts = record {
   pairs = pairs_in (lists_in parts.visits.items);
 }
 
--- a tally took in these lines, behind the outcomes that it was of
+-- a tally took in these lines, after the outcomes that it was of
 pub record TakesIn (setup : Setup) (all : List (List ℕ)) (old new : TallySeen) : Type 0 where
   pub outcomes : List Outcome
   pub have_outcomes : HaveOutcomes setup all outcomes
   pub countable : AllCountable outcomes
   pub tally : (before : List Outcome) → IsTallyOf before old → IsTallyOf (before ++ outcomes) new
 
--- these lines, up to one of them, have totals behind those of earlier outcomes that don't fit
+-- these lines, up to one of them, have totals after those of earlier outcomes that don't fit
 pub record PassesLimit (setup : Setup) (before : List Outcome) (all : List (List ℕ)) : Type 0 where
   pub front : List (List ℕ)
   pub back : List (List ℕ)
@@ -91,7 +91,7 @@ pub record PassesLimit (setup : Setup) (before : List Outcome) (all : List (List
   pub have_outcomes : HaveOutcomes setup front outcomes
   pub full : ¬ TotalsFit (totals_of (before ++ outcomes))
 
--- whatever the tally is of, these lines behind it are too much
+-- whatever the tally is of, these lines after it are too much
 abbrev pub Overfills : Setup → List (List ℕ) → TallySeen → Type 0
 Overfills setup all old = (before : List Outcome) → IsTallyOf before old → PassesLimit setup before all
 

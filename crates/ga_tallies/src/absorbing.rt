@@ -17,7 +17,7 @@ use std::alloc::Global;
 use std::thread::{self, Threads};
 
 impl Tally {
-    /// This tally with what others have counted, one behind the other, whose numbers are their own. Keys and visitors are noted
+    /// This tally with what others have counted, one after the other, whose numbers are their own. Keys and visitors are noted
     /// side by side, and then sums and pairs are added side by side.
     pub fn with<R: Threads + Sync>(
         self,
@@ -94,7 +94,7 @@ fn keys_with_rows<R: Threads + Sync>(
     Ok((extended, pairs.with_rows(many)?))
 }
 
-/// Adds what others have counted to the sums and pairs of so many keys, one after the other. What one of them has counted is
+/// Adds what others have counted to the sums and pairs of this many keys, one after the other. What one of them has counted is
 /// dropped while the next is added.
 fn add_remapped<R: Threads + Sync>(
     rt: &R,

@@ -11,7 +11,7 @@ use std::alloc::Global;
 use std::marker::Model;
 use std::mem;
 
-/// So many places there are for agents, once the first came.
+/// There are this many places for agents, once the first came.
 const PLACES: usize = 2048;
 
 /// The agent of a line, with the hash of its text.

@@ -8,7 +8,7 @@ use ga_base::NoMemory;
 pub enum TallyFault {
     /// A counter of this tally alone would pass `LIMIT`.
     Full,
-    /// Want of memory.
+    /// Out of memory.
     NoMemory,
 }
 

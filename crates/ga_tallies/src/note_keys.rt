@@ -119,7 +119,7 @@ impl Tally {
     }
 }
 
-/// Adds a line's sums to the row at a place, or puts them behind the rows where none is there yet.
+/// Adds a line's sums to the row at a place, or puts them after the rows where none is there yet.
 pub(crate) fn add_line(rows: &mut Vec<Sums>, place: u32, line: Sums) -> Result<(), NoMemory>
     ensures { OnOk result (rows.new.items ≡ added_at place line rows.old.items) }
 {

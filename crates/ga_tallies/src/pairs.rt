@@ -23,17 +23,17 @@ pub struct Pair {
     pub visitor: u32,
 }
 
-/// So many visitors stand in a row itself, and more of them in memory of their own.
+/// This many visitors are in a row itself, and more of them in memory of their own.
 const IN_PLACE: usize = 4;
 
 /// The visitors of a key, by their numbers. One may stand there more than once. Most keys have few visitors, for which a row
 /// takes no memory of its own.
 pub type VisitorRow = SmallVec<u32, IN_PLACE>;
 
-/// From so many visitors on a row is looked over for those that stand there twice, each time before it grows.
+/// From this many visitors on a row is looked over for those that stand there twice, each time before it grows.
 const FEW_VISITORS: usize = 64;
 
-/// So many places there are for pairs that came lately, once the first came.
+/// This many places there are for pairs that came lately, once the first came.
 const PLACES: usize = 1 << PLACE_BITS;
 
 /// The bits of a place's number.
@@ -45,10 +45,10 @@ const SPREAD: u64 = 0x9e37_79b9_7f4a_7c15;
 /// Pairs that are read as a set. Contracts see the list of them, in which one may stand more than once.
 #[derive(Drop)]
 pub(crate) struct PairList {
-    /// The visitors of each key, at its number. Keys behind the last row have none.
+    /// The visitors of each key, at its number. Keys after the last row have none.
     rows: Vec<VisitorRow>,
-    /// Pairs that came lately, all of which stand in their rows: none before the first came, and then `PLACES` places. What
-    /// stands there isn't added again.
+    /// Pairs that came lately, all of which are in their rows: none before the first came, and then `PLACES` places. What
+    /// is there isn't added again.
     recent: Vec<Option<Pair>>,
 }
 
@@ -103,7 +103,7 @@ impl PairList {
         Ok(())
     }
 
-    /// The same pairs, with a row for each of so many keys.
+    /// The same pairs, with a row for each of this many keys.
     pub(crate) fn with_rows(self, keys: usize) -> Result<PairList, NoMemory>
         ensures { IfOk result (HoldTheSame self) }
     {
@@ -156,7 +156,7 @@ fn put_pair(rows: &mut Vec<VisitorRow>, pair: Pair) -> Result<(), NoMemory>
     add_visitor(&mut rows[key], pair.visitor)
 }
 
-/// Makes rows with nothing in them, until there are so many.
+/// Makes rows with nothing in them, until there are this many.
 fn make_rows(rows: &mut Vec<VisitorRow>, many: usize) -> Result<(), NoMemory>
     ensures there { OnOk result (many ≤ vec_len rows.new) }
     ensures same { HoldTheSame (pairs_in (lists_in rows.old.items)) (pairs_in (lists_in rows.new.items)) }
@@ -177,7 +177,7 @@ fn add_visitor(row: &mut VisitorRow, visitor: u32) -> Result<(), NoMemory>
     push_visitor(row, visitor)
 }
 
-/// Puts a visitor behind a row.
+/// Puts a visitor after a row.
 fn push_visitor(row: &mut VisitorRow, visitor: u32) -> Result<(), NoMemory>
     ensures kept { KeepsAll row.old.items row.new.items }
     ensures added { OnOk result (AddsOne visitor row.old.items row.new.items) }
@@ -207,7 +207,7 @@ fn thin_out(row: &mut VisitorRow)
     }
 }
 
-/// The pairs of rows of visitors, each of which stands at its key's number.
+/// The pairs of rows of visitors, each of which is at its key's number.
 pub fn pairs_of(alloc: Global, rows: &[VisitorRow]) -> Result<Vec<Pair>, NoMemory>
     ensures { IfOk result (λ pairs. map pair_of pairs.items ≡ pairs_in (lists_in rows.now)) }
 {
@@ -222,7 +222,7 @@ pub fn pairs_of(alloc: Global, rows: &[VisitorRow]) -> Result<Vec<Pair>, NoMemor
     Ok(pairs)
 }
 
-/// Puts the pairs of a key's row behind the others.
+/// Puts the pairs of a key's row after the others.
 fn push_row(pairs: &mut Vec<Pair>, key: u32, row: &[u32]) -> Result<(), NoMemory>
     ensures { OnOk result (map pair_of pairs.new.items ≡ map pair_of pairs.old.items ++ row_pairs key row.now) }
 {

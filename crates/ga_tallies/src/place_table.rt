@@ -2,7 +2,7 @@ ghost use Rattle.std.specs.Prelude.{◌≡◌, ◌⊎◌, All, None, Some, slice
 
 use ga_base::NoMemory;
 
-/// Makes so many places with nothing in them, where there are none.
+/// Makes this many places with nothing in them, where there are none.
 pub(crate) fn make_places<T: Drop>(
     places: &mut Vec<Option<T>>,
     count: usize,

@@ -13,7 +13,7 @@ pub struct TallyParts {
     pub visitors: VisitorNumbers,
     /// The sums of each key, at its number.
     pub sums: Vec<Sums>,
-    /// The visitors of each key, by their numbers, at the key's number. Keys behind the last row have none, and a visitor may
-    /// stand in a row more than once.
+    /// The visitors of each key, by their numbers, at the key's number. Keys after the last row have none, and a visitor may
+    /// are in a row more than once.
     pub visits: Vec<VisitorRow>,
 }

@@ -70,7 +70,7 @@ fn add_rows(
     Ok(())
 }
 
-/// The place of a key's row among so many, of which the first is that of the number `first`. There is none where the row is
+/// The place of a key's row among this many, of which the first is that of the number `first`. There is none where the row is
 /// another part's.
 fn place_among(keys: &[u32], key: usize, first: usize, many: usize) -> Option<usize>
     ensures some { IfSome result (λ place. (place < many) × (slice_get keys.now key ≡ Some (first + place))) }

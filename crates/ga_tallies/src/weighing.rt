@@ -4,7 +4,7 @@ use crate::VisitorRow;
 use crate::remapped_tally::RemappedTally;
 use ga_base::NoMemory;
 
-/// So many of the first rows are weighed, and about as many of those behind them, as far from one another as they can be.
+/// This many of the first rows are weighed, and about as many of those after them, as far from one another as they can be.
 const WEIGHED: usize = 2_048;
 
 /// A key, by its number here, and what those weigh for which it stands.
@@ -28,7 +28,7 @@ pub(crate) fn weights_of(remapped: &RemappedTally) -> Result<Vec<Weight>, NoMemo
     Ok(weights)
 }
 
-/// Weighs the keys of another from one place to a second, each that stands a step behind the last for as many.
+/// Weighs the keys of another from one place to a second, each that stands a step after the last for as many.
 fn weigh(
     weights: &mut Vec<Weight>,
     remapped: &RemappedTally,
@@ -53,10 +53,10 @@ fn weigh(
     Ok(())
 }
 
-/// So many parts are made of keys.
+/// This many parts are made of keys.
 const PARTS: usize = 4;
 
-/// How many of so many keys are in each of the parts, which weigh about as much as one another. Nothing but the time that the
+/// How many of this many keys are in each of the parts, which weigh about as much as one another. Nothing but the time that the
 /// parts take depends on it.
 pub(crate) fn parts_by(weights: &[Weight], many: usize) -> [usize; PARTS] {
     let mut lengths = [0; PARTS];
@@ -69,7 +69,7 @@ pub(crate) fn parts_by(weights: &[Weight], many: usize) -> [usize; PARTS] {
     lengths
 }
 
-/// How many of so many keys, from the one with the number `first` on, are in the first of so many parts.
+/// How many of this many keys, from the one with the number `first` on, are in the first of this many parts.
 fn part_by(weights: &[Weight], first: usize, many: usize, parts: usize) -> usize
     requires numbers { first + many < 2 ^ 64 }
     requires some { 0 < parts }
@@ -101,7 +101,7 @@ fn weight_within(weights: &[Weight], first: usize, stop: usize) -> usize {
     weight
 }
 
-/// How many of these rows are in the first of so many parts, which weighs about as much as each of the others. A row weighs what
+/// How many of these rows are in the first of this many parts, which weighs about as much as each of the others. A row weighs what
 /// it has visitors, and one more: keys that came first have far more visitors than others. Nothing but the time that the parts take
 /// depends on it.
 pub fn part_of(rows: &[VisitorRow], parts: usize) -> usize
@@ -119,7 +119,7 @@ pub fn part_of(rows: &[VisitorRow], parts: usize) -> usize
     front.len() + reach_of(back, step, (part - first) / step)
 }
 
-/// What the first row and each that stands a step behind another weigh together.
+/// What the first row and each that stands a step after another weigh together.
 fn weight_of(rows: &[VisitorRow], step: usize) -> usize
     requires { 0 < step }
 {

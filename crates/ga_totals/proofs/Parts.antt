@@ -1,4 +1,4 @@
--- The parts in which the keys are counted, one behind the other.
+-- The parts in which the keys are counted, one after the other.
 use Rattle.std.proofs.Common.{◌≡◌, ℕ, zero, suc, ◌+◌, ◌<◌, eqb, List, [], ◌∷◌, ◌++◌, length, get_or, Ok, length-append, refl, sym, ap, ◌∙◌, subst, arith}
 use Rattle.std.specs.Prelude.{Result}
 use Rattle.std.specs.Borrow.{MutBor}
@@ -13,7 +13,7 @@ use Rattle.ga_totals.specs.Steps.Sources.{AreVisits}
 use Rattle.ga_totals.specs.Steps.Visits.{counts_of}
 use Rattle.ga_totals.proofs.Visiting.{visitors-of-rows}
 
--- the counts of keys, and behind them those of more
+-- the counts of keys, and after them those of more
 pub counts-behind : (rows : List (List ℕ)) (first many more n : ℕ) → n ≡ many + more → counts_of rows first n ≡ counts_of rows first many ++ counts_of rows (first + many) more
 counts-behind rows first zero more n e = ap (λ k. counts_of rows first k) (omega (arith, e)) ∙ ap (λ k. counts_of rows k more) (omega arith)
 counts-behind rows first (suc many) more n e =

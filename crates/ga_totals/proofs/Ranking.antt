@@ -1,4 +1,4 @@
--- The ranks of visitors that stand in the order of their names, one visitor after the other.
+-- The ranks of visitors that are in the order of their names, one visitor after the other.
 use Rattle.std.proofs.Common.{◌≡◌, ℕ, true, false, ◌+◌, ◌-◌, ◌<◌, ◌≤◌, List, [], ◌∷◌, ◌++◌, Some, Less, Equal, Greater, get_or, length, set, refl, sym, ap, ◌∙◌, subst, arith, ⊎_elim, below_more, get_or-set_same, get_or-set_other}
 use Rattle.std.specs.Prelude.{slice_get}
 use Rattle.std.specs.declared.cmp.Ordering.{Ordering}

@@ -17,7 +17,7 @@ rows-many (key ∷ keys) [] visits summed visited = summed
 rows-many (key ∷ keys) (own ∷ sums) [] summed visited = visited
 rows-many (key ∷ keys) (own ∷ sums) (visitors ∷ visits) summed visited = ap suc (rows-many keys sums visits (omega (arith, summed)) (omega (arith, visited)))
 
--- a row is what stands at its place
+-- a row is what is at its place
 pub row-at : (keys : List Key) (sums : List Sums) (visits : List ℕ) (at : ℕ) (key : Key) (own : Sums) (visitors : ℕ) → at < length (source_rows keys sums visits)
     → slice_get (source_rows keys sums visits) at ≡ Some (record { key = get_or keys at key; sums = get_or sums at own; visitors = get_or visits at visitors })
 row-at [] sums visits at k s v less = absurd (omega (arith, less))

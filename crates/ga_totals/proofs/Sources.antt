@@ -92,7 +92,7 @@ has-same (first ∷ names) name =
     turned false true = refl
     turned false false = refl
 
--- a map that keeps apart what stands in a list keeps the number of different ones
+-- a map that keeps apart what is in a list keeps the number of different ones
 module _ {A B : Type 0} (eq : A → A → Bool) (like : B → B → Bool) (f : A → B) where
   any-alike : (x : A) (ys : List A) → ((y : A) → Contains ys y → like (f x) (f y) ≡ eq x y) → list_any (like (f x)) (map f ys) ≡ list_any (eq x) ys
   any-alike x [] same = refl

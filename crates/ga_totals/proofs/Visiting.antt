@@ -1,4 +1,4 @@
--- How many different visitors stand in the row of a key, by marks.
+-- How many different visitors are in the row of a key, by marks.
 use Rattle.std.proofs.Common.{◌≡◌, ℕ, zero, suc, ◌+◌, ◌<◌, ◌≤◌, ◌==◌, ◌||◌, Bool, true, false, cond, eqb, List, [], ◌∷◌, ◌++◌, length, get_or, set, take, refl, sym, ap, ◌∙◌, subst, arith, eq-eqb, length-set}
 use Rattle.std.specs.List.{All, list_any}
 use Rattle.std.specs.Set.{distinct_count, unique_keys}
@@ -48,7 +48,7 @@ behind (row ∷ rows) key (suc place) number at =
 pub visitors-of-rows : (rows : List (List ℕ)) (number : ℕ) → visitors_of number (pairs_in rows) ≡ visitors_at rows number
 visitors-of-rows rows number = behind rows 0 number number (omega arith)
 
--- one visitor more behind a row is a different one where it wasn't there
+-- one visitor more after a row is a different one where it wasn't there
 counted : (b : Bool) (v : ℕ) (row : List ℕ) → length (cond b row (v ∷ row)) ≡ cond b (length row) (suc (length row))
 counted true v row = refl
 counted false v row = refl

@@ -16,7 +16,7 @@ pub(crate) fn ranks_of(alloc: Global, ranks: &[u32], row: &[u32]) -> Result<Vec<
     Ok(all)
 }
 
-/// The names of these ranks, one for each. The number of one visitor of each name stands at the name's rank.
+/// The names of these ranks, one for each. The number of one visitor of each name is at the name's rank.
 pub(crate) fn names_of_ranks(
     alloc: Global,
     visitors: &[Visitor],

@@ -39,7 +39,7 @@ impl<'a> Model for TotalSource<'a> {
 }
 
 impl<'a> TotalSource<'a> {
-    /// These totals, and these keys with what stands at their numbers.
+    /// These totals, and these keys with what is at their numbers.
     pub(crate) fn of(
         totals: Totals,
         keys: &'a KeyNumbers,

@@ -10,10 +10,10 @@ use ga_tallies::{VisitorRow, part_of};
 use std::alloc::Global;
 use std::thread::Threads;
 
-/// The keys are counted in so many parts.
+/// The keys are counted in this many parts.
 const KEY_PARTS: usize = 4;
 
-/// In a row of at most so many visitors each is compared with those before it; in a longer one each is marked.
+/// In a row of at most this many visitors each is compared with those before it; in a longer one each is marked.
 const FEW_VISITORS: usize = 8;
 
 /// How many visitors each key has, at the key's number. Each counts once for the key in whose row it stands.
@@ -51,7 +51,7 @@ pub(crate) fn visits_in_parts<R: Threads + Sync>(
     Ok(visits)
 }
 
-/// How many of so many keys are in each of the parts, which have about as many visitors as one another. Nothing but the time
+/// How many of this many keys are in each of the parts, which have about as many visitors as one another. Nothing but the time
 /// that the parts take depends on it.
 fn parts_of(rows: &[VisitorRow], keys: usize) -> [usize; KEY_PARTS] {
     let mut lengths = [0; KEY_PARTS];
@@ -64,7 +64,7 @@ fn parts_of(rows: &[VisitorRow], keys: usize) -> [usize; KEY_PARTS] {
     lengths
 }
 
-/// How many of so many keys, from the one with the number `first` on, are in the first of so many parts. Behind the last row keys
+/// How many of this many keys, from the one with the number `first` on, are in the first of this many parts. After the last row keys
 /// have no visitors.
 fn part_between(rows: &[VisitorRow], first: usize, many: usize, parts: usize) -> usize
     requires numbers { first + many < 2 ^ 64 }
@@ -98,7 +98,7 @@ fn count_keys(
     Ok(())
 }
 
-/// The visitors of a key's number, of rows that have them at the keys' numbers. Behind the last row there are none.
+/// The visitors of a key's number, of rows that have them at the keys' numbers. After the last row there are none.
 pub(crate) fn row_at(rows: &[VisitorRow], number: usize) -> &[u32]
     ensures { result.now ≡ visitors_at (lists_in rows.now) number }
 {
@@ -108,7 +108,7 @@ pub(crate) fn row_at(rows: &[VisitorRow], number: usize) -> &[u32]
     }
 }
 
-/// How many different visitors stand in a row. Where there are more than a few, each has the mark then, which none had before.
+/// How many different visitors are in a row. Where there are more than a few, each has the mark then, which none had before.
 fn count(
     alloc: Global,
     visitors: usize,
@@ -131,7 +131,7 @@ fn count(
     Ok(count_different(marks, mark, row))
 }
 
-/// How many different visitors stand in a row, of which each is compared with those before it.
+/// How many different visitors are in a row, of which each is compared with those before it.
 fn count_few(row: &[u32]) -> u64
     ensures { result ≡ distinct_count eqb row.now }
 {
@@ -144,7 +144,7 @@ fn count_few(row: &[u32]) -> u64
     count
 }
 
-/// How many different visitors stand in a row. Each has the mark then, which none had before.
+/// How many different visitors are in a row. Each has the mark then, which none had before.
 fn count_different(marks: &mut [u32], mark: u32, row: &[u32]) -> u64
     requires within { All (λ v. v < length marks.old) row.now }
     requires new { All (λ m. m < mark) marks.old }

@@ -1,4 +1,4 @@
--- What all words mean where their units are read, with `--` and logs behind them or not.
+-- What all words mean where their units are read, with `--` and logs after them or not.
 use Rattle.std.proofs.Common.{◌≡◌, ◌+◌, ◌-◌, ℕ, Some, None, List, [], ◌∷◌, ◌++◌, length, codes, refl, sym, ap, ◌∙◌, subst, inl, inr, ◌⊎◌, arith, append-nil, length-append, Result, Ok, Err, IfOk, IfErr}
 use Rattle.ga_words.specs.declared.settings.Settings.{Settings}
 use Rattle.ga_words.specs.declared.fault.WordFault.{WordFault}
@@ -8,7 +8,7 @@ use Rattle.ga_words.specs.Units.{spelled, AddsLogs, AreNamed}
 use Rattle.ga_words.specs.WordsOf.{AreUnits, BeginsWithFault, HasFault, IsBadTail, WordsOf, IsSame}
 use Rattle.ga_words.specs.Steps.Words.{HasRead, HasReadAll, IsTail, IsWholly, IsNameless}
 
--- behind the units stands `--` where anything stands there
+-- after the units stands `--` where anything is there
 tail-of : (rest : List (List ℕ)) (first : List ℕ) (logs : List (List ℕ)) → IsTail rest → rest ≡ first ∷ logs → rest ≡ codes "--" ∷ logs
 tail-of rest first logs (inl none) e = absurd (let both : first ∷ logs ≡ [] = sym e ∙ none in cc)
 tail-of rest first logs (inr (own, is)) e = is ∙ ap (λ (x : List (List ℕ)). codes "--" ∷ x) (let both : codes "--" ∷ own ≡ first ∷ logs = sym is ∙ e in cc)

@@ -18,7 +18,7 @@ pub data Class : Type 0 where
   WithValue : List ℕ → Takes → List ℕ → Class
   NoOption : Class
 
--- what stands before the first `=`, and what stands behind it
+-- what stands before the first `=`, and what follows it
 pub record Parts : Type 0 where
   pub front : List ℕ
   pub back : List ℕ

@@ -1,4 +1,4 @@
--- What stands at the front of words: a unit, a fault, or `--` with logs behind it, and always one of these alone.
+-- What is at the front of words: a unit, a fault, or `--` with logs after it, and always one of these alone.
 use Rattle.std.proofs.Common.{◌≡◌, ◌+◌, ℕ, Option, Some, None, List, [], ◌∷◌, ◌++◌, codes, refl, sym, ap, subst, inl, inr, ◌⊎◌}
 use Rattle.ga_words.specs.declared.settings.Settings.{Settings}
 use Rattle.ga_words.specs.declared.fault.WordFault.{WordFault}

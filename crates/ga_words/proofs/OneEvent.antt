@@ -1,4 +1,4 @@
--- A value sets one thing, and one thing stands at the front of words.
+-- A value sets one thing, and one thing is at the front of words.
 use Rattle.std.proofs.Common.{◌≡◌, ◌≢◌, ◌+◌, ◌<◌, ℕ, suc, Option, Some, None, List, [], ◌∷◌, ◌++◌, length, codes, refl, sym, ap, ◌∙◌, subst, inl, inr, arith, length-append, append_assoc}
 use Rattle.ga_base.specs.declared.panel.Panel.{Panel}
 use Rattle.ga_hosts.specs.Ranges.{SpellsRange}

@@ -10,7 +10,7 @@ use Rattle.ga_words.proofs.EventLemmas.{Event, HasEvent, unit-event, fault-event
 use Rattle.ga_words.proofs.EventLemmas.Event.{Reads, Faults, Ends}
 use Rattle.ga_words.proofs.OneEvent.{OneRange, one-event, same-last}
 
--- how words end behind their units: at the end, perhaps with `--` and logs, or at a fault
+-- how words end after their units: at the end, perhaps with `--` and logs, or at a fault
 data End : Type 0 where
   Whole : Option (List (List ℕ)) → Settings → End
   Broken : WordFault → End
@@ -19,7 +19,7 @@ abbrev EndsSo : ℕ → List (List ℕ) → Settings → End → Type 0
 EndsSo at words s (Whole tail before) = (before ≡ s) × (words ≡ tail_words tail) × AreNamed (tail_logs tail)
 EndsSo at words s (Broken fault) = BeginsWithFault at words fault
 
--- the words are these units, one behind the other, and then end so
+-- the words are these units, one after the other, and then end so
 abbrev Trace : ℕ → List (List ℕ) → Settings → List WordUnit → End → Type 0
 Trace at words s [] end = EndsSo at words s end
 Trace at words s (unit ∷ units) end = (rest : List (List ℕ)) × (next : Settings) × (words ≡ written unit ++ rest) × Makes unit s next × Trace (at + length (written unit)) rest next units end

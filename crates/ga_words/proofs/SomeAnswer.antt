@@ -101,7 +101,7 @@ module _ (words : List (List ℕ)) where
           let place = length words - length logs in
           (Err (BadValue (place + k)), inl (nameless-fault words rest reading read (codes "--") logs (BadValue (place + k)) (inr (logs, tail)) tail (is-nameless place logs k e)))
 
-  -- words of which at most so many are left have an answer
+  -- words of which at most this many are left have an answer
   abbrev Answers : ℕ → Type 0
   Answers count = (rest : List (List ℕ)) (reading : Reading) → HasRead words rest reading → length rest ≤ count → HasAnswer words
 

@@ -55,7 +55,7 @@ some-group text =
     (λ h. (digits_value 16 text, record { digits = h.0; short = h.1; value = refl }), λ h. (h.1.digits, h.1.short))
     (and (is-numeral 16 text) (at-most (length text) 4))
 
--- so many groups with colons between them
+-- this many groups with colons between them
 abbrev SomeRow : ℕ → Bool → List ℕ → Type 0
 SomeRow count quad text = (groups : List ℕ) × (length groups ≡ count) × IsRow quad text groups
 

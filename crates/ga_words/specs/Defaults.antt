@@ -1,5 +1,6 @@
 -- What a run does where no word says otherwise.
 use Rattle.std.specs.Prelude.{true, false, None, [], replicate, codes}
+use Rattle.ga_base.specs.declared.panel.TheConstants.Panel.{COUNT}
 use Rattle.ga_words.specs.declared.settings.Settings.{Settings}
 use Rattle.ga_words.specs.declared.settings.Output.{Output}
 use Rattle.ga_words.specs.declared.settings.Kind.{Kind}
@@ -23,7 +24,7 @@ defaults = record {
   no_query = false;
   ignore_crawlers = false;
   ignore_status = [];
-  panels = replicate 17 true;
+  panels = replicate COUNT true;
   no_ip_validation = false;
   strict_status = true;
   count_4xx = false;

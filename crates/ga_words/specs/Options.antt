@@ -58,7 +58,7 @@ options =
 abbrev pub takes_of : List ℕ → Option Takes
 takes_of name = lookup (λ option. bytes_eq option name) options
 
--- all names but the short one may stand in one word with `=` and a value
+-- all names but the short one may are in one word with `=` and a value
 abbrev pub IsLong : List ℕ → Type 0
 IsLong name = name ≢ codes "-o"
 

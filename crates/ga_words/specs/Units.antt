@@ -1,4 +1,4 @@
--- A list of words is a row of units: flags, options with their values, and logs. Behind `--` every word is a log.
+-- A list of words is a row of units: flags, options with their values, and logs. After `--` every word is a log.
 use Rattle.std.specs.Prelude.{◌≡◌, ◌≢◌, ℕ, ◌+◌, Bool, false, if◌then◌else◌, Option, Some, None, List, [], ◌∷◌, ◌++◌, length, codes}
 use Rattle.std.specs.List.{flat_map, AllByRecursion}
 use Rattle.std.specs.Str.{bytes_eq}
@@ -27,7 +27,7 @@ spelled units = flat_map written units
 abbrev pub BeginsWithDash : List ℕ → Type 0
 BeginsWithDash word = (rest : List ℕ) × (word ≡ codes "-" ++ rest)
 
--- the settings `new` are `old` with these logs behind the others
+-- the settings `new` are `old` with these logs after the others
 abbrev pub AddsLogs : List (List ℕ) → Settings → Settings → Type 0
 AddsLogs names old new = new ≡ record old { logs = old.logs ++ names }
 
@@ -38,12 +38,12 @@ Makes (Joined name value) old new = (takes : Takes) × (takes_of name ≡ Some t
 Makes (Separate name value) old new = (takes : Takes) × (takes_of name ≡ Some takes) × Sets takes value old new
 Makes (Log name) old new = (name ≢ []) × ¬ BeginsWithDash name × AddsLogs (name ∷ []) old new
 
--- what a row of units makes of them, one behind the other
+-- what a row of units makes of them, one after the other
 abbrev pub RowMakes : List WordUnit → Settings → Settings → Type 0
 RowMakes [] old new = new ≡ old
 RowMakes (unit ∷ units) old new = (between : Settings) × Makes unit old between × RowMakes units between new
 
--- `--` and the logs behind it, where it stands
+-- `--` and the logs after it, where it stands
 abbrev pub tail_words : Option (List (List ℕ)) → List (List ℕ)
 tail_words None = []
 tail_words (Some logs) = codes "--" ∷ logs

@@ -9,7 +9,7 @@ use Rattle.ga_words.specs.declared.settings.Output.{Output}
 use Rattle.ga_words.specs.declared.settings.Kind.{Kind}
 use Rattle.ga_words.specs.declared.settings.Kind.TheVariants.{Json, Csv}
 
--- so many decimal digits without a sign, which write this number; leading zeros are digits like any other
+-- this many decimal digits without a sign, which write this number; leading zeros are digits like any other
 pub record IsNumber (shortest longest low high : ℕ) (text : List ℕ) (number : ℕ) : Type 0 where
   pub digits : IsNumeral 10 text
   pub count : (shortest ≤ length text) × (length text ≤ longest)

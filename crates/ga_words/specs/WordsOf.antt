@@ -7,7 +7,7 @@ use Rattle.ga_words.specs.Defaults.{defaults}
 use Rattle.ga_words.specs.Options.{Takes, takes_of, IsLong, IsOutside, TakesValue}
 use Rattle.ga_words.specs.Units.{WordUnit, spelled, RowMakes, BeginsWithDash, AddsLogs, tail_words, tail_logs, AreNamed, generate_places}
 
--- the words are this row of units, perhaps with `--` and logs behind it, and all of them make these settings
+-- the words are this row of units, perhaps with `--` and logs after it, and all of them make these settings
 pub record AreUnits (words : List (List ℕ)) (units : List WordUnit) (s : Settings) : Type 0 where
   pub tail : Option (List (List ℕ))
   pub spells : words ≡ spelled units ++ tail_words tail
@@ -61,7 +61,7 @@ pub record IsBadSeparate (words : List (List ℕ)) : Type 0 where
 abbrev pub IsBadLog : List (List ℕ) → Type 0
 IsBadLog words = (more : List (List ℕ)) × (words ≡ [] ∷ more)
 
--- the first of these words is `--`, and so many logs behind it stands the first one without a name
+-- the first of these words is `--`, and this many logs after it stands the first one without a name
 pub record IsBadTail (words : List (List ℕ)) (logs : ℕ) : Type 0 where
   pub named : List (List ℕ)
   pub more : List (List ℕ)

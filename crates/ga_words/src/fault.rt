@@ -21,7 +21,7 @@ pub enum WordFault {
     NoInput,
     /// `--generate`, which stands last at this place, stands with a log, `--persist` or `--restore`.
     Conflict { at: u64 },
-    /// Want of memory.
+    /// Out of memory.
     NoMemory,
 }
 

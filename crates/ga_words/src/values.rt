@@ -11,7 +11,7 @@ use ga_hosts::Range;
 /// The byte of a sign, which no number has.
 const PLUS: u8 = b'+';
 
-/// The number that `text` writes in so many decimal digits without a sign, where it is from `low` to `high`.
+/// The number that `text` writes in this many decimal digits without a sign, where it is from `low` to `high`.
 pub(crate) fn number_of(
     text: &str,
     shortest: usize,

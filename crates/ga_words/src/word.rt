@@ -9,7 +9,7 @@ const DASH: char = '-';
 /// What stands between an option and its value in one word.
 const EQUALS: char = '=';
 
-/// The one option whose value never stands in its word.
+/// The one option whose value never is in its word.
 const SHORT: &str = "-o";
 
 /// What a word says where it isn't a value.
@@ -57,7 +57,7 @@ fn option_with_value(word: &str) -> Option<(&str, Takes, &str)>
     Some((name, option_named(name)?, value))
 }
 
-/// What stands before the first `=` of a word, and what stands behind it.
+/// What stands before the first `=` of a word, and what follows it.
 fn cut_at_equals(word: &str) -> Option<(&str, &str)>
     ensures { MatchOption result (IsPlain word.now) (λ parts. IsCut word.now parts.0.now parts.1.now) }
 {

@@ -17,7 +17,7 @@ use crate::{Settings, WordFault, laws};
 use ga_base::Text;
 use std::alloc::Global;
 
-/// The word behind which every word is a log.
+/// The word after which every word is a log.
 const END: &str = "--";
 
 /// The option that asks for generated lines.
@@ -34,14 +34,14 @@ pub(crate) struct Reading {
 
 /// Reads the words of a command line, without the program's name.
 ///
-/// A word that doesn't begin with `-` is the name of a log, and behind `--` every word is one. An option with a value is
+/// A word that doesn't begin with `-` is the name of a log, and after `--` every word is one. An option with a value is
 /// written `--name=value`, or `--name` and then the value, whatever that word is; `-o` takes its value in the second
 /// form alone. Of an option with one value the last counts, flags may be repeated, and of the words on a panel the last
 /// decides.
 ///
 /// # Errors
 /// The first word, from 0, that names no option, lacks its value or holds a bad one; and if there is none, the first of
-/// `NoFormat`, `NoInput` and `Conflict` that the words give. `NoMemory` is want of memory.
+/// `NoFormat`, `NoInput` and `Conflict` that the words give. `NoMemory` is lack of memory.
 pub fn read_words(alloc: Global, words: &[Text]) -> Result<Settings, WordFault>
     ensures ok { IfOk result (λ s. WordsOf words.now (Ok s)) }
     ensures fault { IfErr result (λ f. (f ≡ WordFault.NoMemory) ⊎ WordsOf words.now (Err f)) }
@@ -64,7 +64,7 @@ fn answer_of(alloc: Global, words: &[Text]) -> Result<Settings, WordFault>
     }
 }
 
-/// Reads all words, the units and the logs behind them.
+/// Reads all words, the units and the logs after them.
 fn read_all(alloc: Global, words: &[Text]) -> Result<Reading, WordFault>
     ensures ok { IfOk result (HasReadAll words.now) }
     ensures fault { IfErr result (λ f. (f ≡ WordFault.NoMemory) ⊎ HasFault words.now f) }
@@ -78,7 +78,7 @@ fn read_all(alloc: Global, words: &[Text]) -> Result<Reading, WordFault>
     Ok(reading)
 }
 
-/// Reads the units up to the end, or up to the word behind which every word is a log.
+/// Reads the units up to the end, or up to the word after which every word is a log.
 fn read_units(alloc: Global, words: &[Text]) -> Result<(Reading, &[Text]), WordFault>
     ensures ok { IfOk result (λ read. HasRead words.now read.1.now read.0 × IsTail read.1.now) }
     ensures fault { IfErr result (λ f. (f ≡ WordFault.NoMemory) ⊎ HasFault words.now f) }
@@ -98,7 +98,7 @@ fn read_units(alloc: Global, words: &[Text]) -> Result<(Reading, &[Text]), WordF
     Ok((reading, rest))
 }
 
-/// Reads the unit that begins with `word`, at `at`, and answers what stands behind it.
+/// Reads the unit that begins with `word`, at `at`, and answers what follows it.
 fn read_unit<'a>(
     alloc: Global,
     word: &Text,
@@ -128,7 +128,7 @@ fn read_unit<'a>(
     }
 }
 
-/// Reads a flag, or an option whose value is the word behind it.
+/// Reads a flag, or an option whose value is the word after it.
 fn read_option<'a>(
     alloc: Global,
     name: &str,

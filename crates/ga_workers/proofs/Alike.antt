@@ -25,7 +25,7 @@ alike-trans xs ys zs a b = record {
   visits = λ key visitor. a.visits key visitor ∙ b.visits key visitor;
 }
 
--- behind and before the same
+-- after and before the same
 pub alike-append : (xs xs' ys ys' : List Outcome) → AreAlike xs xs' → AreAlike ys ys' → AreAlike (xs ++ ys) (xs' ++ ys')
 alike-append xs xs' ys ys' a b = record {
   totals = totals_of-append xs ys ∙ (λ i. totals_plus (a.totals i) (b.totals i)) ∙ sym (totals_of-append xs' ys');

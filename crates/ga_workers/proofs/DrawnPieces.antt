@@ -65,7 +65,7 @@ counts-none setup pieces t = record {
   tally = λ was is. subst (λ (os : List Outcome). IsTallyOf os t) (sym (append-nil was)) is;
 }
 
--- all that workers counted, behind what they had
+-- all that workers counted, after what they had
 pub record CountsAll (setup : Setup) (pieces : List (List ℕ)) (drawn : List ℕ) (old new : List TallySeen) : Type 0 where
   pub came : List Came
   pub numbers : map (λ piece. piece.number) came ≡ of_pieces (length pieces) drawn
@@ -152,7 +152,7 @@ each-part setup pieces (d ∷ drawn) (o ∷ old) (n ∷ new) all =
           ∙ sym (flat_map-append (λ (c : Came). c.outcomes) first.came others);
     }
 
--- how often a number stands in lists
+-- how often a number is in lists
 times-cons : (k x : ℕ) (xs : List ℕ) → times k (x ∷ xs) ≡ cond (eqb x k) 1 0 + times k xs
 times-cons k x xs = sum_by-cons (λ (n : ℕ). cond (eqb n k) 1 0) x xs
 
@@ -172,7 +172,7 @@ times-cond : (k x : ℕ) (b : Bool) (xs : List ℕ) → times k (cond b (x ∷ x
 times-cond k x true xs = times-cons k x xs
 times-cond k x false xs = refl
 
--- a number that stands in the list stands among those of pieces where it is one's
+-- a number that is in the list stands among those of pieces where it is one's
 times-of_pieces : (n k : ℕ) (xs : List ℕ) → times k (of_pieces n xs) ≡ cond (ltb k n) (times k xs) 0
 times-of_pieces n k [] = by (ltb k n)
   where

@@ -1,4 +1,4 @@
--- A cut behind a line parts the lines of a text, and how many lines a piece has.
+-- A cut after a line parts the lines of a text, and how many lines a piece has.
 use Rattle.std.proofs.Common.{◌≡◌, ℕ, ◌+◌, ◌<◌, ◌≤◌, Bool, true, false, List, [], ◌∷◌, ◌++◌, length, take, drop, get_or, map, Bor, Some, None, sym, ap, ◌∙◌, refl, subst, append-nil, append_assoc, arith, inr, length-append, length-drop}
 use Rattle.std.specs.Prelude.{◌==◌}
 use Rattle.std.specs.List.{All}
@@ -42,7 +42,7 @@ none-before text end first =
     let same : get_or (take end text) i 0 ≡ get_or text i 0 = get_or-take end text i 0 below in
     false_from_ne_true _ (λ yes. first.0.before i (omega arith) below (ap is_feed (sym same) ∙ yes)))
 
--- a text in which no line ends has one line at most, and with a line feed behind it one
+-- a text in which no line ends has one line at most, and with a line feed after it one
 few-unended : (text : List ℕ) → length (unended_line text true) ≤ 1
 few-unended [] = omega arith
 few-unended (b ∷ rest) = omega arith
@@ -54,7 +54,7 @@ one-line : (text : List ℕ) → NoneEnds text → length (lines (text ++ LINE_F
 one-line text none = ap (λ (ps : List (List ℕ)). length (lines_of_pieces ps true)) (slice_split_at is_feed text LINE_FEED [] none refl)
 
 module _ (bytes rest : List ℕ) (at : ℕ) (is : rest ≡ drop at bytes) (keeps : KeepsItsLines (take at bytes)) where
-  -- lines behind those of a front
+  -- lines after those of a front
   behind : (more : List ℕ) → length (lines (take at bytes ++ more) true) ≡ length (lines (take at bytes) true) + length (lines more true)
   behind more =
       ap (λ (ls : List (List ℕ)). length ls) (keeps more true) ∙ length-append (lines (take at bytes) false) (lines more true)

@@ -24,7 +24,7 @@ plus-none a = λ i. record {
   micros = add-zero a.micros i;
 }
 
--- an outcome and those behind it
+-- an outcome and those after it
 totals-cons : (t : Totals) (x : Outcome) (xs : List Outcome) → totals_plus (totals_plus t (totals_of (x ∷ []))) (totals_of xs) ≡ totals_plus t (totals_of (x ∷ xs))
 totals-cons t x xs = plus-assoc t (totals_of (x ∷ [])) (totals_of xs) ∙ ap (totals_plus t) (sym (totals_of-append (x ∷ []) xs))
 

@@ -42,7 +42,7 @@ pub record CountsByEach (outcomes : List Outcome) (old new : List TallySeen) : T
   pub apart : CountOnApart parts old new
   pub alike : AreAlike outcomes (together parts)
 
--- the tallies count these lines, behind what they had counted
+-- the tallies count these lines, after what they had counted
 pub record CountsOn (setup : Setup) (all : List (List ℕ)) (old new : List TallySeen) : Type 0 where
   pub many : length new ≡ length old
   pub outcomes : List Outcome

@@ -73,7 +73,7 @@ fn checked_plus(a: Totals, b: Totals) -> Option<Totals>
     }
 }
 
-/// The first counter that passes its limit along these lines, one line after the other. Want of memory is answered where
+/// The first counter that passes its limit along these lines, one line after the other. Lack of memory is answered where
 /// none does.
 pub(crate) fn full_counter(alloc: Global, setup: &Setup, before: &Totals, batch: &[u8]) -> PoolFault
     requires { TotalsFit before.now }

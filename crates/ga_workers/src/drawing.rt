@@ -72,7 +72,7 @@ pub(crate) fn count_pieces<R: Threads + Sync, G: Gate, F: FnMut() -> X, X>(
     }
 }
 
-/// A turn for each tally. Its seat can draw so many numbers.
+/// A turn for each tally. Its seat can draw this many numbers.
 fn turns_of(
     alloc: Global,
     draws: &Draws,

@@ -8,7 +8,7 @@ use ga_base::{Counter, NoMemory};
 pub enum PoolFault {
     /// The counter would pass `LIMIT` at one of the lines: it would have this value.
     CounterFull { which: Counter, total: u128 },
-    /// Want of memory.
+    /// Out of memory.
     NoMemory,
 }
 

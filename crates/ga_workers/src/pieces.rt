@@ -11,7 +11,7 @@ use std::alloc::Global;
 /// How many bytes at the end of a batch are cut finer, where there is more than one worker.
 const LAST: usize = 1 << 20;
 
-/// There a piece has one of so many lines.
+/// There a piece has one of this many lines.
 const FINER: u32 = 32;
 
 /// The lines of a batch in pieces of at most `workers.chunk` lines. Where there is more than one worker, those in its last mebibyte have
@@ -36,7 +36,7 @@ pub(crate) fn pieces_of(
     Ok(pieces)
 }
 
-/// How many lines the next piece has, where so many bytes are left of the batch.
+/// How many lines the next piece has, where this many bytes are left of the batch.
 fn piece_lines(left: usize, workers: Workers) -> u32
     requires { 1 ≤ workers.chunk }
     ensures some { 1 ≤ result }
@@ -49,7 +49,7 @@ fn piece_lines(left: usize, workers: Workers) -> u32
     workers.chunk / FINER + 1
 }
 
-/// Where a piece of so many lines ends: behind the last line's line feed, or at the end of the bytes.
+/// Where a piece of this many lines ends: after the last line's line feed, or at the end of the bytes.
 fn piece_end(bytes: &[u8], chunk: u32) -> usize
     requires chunk { 1 ≤ chunk }
     requires some { 0 < length bytes.now }

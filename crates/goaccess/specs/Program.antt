@@ -2,11 +2,11 @@
 use Rattle.std.specs.Prelude.{◌≡◌, ◌⊎◌, ℕ, List, map, drop, String, string_bytes, Option, Some, None}
 use Rattle.std.specs.declared.io.Error.{Error}
 use Rattle.ga_ports.specs.declared.outs.To.TheVariants.{Stderr}
-use Rattle.ga_run.specs.Printing.{ChangesOnly, TakesOrStops}
-use Rattle.ga_run.specs.Run.{IsRun, NothingWasRead}
-use Rattle.ga_run.specs.Statuses.{code_of}
-use Rattle.ga_run.specs.Outside.{Outside}
-use Rattle.ga_run.specs.declared.status.Status.{Status}
+use Rattle.ga_one_run.specs.Printing.{ChangesOnly, TakesOrStops}
+use Rattle.ga_one_run.specs.Run.{IsRun, NothingWasRead}
+use Rattle.ga_one_run.specs.Statuses.{code_of}
+use Rattle.ga_one_run.specs.Outside.{Outside}
+use Rattle.ga_one_run.specs.declared.status.Status.{Status}
 use Rattle.goaccess.specs.Answers.{answer_to, Shows}
 use Rattle.goaccess.specs.Words.{IsFaultOf, words_line, words_code}
 use Rattle.goaccess.specs.declared.answers.Answer.{Answer}

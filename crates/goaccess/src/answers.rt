@@ -2,8 +2,8 @@ ghost use Rattle.std.specs.Prelude.{◌≡◌};
 ghost use Rattle.goaccess.specs.Answers.{answer_to, Shows};
 
 use ga_base::Text;
+use ga_one_run::print;
 use ga_ports::{Outs, To};
-use ga_run::print;
 
 /// What the program answers of itself.
 #[derive(Clone, Copy, Debug, PartialEq, Eq)]
@@ -23,10 +23,9 @@ Usage:
   goaccess --help | --version
 
 A word that doesn't begin with a dash is the name of a log; after -- each word
-is. All logs are read in their order into one report. A value stands behind
-the option, as --name=VALUE or in the next word; with -o in the next word
-only. Of an option given again the last value counts; where (+) stands all
-values count.
+is. All logs are read in their order into one report. A value follows its
+option, as --name=VALUE or in the next word; with -o in the next word only. Of
+an option given again the last value counts; of one with (+) all values count.
 
 Formats:
   --log-format F      how a line is written: COMMON, COMBINED, VCOMMON or

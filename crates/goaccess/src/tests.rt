@@ -11,10 +11,9 @@ Usage:
   goaccess --help | --version
 
 A word that doesn't begin with a dash is the name of a log; after -- each word
-is. All logs are read in their order into one report. A value stands behind
-the option, as --name=VALUE or in the next word; with -o in the next word
-only. Of an option given again the last value counts; where (+) stands all
-values count.
+is. All logs are read in their order into one report. A value follows its
+option, as --name=VALUE or in the next word; with -o in the next word only. Of
+an option given again the last value counts; of one with (+) all values count.
 
 Formats:
   --log-format F      how a line is written: COMMON, COMBINED, VCOMMON or

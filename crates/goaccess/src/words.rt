@@ -13,7 +13,7 @@ use std::io::{self, ErrorKind};
 pub enum WordsFault {
     /// A word isn't UTF-8.
     NotText,
-    /// Want of memory.
+    /// Out of memory.
     NoMemory,
 }
 

@@ -14,7 +14,7 @@ use Rattle.ga_codec.specs.Spelling.{eight_bytes, text_bytes, totals_bytes, panel
 use Rattle.ga_codec.specs.Shapes.{FitsText, FitsTotals, FitsKey, FitsSums, FitsName, FitsRow, FitsSummary, FitsEntry, IsGeneration, FitsSnapshot, FitsDelta}
 use Rattle.ga_codec.specs.Steps.Parts.{Part}
 
--- so many bytes, whatever they are
+-- this many bytes, whatever they are
 abbrev pub any_bytes : ℕ → Part (List ℕ)
 any_bytes n = record { spell = λ bytes. bytes; fits = λ bytes. (length bytes ≡ n) × AllByRecursion (λ byte. byte < 256) bytes }
 

@@ -14,7 +14,7 @@ pub record Part (A : Type 0) : Type 1 where
 abbrev pub IsSpelled : {A : Type 0} → Part A → List ℕ → Type 0
 IsSpelled {A} part bytes = (a : A) × part.fits a × (bytes ≡ part.spell a)
 
--- no value is spelled at the front of the bytes, of which so many begin one
+-- no value is spelled at the front of the bytes, of which this many begin one
 pub record StopsAt {A : Type 0} (part : Part A) (bytes : List ℕ) (at : ℕ) : Type 0 where
   pub none : (a : A) (rest : List ℕ) → part.fits a → bytes ≡ part.spell a ++ rest → ⊥
   pub longest : IsLongest (IsSpelled part) bytes at
@@ -30,7 +30,7 @@ pub record Takes {A : Type 0} (part : Part A) (a : A) (old new : Cursor) : Type 
   pub bytes : old.rest ≡ part.spell a ++ new.rest
   pub place : new.place ≡ old.place + length (part.spell a)
 
--- no value stands there, and the fault is told by its place from the first byte that was ever read
+-- no value is there, and the fault is told by its place from the first byte that was ever read
 pub record Fails {A : Type 0} (part : Part A) (old : Cursor) (at : ℕ) : Type 0 where
   pub read : ℕ
   pub place : at ≡ old.place + read
@@ -51,7 +51,7 @@ Reads part view old new (Err fault) = Refuses part old fault
 unfoldable pub followed_by : {A B : Type 0} → Part A → (A → Part B) → Part (A × B)
 followed_by first next = record { spell = λ p. first.spell p.0 ++ (next p.0).spell p.1; fits = λ p. first.fits p.0 × (next p.0).fits p.1 }
 
--- so many of one kind
+-- this many of one kind
 unfoldable pub times : {A : Type 0} → ℕ → Part A → Part (List A)
 times n part = record { spell = λ items. flat_map part.spell items; fits = λ items. (length items ≡ n) × AllByRecursion part.fits items }
 
@@ -59,7 +59,7 @@ times n part = record { spell = λ items. flat_map part.spell items; fits = λ i
 abbrev pub listed : {A : Type 0} → Part A → Part (List A)
 listed part = record { spell = λ items. list_bytes part.spell items; fits = λ items. FitsList part.fits items }
 
--- a value was written behind what there was
+-- a value was written after what there was
 pub record Writes {A : Type 0} (part : Part A) (a : A) (old new : List ℕ) : Type 0 where
   pub fits : part.fits a
   pub bytes : new ≡ old ++ part.spell a

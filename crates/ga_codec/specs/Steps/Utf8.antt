@@ -11,7 +11,7 @@ char_size first = cond (nat_lt first 0x80) 1 (cond (nat_lt first 0xC2) 0 (cond (
 abbrev pub continues : ℕ → Bool
 continues byte = is_in_range 0x80 0xBF byte
 
--- the byte may stand second, behind this first one
+-- the byte may stand second, after this first one
 abbrev pub may_follow : ℕ → ℕ → Bool
 may_follow first byte = cond (first == 0xE0) (is_in_range 0xA0 0xBF byte) (cond (first == 0xED) (is_in_range 0x80 0x9F byte)
     (cond (first == 0xF0) (is_in_range 0x90 0xBF byte) (cond (first == 0xF4) (is_in_range 0x80 0x8F byte) (continues byte))))

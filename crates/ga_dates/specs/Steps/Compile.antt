@@ -13,7 +13,7 @@ use Rattle.ga_dates.specs.Grammar.{Token, text_of, items_of, IsNamed, IsBadDirec
 abbrev pub is_given : List Item → Item → Bool
 is_given before item = option_map_or (λ part. list_any (gives part) before) (part_of item) false
 
--- a named token stands at the place and ends before the next one, and its items are added
+-- a named token is at the place and ends before the next one, and its items are added
 pub record AddsToken (kind : Kind) (text : List ℕ) (at next : ℕ) (before after : List Item) : Type 0 where
   pub token : Token
   pub named : IsNamed kind token
@@ -23,7 +23,7 @@ pub record AddsToken (kind : Kind) (text : List ℕ) (at next : ℕ) (before aft
   pub added : after ≡ before ++ items_of kind token
   pub once : AreOnce after
 
--- a bad directive stands at the place, or memory ran out
+-- a bad directive is at the place, or memory ran out
 abbrev pub IsTokenFault : Kind → List ℕ → ℕ → List Item → FormatFault → Type 0
 IsTokenFault kind text at before (BadDirective place) = (place ≡ at) × IsBadDirective kind before (drop at text)
 IsTokenFault kind text at before NoMemory = Unit {0}

@@ -11,13 +11,14 @@ use Rattle.ga_logs.specs.declared.full.CountingFault.{CountingFault}
 use Rattle.ga_logs.specs.declared.full.CountingFault.TheVariants.{Full as CounterFull, NoMemory as CountingNoMemory}
 use Rattle.ga_logs.specs.declared.full.Full.{Full as TheFull}
 use Rattle.ga_logs.specs.Following.{MissesLog, ReadsAll, ReadsPortion}
-use Rattle.ga_logs.specs.Portions.{Follows, counted_lines, keeps}
+use Rattle.ga_logs.specs.Portions.{Follows, counted_lines}
+use Rattle.ga_resume.specs.Following.{keeps}
 use Rattle.ga_logs.specs.Steps.Streaming.{Adds}
 use Rattle.ga_logs.specs.declared.fault.CountFault.{CountFault}
 use Rattle.ga_logs.specs.declared.fault.CountFault.TheVariants.{Failed as LogFailed, Short as LogShort, Full, NoMemory as CountNoMemory}
-use Rattle.ga_logs.specs.declared.follow.Follow.{Follow}
+use Rattle.ga_resume.specs.declared.follow.Follow.{Follow}
 use Rattle.ga_logs.specs.declared.portion.Portion.{Portion}
-use Rattle.ga_logs.specs.declared.start.Start.{Start}
+use Rattle.ga_resume.specs.declared.start.Start.{Start}
 
 -- the lines that are counted of a portion
 abbrev pub portion_lines : Follow → Portion → List (List ℕ)

@@ -8,8 +8,8 @@ use Rattle.ga_resume.specs.declared.fault.PlaceFault.{PlaceFault}
 use Rattle.ga_resume.specs.declared.fault.PlaceFault.TheVariants.{FileFault}
 use Rattle.ga_resume.specs.declared.segment.Segment.{Segment}
 use Rattle.ga_logs.specs.Portions.{Begins, front_of, front_size}
-use Rattle.ga_logs.specs.declared.follow.Follow.{Follow}
-use Rattle.ga_logs.specs.declared.follow.Follow.TheVariants.{Whole, ToEnd, ToLastLine}
+use Rattle.ga_resume.specs.declared.follow.Follow.{Follow}
+use Rattle.ga_resume.specs.declared.follow.Follow.TheVariants.{Whole, ToEnd, ToLastLine}
 
 -- the size of the open file was asked for once, and no more than its front was read
 pub record BeginsLog (follow : Follow) (entries : List Entry) (old new : FilesView) (segment : Segment) : Type 0 where

@@ -22,7 +22,7 @@ pub record Adds (setup : Setup) (more : List (List ℕ)) (old new : CountingSeen
 abbrev pub HasCountedSome : Setup → CountingSeen → Type 0
 HasCountedSome setup counting = (before : List (List ℕ)) × HasCounted setup before counting
 
--- that part of the open file was read and fed to a batcher, behind what it was fed before
+-- that part of the open file was read and fed to a batcher, after what it was fed before
 pub record FeedsPart (setup : Setup) (from end : ℕ) (files files' : FilesView) (counting counting' : CountingSeen)
     (batcher batcher' : BatcherSeen) : Type 0 where
   pub part : List ℕ
@@ -68,7 +68,7 @@ pub record CanFeed (text : List ℕ) (batcher : BatcherSeen) : Type 0 where
   pub countable : batcher.fed + length text < 2 ^ 64
   pub room : length (held batcher) < batcher.limit
 
--- so many bytes of a text were fed, from its front
+-- this many bytes of a text were fed, from its front
 pub record FeedsFront (count : ℕ) (text : List ℕ) (batcher batcher' : BatcherSeen) : Type 0 where
   pub some : 0 < count
   pub within : count ≤ length text
@@ -96,7 +96,7 @@ pub record FillsBehind (setup : Setup) (from to end : ℕ) (files files' : Files
   pub fills : FillsTo from to end files files' batcher batcher'
   pub counts : CountsTaken setup taken counting counting'
 
--- that part of the open file was read, its lines are counted besides, and so many of its bytes are those of ended lines
+-- that part of the open file was read, its lines are counted besides, and this many of its bytes are those of ended lines
 pub record CountsPart (setup : Setup) (from end : ℕ) (keep : Bool) (files files' : FilesView) (counting counting' : CountingSeen)
     (count : ℕ) : Type 0 where
   pub part : List ℕ

@@ -11,11 +11,11 @@ use Rattle.ga_numbers.specs.declared.shard_row.ShardRow.{ShardRow}
 abbrev pub no_row : ShardRow
 no_row = record { prefix = 0; date = 0; text = [] }
 
--- the row that stands at a place
+-- the row that is at a place
 abbrev pub row_at : List (List ShardRow) → Place → ShardRow
 row_at shards p = slice_index_or (slice_index_or shards p.shard []) p.local no_row
 
--- a row stands at a place
+-- a row is at a place
 abbrev pub IsRowAt : List (List ShardRow) → Place → Type 0
 IsRowAt shards p = p.local < length (slice_index_or shards p.shard [])
 
@@ -34,7 +34,7 @@ pub record AreShards (shards : List (List ShardRow)) : Type 0 where
   -- each row is in the shard of its day and its text
   pub own : (s : ℕ) → All (λ (row : ShardRow). shard_at row ≡ s) (slice_index_or shards s [])
 
--- a row stands at each place, and the shards know its number
+-- a row is at each place, and the shards know its number
 pub record AreNamed (shards : List (List ShardRow)) (numbers : List (List ℕ)) (places : List Place) : Type 0 where
   pub many : length numbers ≡ length shards
   pub few : length places < 2 ^ 32

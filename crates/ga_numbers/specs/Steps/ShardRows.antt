@@ -33,11 +33,11 @@ pub record AreRowsOf {F : Type 0} (eq : F → F → Bool) (IsPlain : F → Type 
   pub plain : All IsPlain prefixes
   pub prefixed : HavePrefixes prefixes rows
 
--- a row whose prefix has the number that stands in this list
+-- a row whose prefix has the number that is in this list
 abbrev pub remapped_by : List ℕ → ShardRow → ShardRow
 remapped_by numbers row = record { prefix = slice_index_or numbers row.prefix 0; date = row.date; text = row.text }
 
--- rows of others, list by list, whose prefixes have the numbers that stand in the list of theirs, or in none where it is
+-- rows of others, list by list, whose prefixes have the numbers that are in the list of theirs, or in none where it is
 -- missing
 abbrev pub remapped_each : List (List ℕ) → List (List ShardRow) → List (List ShardRow)
 remapped_each prefixes [] = []

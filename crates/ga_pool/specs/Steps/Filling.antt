@@ -38,7 +38,7 @@ pub record Gains (old new : CountView) (gain peak : ℕ → ℕ) : Type 0 where
   pub tallies : (word : ℕ) → tally_at word new ≡ tally_at word old + gain word
   pub peaks : (place : ℕ) → maximum_at place new ≡ max (maximum_at place old) (peak place)
 
--- nothing was put in, and there are so many words and places
+-- nothing was put in, and there are this many words and places
 pub record IsBlank (words places : ℕ) (v : CountView) : Type 0 where
   pub words_are : length v.tallies ≡ words
   pub places_are : length v.maxima ≡ places
@@ -80,7 +80,7 @@ pub record CanPut (keys visitors : ℕ) (numbers names : List (List ℕ)) (worke
   pub sums : CanAdd keys (weight_of_rows rows) (numbers_at numbers worker) rows.sums.items
   pub pairs : CanClaim keys visitors (numbers_at numbers worker) (numbers_at names worker) rows.pairs.items
 
--- numbers of each worker's rows, from this one on, added up; the greatest of them; and lists, one behind the other
+-- numbers of each worker's rows, from this one on, added up; the greatest of them; and lists, one after the other
 abbrev pub sum_from : (ℕ → TableRows → ℕ) → ℕ → List TableRows → ℕ
 sum_from f worker [] = 0
 sum_from f worker (rows ∷ more) = f worker rows + sum_from f (worker + 1) more

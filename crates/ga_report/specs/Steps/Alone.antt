@@ -5,7 +5,7 @@ use Rattle.ga_report.specs.declared.row_index.RowIndex.{RowIndex}
 use Rattle.ga_report.specs.Steps.RowPlaces.{AreIndexes, label_hash}
 use Rattle.ga_report.specs.Source.{SourceRow}
 
--- the bucket of a hash, of so many
+-- the bucket of a hash, of this many
 abbrev pub bucket_at : ℕ → ℕ → ℕ
 bucket_at many hash = bit_and hash (many - 1)
 

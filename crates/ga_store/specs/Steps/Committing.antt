@@ -82,9 +82,9 @@ pub record Closes (side gate : ℕ) (disk disk' : DiskView) (images images' : Im
   pub told : (sides : Sides) → Settles sides disk images
       → Leads (IsClosing side gate sides) (after_closing side gate sides) disk' images images' result
 
--- ---- what stands behind it
+-- ---- what follows it
 
--- a side with these bytes behind the gate, where a new generation ends
+-- a side with these bytes after the gate, where a new generation ends
 abbrev pub with_tail : Work → List ℕ → List ℕ
 with_tail w side = take (w.gate + 1) side ++ w.tail ++ (if w.is_new then [] else drop (w.gate + 1 + length w.tail) side)
 

@@ -22,12 +22,12 @@ pub record IsSide (side : ℕ) (disk : DiskView) (bytes : List ℕ) : Type 0 whe
   pub told : IfSome disk.seen (λ seen. bytes ≡ of_side side seen)
   pub size : length bytes ≤ max_size
 
--- so many bytes are read by this number of calls, each of which but the last reads as many as one may
+-- this many bytes are read by this number of calls, each of which but the last reads as many as one may
 pub record InPieces (bytes reads : ℕ) : Type 0 where
   pub enough : bytes ≤ reads * most_read
   pub none_over : reads * most_read < bytes + most_read
 
--- so many bytes were read piece by piece, beside so many other calls
+-- this many bytes were read piece by piece, beside this many other calls
 pub record Fetches (others bytes : ℕ) (disk disk' : DiskView) : Type 0 where
   pub reads : ℕ
   pub pieces : InPieces bytes reads
@@ -42,7 +42,7 @@ IsOutside (CounterFull which total) = ⊥
 
 -- ---- bytes are read
 
--- the answer is what they say; want of memory tells nothing
+-- the answer is what they say; lack of memory tells nothing
 abbrev pub Answers : (Reading → Type 0) → Result Db StoreFault → Type 0
 Answers Say (Ok db) = Say (stored (db_value db))
 Answers Say (Err (Damaged side at)) = Say (damaged side at)
@@ -59,18 +59,18 @@ AnswersFirst number side (Err NoMemory) = Unit {0}
 AnswersFirst number side (Err DiskFault) = ⊥
 AnswersFirst number side (Err (CounterFull which total)) = ⊥
 
--- behind a gate stands a part with this run record, and the next gate at this place
+-- after a gate stands a part with this run record, and the next gate at this place
 pub record HasRecord (side : List ℕ) (slot : ℕ) (delta : DeltaValue) (next : ℕ) : Type 0 where
   pub body : List ℕ
   pub part : IsPartAt side (slot + 1) body
   pub spells : SpellDelta body delta
   pub behind : next ≡ slot + 1 + length (part_bytes body)
 
--- no part with a run record stands there
+-- no part with a run record is there
 abbrev pub LacksRecord : List ℕ → ℕ → Type 0
 LacksRecord side slot = (body : List ℕ) (delta : DeltaValue) → IsPartAt side (slot + 1) body → SpellDelta body delta → ⊥
 
--- the same of a record behind a gate
+-- the same of a record after a gate
 abbrev pub AnswersRecord : ℕ → List ℕ → ℕ → Result RecordPart StoreFault → Type 0
 AnswersRecord number side slot (Ok found) = HasRecord side slot (delta_value found.delta) found.next
 AnswersRecord number side slot (Err (Damaged other at)) = LacksRecord side slot × (other ≡ number) × (at ≡ slot + 1)

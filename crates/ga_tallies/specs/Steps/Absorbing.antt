@@ -70,6 +70,6 @@ abbrev pub IsRemapped : List RemappedSeen → ℕ × ℕ → Type 0
 IsRemapped [] pair = ⊥
 IsRemapped (remapped ∷ remapped_tallies) pair = IsBrought remapped pair ⊎ IsRemapped remapped_tallies pair
 
--- of those pairs one with a key of so many, of which the first has this number
+-- of those pairs one with a key of this many, of which the first has this number
 abbrev pub IsAmong : ℕ → ℕ → (ℕ × ℕ → Type 0) → ℕ × ℕ → Type 0
 IsAmong first many Comes pair = Comes pair × (first ≤ pair.0) × (pair.0 < first + many)

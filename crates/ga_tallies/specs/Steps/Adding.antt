@@ -37,7 +37,7 @@ with_line row line = record {
   max_micros = max row.max_micros line.max_micros;
 }
 
--- the rows after a line's sums were put down at a place: in the row there, or behind them all
+-- the rows after a line's sums were put down at a place: in the row there, or after them all
 abbrev pub added_at : ℕ → Sums → List Sums → List Sums
 added_at place line rows =
     if nat_lt place (length rows) then set rows place (with_line (slice_index_or rows place line) line) else rows ++ line ∷ []

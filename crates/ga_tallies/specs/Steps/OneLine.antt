@@ -14,7 +14,7 @@ use Rattle.ga_tallies.specs.Steps.Notes.{keys_told}
 use Rattle.ga_tallies.specs.Tallies.{IsTallyOf, TallySeen}
 use Rattle.ga_outcomes.specs.declared.setup.Setup.{Setup}
 
--- outcomes were counted behind those that the tally was of
+-- outcomes were counted after those that the tally was of
 abbrev pub Adds : List Outcome → TallySeen → TallySeen → Type 0
 Adds outcomes old new = (before : List Outcome) → IsTallyOf before old → IsTallyOf (before ++ outcomes) new
 

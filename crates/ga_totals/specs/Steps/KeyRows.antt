@@ -28,11 +28,11 @@ pub record AreByKey (keys : List Key) (all : List NumberedKey) : Type 0 where
 abbrev pub name_at : List Visitor → ℕ → Name
 name_at visitors v = name_of (slice_index_or visitors v (record { host = []; date = 0; agent = [] }))
 
--- the visitors of a key's number, of rows that have them at the keys' numbers: none behind the last row
+-- the visitors of a key's number, of rows that have them at the keys' numbers: none after the last row
 abbrev pub visitors_at : List (List ℕ) → ℕ → List ℕ
 visitors_at rows number = slice_index_or rows number []
 
--- rows of visitors of whom there are so many
+-- rows of visitors of whom there are this many
 abbrev pub AreWithin : ℕ → List (List ℕ) → Type 0
 AreWithin visitors rows = All (λ row. All (λ v. v < visitors) row) rows
 

@@ -22,7 +22,7 @@ pub record HasName (visitors : List Visitor) (entry : NumberedVisitor) : Type 0 
   pub within : entry.number < length visitors
   pub name_is : name_of entry.visitor ≡ name_at visitors entry.number
 
--- so many visitors with their numbers
+-- this many visitors with their numbers
 pub record AreNumbered (visitors : List Visitor) (count : ℕ) (all : List NumberedVisitor) : Type 0 where
   pub many : length all ≡ count
   pub names : All (HasName visitors) all

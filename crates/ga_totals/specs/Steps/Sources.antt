@@ -12,7 +12,7 @@ use Rattle.ga_report.specs.Source.{SourceRow}
 abbrev pub visitors_of : ℕ → List (ℕ × ℕ) → List ℕ
 visitors_of number pairs = map (λ pair. pair.1) (filter (λ pair. pair.0 == number) pairs)
 
--- of so many keys each has the number of its different visitors at its own number
+-- of this many keys each has the number of its different visitors at its own number
 pub record AreVisits (keys : ℕ) (pairs : List (ℕ × ℕ)) (visits : List ℕ) : Type 0 where
   pub many : length visits ≡ keys
   pub each : (number : ℕ) → number < keys → slice_index visits number ≡ distinct_count eqb (visitors_of number pairs)

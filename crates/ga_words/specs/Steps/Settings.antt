@@ -63,6 +63,6 @@ meaning C.Target = Target (λ output s. record s { output = output })
 meaning C.Addresses = Addresses (λ range s. record s { ranges = s.ranges ++ range ∷ [] })
 meaning (C.OfPanel on) = OfPanel (λ panel s. record s { panels = slice_set s.panels (panel_number panel) on })
 
--- the fault is want of memory, or the value at this place is none that the option takes
+-- the fault is lack of memory, or the value at this place is none that the option takes
 abbrev pub IsValueFault : CodeTakes → List ℕ → ℕ → WordFault → Type 0
 IsValueFault takes value at fault = (fault ≡ NoMemory) ⊎ ((fault ≡ BadValue at) × IsOutside (meaning takes) value)

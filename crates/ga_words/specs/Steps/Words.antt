@@ -39,11 +39,11 @@ SaysOf word (W.Alone takes) = takes_of word ≡ Some (meaning takes)
 SaysOf word (W.Joined name takes value) = IsJoined word name.now takes value.now
 SaysOf word W.Unknown = BeginsWithDash word × (takes_of word ≡ None) × HasNoJoined word
 
--- the fault is want of memory, or the words that begin at `at` begin with it
+-- the fault is lack of memory, or the words that begin at `at` begin with it
 abbrev pub IsUnitFault : ℕ → List (List ℕ) → WordFault → Type 0
 IsUnitFault at words fault = (fault ≡ NoMemory) ⊎ BeginsWithFault at words fault
 
--- the first of these words, from `at` on, are a unit, with this behind it, and it is read
+-- the first of these words, from `at` on, are a unit, with this after it, and it is read
 pub record TakesUnit (words rest : List (List ℕ)) (at : ℕ) (old new : Reading) : Type 0 where
   pub unit : WordUnit
   pub spells : words ≡ written unit ++ rest
@@ -55,7 +55,7 @@ abbrev pub IsLast : List ℕ → Option ℕ → Type 0
 IsLast places None = places ≡ []
 IsLast places (Some at) = IsLastOf places at
 
--- these words begin with a row of units, which is read, and this is behind it
+-- these words begin with a row of units, which is read, and this is after it
 pub record HasRead (words rest : List (List ℕ)) (reading : Reading) : Type 0 where
   pub units : List WordUnit
   pub spells : words ≡ spelled units ++ rest
@@ -68,7 +68,7 @@ pub record HasReadAll (words : List (List ℕ)) (reading : Reading) : Type 0 whe
   pub are_units : AreUnits words units reading.settings
   pub last : IsLast (generate_places 0 units) reading.generate_at
 
--- no word is left, or `--` and what stands behind it
+-- no word is left, or `--` and what follows it
 abbrev pub IsTail : List (List ℕ) → Type 0
 IsTail rest = (rest ≡ []) ⊎ ((logs : List (List ℕ)) × (rest ≡ codes "--" ∷ logs))
 

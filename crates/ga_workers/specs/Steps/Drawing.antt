@@ -8,11 +8,11 @@ use Rattle.ga_outcomes.specs.LineOutcomes.{HaveOutcomes}
 use Rattle.ga_tallies.specs.Tallies.{IsTallyOf, TallySeen}
 use Rattle.ga_outcomes.specs.declared.setup.Setup.{Setup}
 
--- the lines of pieces, one piece behind the other; what follows the last line feed of a piece is a line
+-- the lines of pieces, one piece after the other; what follows the last line feed of a piece is a line
 abbrev pub all_lines : List (List ℕ) → List (List ℕ)
 all_lines pieces = flat_map (λ piece. lines piece true) pieces
 
--- no piece has more lines than so many
+-- no piece has more lines than this many
 abbrev pub AreShort : ℕ → List (List ℕ) → Type 0
 AreShort most pieces = All (λ piece. length (lines piece true) ≤ most) pieces
 
@@ -33,7 +33,7 @@ pub record IsCame (setup : Setup) (pieces : List (List ℕ)) (piece : Came) : Ty
 abbrev pub of_pieces : ℕ → List ℕ → List ℕ
 of_pieces pieces drawn = filter (λ number. nat_lt number pieces) drawn
 
--- a tally counted the pieces drawn, behind what it had counted
+-- a tally counted the pieces drawn, after what it had counted
 pub record TalliesDrawn (setup : Setup) (pieces : List (List ℕ)) (drawn : List ℕ) (old new : TallySeen) : Type 0 where
   pub came : List Came
   pub numbers : map (λ piece. piece.number) came ≡ of_pieces (length pieces) drawn

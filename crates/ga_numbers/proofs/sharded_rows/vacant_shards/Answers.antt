@@ -1,7 +1,7 @@
 use Rattle.std.proofs.Common.{◌≡◌, ◌∙◌, ◌∷◌, ◌++◌, [], ℕ, zero, suc, List, get_or, length, refl, ap, arith, length-append}
 use Rattle.ga_numbers.proofs.sharded_rows.vacant_shards.Goals as goal
 
--- one vacant list more behind others
+-- one vacant list more after others
 vacant-more : {T : Type 0} (xs : List (List T)) → ((s : ℕ) → get_or xs s [] ≡ []) → (s : ℕ) → get_or (xs ++ [] ∷ []) s [] ≡ []
 vacant-more [] each zero = refl
 vacant-more [] each (suc s) = refl

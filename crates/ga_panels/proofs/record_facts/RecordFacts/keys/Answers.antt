@@ -1,6 +1,6 @@
 use Rattle.std.proofs.Common.{◌≡◌, ◌∙◌, ap, sym, subst, take, arith}
 use Rattle.std.specs.Prelude.{flat_map}
-use Rattle.ga_base.specs.declared.panel.TheConstants.Panel.{ALL as ALL_PANELS}
+use Rattle.ga_base.specs.declared.panel.TheConstants.Panel.{ALL as ALL_PANELS, COUNT}
 use Rattle.ga_panels.specs.Form.{AreKeysOfDay}
 use Rattle.ga_panels.specs.Known.{facts_of, record_of, setup_of}
 use Rattle.ga_panels.specs.Table.{keys_in}
@@ -11,7 +11,7 @@ use Rattle.ga_panels.proofs.record_facts.RecordFacts.keys.Goals as goal
 pub returns-clause-exact : goal.returns-clause-exact
 returns-clause-exact c =
     let known = c.args.self.now in
-    let end : c.loop-panel.panel-index ≡ 17 = omega arith in
+    let end : c.loop-panel.panel-index ≡ COUNT = omega arith in
     c.loop-panel.invariant ∙ ap (λ n. flat_map (keys_in (setup_of known) (record_of known) (facts_of known)) (take n ALL_PANELS)) end
 
 pub returns-clause-form : goal.returns-clause-form

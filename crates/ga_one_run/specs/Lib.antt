@@ -1,0 +1,14 @@
+pub mod Course
+pub mod Ends
+pub mod Inputs
+pub mod Keeping
+pub mod Leaves
+pub mod OneRun
+pub mod Outside
+pub mod Printing
+pub mod Reports
+pub mod Run
+pub mod Setups
+pub mod Statuses
+pub mod Steps
+pub mod Told

@@ -1,0 +1,145 @@
+ghost use Rattle.std.specs.Prelude.{◌≡◌, ◌≤◌, ◌∷◌, [], codes, decimal, map};
+ghost use Rattle.ga_ports.specs.declared.outs.To.TheVariants.{Stderr};
+ghost use Rattle.ga_ports.specs.Trace.{OutsTrace};
+ghost use Rattle.ga_one_run.specs.Printing.{ChangesOnly, TakesOrStops};
+ghost use Rattle.ga_one_run.specs.Statuses.{counter_name, fault_line, format_name, joined, word_pieces};
+
+use crate::printing::print;
+use crate::{Status, Which};
+use ga_base::Counter;
+use ga_ports::{Outs, To};
+use ga_words::WordFault;
+use itoa::Buffer;
+
+/// Writes the fault line of a status to standard error, nothing for `Done`. It takes no memory, and a fault of
+/// standard error ends the line. `name` is that of the input or of the target that failed.
+pub fn tell<O: Outs>(outs: &mut O, name: &[u8], status: &Status)
+    ensures line { TakesOrStops (fault_line name.now status.now) (O.view outs.old).stderr (O.view outs.new).stderr }
+    ensures others { ChangesOnly Stderr (O.view outs.old) (O.view outs.new) }
+    ensures starved { (O.view outs.old).starved ≤ (O.view outs.new).starved }
+    ensures calls { OutsTrace (O.view outs.old) (O.view outs.new) }
+{
+    let mut digits = Buffer::new();
+    match status {
+        Status::Done => say(outs, &[]),
+        Status::BadWords(fault) => tell_words(outs, fault),
+        Status::BadFormat { which, fault } => {
+            let format = format_name(*which);
+            let text = fault.text().as_bytes();
+            match fault.place() {
+                None => say(outs, &[b"goaccess: ", format, b": ", text, b"\n"]),
+                Some(at) => {
+                    let at = digits.format(at).as_bytes();
+                    say(
+                        outs,
+                        &[b"goaccess: ", format, b", byte ", at, b": ", text, b"\n"],
+                    )
+                }
+            }
+        }
+        Status::BadRules { line } => {
+            let line = digits.format(*line).as_bytes();
+            let file = b"goaccess: browsers file, line ";
+            say(outs, &[file, line, b": not a rule\n"])
+        }
+        Status::FileFault { .. } => say(outs, &[b"goaccess: ", name, b": read failed\n"]),
+        Status::FileShort { at, .. } => {
+            let at = digits.format(*at).as_bytes();
+            say(outs, &[b"goaccess: ", name, b": short at ", at, b"\n"])
+        }
+        Status::DiskFault => say(outs, &[b"goaccess: database: device failed\n"]),
+        Status::DbDamaged { side, at } => tell_damage(outs, *side, *at),
+        Status::OutFault { at, .. } => {
+            let at = digits.format(*at).as_bytes();
+            let taken = b": write failed after ";
+            say(outs, &[b"goaccess: ", name, taken, at, b" bytes\n"])
+        }
+        Status::CounterFull { which, total } => {
+            let total = digits.format(*total).as_bytes();
+            let counter = counter_name(*which);
+            say(outs, &[b"goaccess: counter full: ", counter, total, b"\n"])
+        }
+        Status::NoMemory => say(outs, &[b"goaccess: no memory\n"]),
+    }
+}
+
+/// Writes the fault line of a damaged database.
+fn tell_damage<O: Outs>(outs: &mut O, side: u32, at: u64)
+    ensures line { TakesOrStops (joined (codes "goaccess: database: side " ∷ decimal side ∷ codes " damaged at " ∷ decimal at ∷ codes "\n" ∷ [])) (O.view outs.old).stderr (O.view outs.new).stderr }
+    ensures others { ChangesOnly Stderr (O.view outs.old) (O.view outs.new) }
+    ensures starved { (O.view outs.old).starved ≤ (O.view outs.new).starved }
+    ensures calls { OutsTrace (O.view outs.old) (O.view outs.new) }
+{
+    let mut places = Buffer::new();
+    let mut sides = Buffer::new();
+    let at = places.format(at).as_bytes();
+    let side = sides.format(side).as_bytes();
+    let text = b"goaccess: database: side ";
+    say(outs, &[text, side, b" damaged at ", at, b"\n"])
+}
+
+/// Writes the fault line of words.
+fn tell_words<O: Outs>(outs: &mut O, fault: &WordFault)
+    ensures line { TakesOrStops (joined (word_pieces fault.now)) (O.view outs.old).stderr (O.view outs.new).stderr }
+    ensures others { ChangesOnly Stderr (O.view outs.old) (O.view outs.new) }
+    ensures starved { (O.view outs.old).starved ≤ (O.view outs.new).starved }
+    ensures calls { OutsTrace (O.view outs.old) (O.view outs.new) }
+{
+    match fault {
+        WordFault::UnknownOption { at } => tell_word(outs, *at, b": unknown option\n"),
+        WordFault::MissingValue { at } => tell_word(outs, *at, b": value missing\n"),
+        WordFault::BadValue { at } => tell_word(outs, *at, b": bad value\n"),
+        WordFault::Conflict { at } => tell_word(outs, *at, b": conflict\n"),
+        WordFault::NoFormat => say(outs, &[b"goaccess: no log format\n"]),
+        WordFault::NoInput => say(outs, &[b"goaccess: no input\n"]),
+        WordFault::NoMemory => say(outs, &[b"goaccess: no memory\n"]),
+    }
+}
+
+/// Writes what is wrong with the word at a place.
+fn tell_word<O: Outs>(outs: &mut O, at: u64, text: &[u8])
+    ensures line { TakesOrStops (joined (codes "goaccess: word " ∷ decimal at ∷ text.now ∷ [])) (O.view outs.old).stderr (O.view outs.new).stderr }
+    ensures others { ChangesOnly Stderr (O.view outs.old) (O.view outs.new) }
+    ensures starved { (O.view outs.old).starved ≤ (O.view outs.new).starved }
+    ensures calls { OutsTrace (O.view outs.old) (O.view outs.new) }
+{
+    let mut digits = Buffer::new();
+    let at = digits.format(at).as_bytes();
+    say(outs, &[b"goaccess: word ", at, text])
+}
+
+fn counter_name(which: Counter) -> &'static [u8]
+    ensures { result.now ≡ counter_name which }
+{
+    match which {
+        Counter::Lines => b"lines ",
+        Counter::Bytes => b"bytes ",
+        Counter::Micros => b"micros ",
+        Counter::Generations => b"generations ",
+    }
+}
+
+fn format_name(which: Which) -> &'static [u8]
+    ensures { result.now ≡ format_name which }
+{
+    match which {
+        Which::Log => b"log format",
+        Which::Date => b"date format",
+        Which::Time => b"time format",
+    }
+}
+
+/// Writes pieces one after the other to standard error, up to its first fault.
+fn say<O: Outs>(outs: &mut O, pieces: &[&[u8]])
+    ensures line { TakesOrStops (joined (map (λ piece. piece.now) pieces.now)) (O.view outs.old).stderr (O.view outs.new).stderr }
+    ensures others { ChangesOnly Stderr (O.view outs.old) (O.view outs.new) }
+    ensures starved { (O.view outs.old).starved ≤ (O.view outs.new).starved }
+    ensures calls { OutsTrace (O.view outs.old) (O.view outs.new) }
+{
+    for piece in pieces {
+        match print(outs, To::Stderr, piece) {
+            Ok(()) => {}
+            Err(_) => return,
+        }
+    }
+}

@@ -1,5 +1,0 @@
-use Rattle.ga_run.proofs.faults.tell_damage.Goals as goal
-
-pub returns-clause-line : goal.returns-clause-line
-returns-clause-line g c =
-    rw (← c.format.ensures.text, ← c.as_bytes-at.ensures.value, ← c.format-2.ensures.text, ← c.as_bytes-side.ensures.value) c.say.ensures.line

@@ -1,5 +1,0 @@
-use Rattle.ga_run.proofs.FormatLemmas.{one-outcome}
-use Rattle.ga_run.proofs.laws.one_outcome.Goals as goal
-
-pub returns : goal.returns
-returns c = one-outcome c.one_answer.ensures c.one_format.ensures

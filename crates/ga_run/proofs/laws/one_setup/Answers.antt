@@ -1,6 +1,0 @@
-use Rattle.ga_run.proofs.Runs.{one-setup}
-use Rattle.ga_run.proofs.WordLaw.{one-words}
-use Rattle.ga_run.proofs.laws.one_setup.Goals as goal
-
-pub returns : goal.returns
-returns c = one-setup (one-words c.one_reading.ensures) c.one_outcome.ensures

@@ -1,5 +1,0 @@
-use Rattle.ga_ports.specs.Trace.{no_files_call}
-use Rattle.ga_run.proofs.rules.rules_of.Goals as goal
-
-pub returns-in-None-clause-calls : goal.returns-in-None-clause-calls
-returns-in-None-clause-calls g c = no_files_call
