@@ -1,8 +1,11 @@
 #!/usr/bin/env python3
-"""Writes the tables of runs of crates/ga_run_tests/src, each case with its name. The answers come from goaccess_oracle.py.
+"""Writes tables of runs for the tests, each case with its name. The answers come from goaccess_oracle.py.
 
-    make_cases.py words FOLDER  runs in which the options and the lines vary, over up to three files: reports.rt and faults.rt
-    make_cases.py runs FILE     runs that keep what they counted, one after the other, over logs that grow and are renamed
+    make_cases.py words FOLDER  runs in which the options and the lines vary, over up to three files: reports.rt and faults.rt of
+                                crates/ga_run_tests/src
+    make_cases.py runs FILE     runs that keep what they counted, one after the other, over logs that grow and are renamed:
+                                histories.rt beside them
+    make_cases.py lists FILE    lists of steps with crashes, and outputs and calls that fail: lists.rt of crates/ga_history_tests/src
 """
 import os
 import sys
@@ -293,6 +296,151 @@ def write_runs(path):
     return sum(isinstance(step, list) for _, history in HISTORIES for step in history)
 
 
+# a list with braces is written with each of these picks in their place
+PICKS = (0, 255, 79)
+ROTATED = "+ a.log /a /b; track a.log; + a.log /c /d~; > a.log a.log.1; + a.log.1 ~; + a.log /e"
+LISTS = [
+    ("a log grows between runs", "+ a.log /a; track a.log; + a.log /b /b; track a.log; track a.log"),
+    ("a log gets another name, and the next line begins a new one", ROTATED + "; track a.log.1 a.log; track a.log a.log.1"),
+    ("a log gets another name twice, and grows under each",
+     "+ a.log /a; track a.log; > a.log a.log.1; + a.log.1 /b; track a.log.1; > a.log.1 a.log.2; + a.log.2 /c; track a.log.2"),
+    ("a name that is taken isn't given again", "+ a.log /a; + b.log /b; > a.log b.log; track a.log b.log"),
+    ("a line is kept once its end is there", "+ a.log /a /b~; track a.log; show; show a.log; + a.log ~; track a.log; show"),
+    ("a line that doesn't fit is counted once", "+ a.log /a !; track a.log; + a.log ! /b; track a.log"),
+    ("a log that is named twice is counted once", "+ a.log /a; track a.log a.log; + a.log /b; track a.log a.log"),
+    ("a run with --persist alone begins anew", "+ a.log /a; track a.log; + b.log /b; anew b.log; show; track b.log a.log"),
+    ("a run with --restore alone keeps nothing", "+ a.log /a; track a.log; + a.log /b; show a.log; show; track a.log"),
+    ("a log that isn't there ends a run, which keeps nothing", "+ a.log /a; track a.log gone.log; show; track a.log"),
+    ("crashes after runs change no report",
+     "+ a.log /a; crash 10000 255 track a.log; + a.log /b; crash 10000 0 track a.log; show; crash 10000 79 track a.log; crash 10000 - show"),
+    ("runs that can't open the disk, and runs that can't write, keep nothing",
+     "+ a.log /a; crash 0 0 track a.log; show; + a.log /b; crash 1 255 track a.log; crash 2 79 track a.log; show; track a.log; crash 3 - track a.log; show"),
+    ("two runs are cut one after the other",
+     "+ a.log /a; track a.log; + a.log /b; crash 5 255 track a.log; + a.log /c; crash 4 79 track a.log; track a.log"),
+    ("the first call of the disk fails", "disk 1: + a.log /a; track a.log; show; track a.log"),
+    ("the first call of the files fails", "files 1: + a.log /a; track a.log; show; track a.log"),
+    ("the first write of a report fails, and its run is kept", "outs 1: + a.log /a; track a.log; show; + a.log /b; track a.log"),
+    ("an output has room for one report and a part of the next, and the runs are kept",
+     "room 1124: + a.log /a; track a.log; + a.log /b; track a.log; + a.log /c; track a.log"),
+    ("one call of the disk fails", "disk *: + a.log /a; track a.log; > a.log a.log.1; + a.log /b; track a.log a.log.1"),
+    ("one call of the files fails", "files *: + a.log /a; track a.log; > a.log a.log.1; + a.log /b; track a.log a.log.1"),
+    ("the first run is cut", "+ a.log /a; crash * 0 track a.log; + a.log /b; track a.log"),
+    ("a run over a renamed log is cut", ROTATED + "; crash * 255 track a.log.1 a.log; + a.log /f; track a.log a.log.1"),
+    ("a run with --persist alone is cut", "+ a.log /a; track a.log; + b.log /b; crash * 79 anew a.log b.log; track b.log a.log"),
+    ("a run behind a kept run with --persist alone is cut",
+     "+ a.log /a; anew a.log; + a.log /b; > a.log a.log.1; + a.log /c; crash * {} track a.log.1 a.log; track a.log.1 a.log; show"),
+]
+MODES = {"track": TRACKED, "anew": [COMMON, "-o", "csv", "--persist"], "show": [COMMON, "-o", "csv", "--restore"]}
+# after fewer calls than this no run was kept
+FEWEST = 6
+
+
+DOC_LISTS = """\
+/// Lists of steps, a case a line below a line that says what it shows: what is to fail, the steps, and what the list answers.
+///
+/// `+ LOG PAGE..` grows a log by a line for each page, where `/a~` is the front of a line, `~` the rest of one, and `!` a line that
+/// doesn't fit. `> FROM TO` renames a log. `track LOG..` is a run with both words, `anew LOG..` one with `--persist` alone and
+/// `show LOG..` one with `--restore` alone; with `crash CALLS PICK` before it every call of the disk fails that comes after that many,
+/// and a crash comes after it. A star is tried with each number, until no run fails.
+///
+/// The answer is the exit status of each run, and of each report the numbers, with the pages before their hits. The answers were
+/// worked out by a program in another language.
+"""
+
+
+# a line from behind its page on
+REST = ' HTTP/1.1" 200 10\n'
+PIECES = {"!": "broken\n", "~": REST}
+
+
+def bytes_of_page(page):
+    """What a log grows by."""
+    if page in PIECES:
+        return PIECES[page].encode()
+    return line(page.strip("~")).removesuffix(REST if page.endswith("~") else "").encode()
+
+
+def shown(report):
+    """A report in CSV, and the front of one, in a line."""
+    parts = []
+    for row in report.decode().splitlines():
+        fields = [*row.split(","), "", "", "", ""]
+        if row.startswith("id,"):
+            parts.append("|")
+        elif fields[2] == "general":
+            parts.append(fields[3])
+        elif fields[2] == "requests":
+            parts.append(f"{row.rsplit(',', 1)[-1]}={fields[3]}")
+    return " ".join(parts)
+
+
+class Listed:
+    """A list of steps as it is made, with the statuses and the reports of its runs."""
+
+    def __init__(self, setting):
+        kind, _, value = setting.partition(" ")
+        # a star is never a number here: nothing fails
+        self.failing = {kind: value} if value not in ("", "*") else {}
+        self.room = int(self.failing.get("room", "0")) if "room" in self.failing else None
+        self.files, self.db, self.statuses, self.reports = {}, oracle.Database(), "", []
+
+    def fails_at_once(self, calls, logs):
+        """The status of a run that fails before it can be kept, if it does."""
+        if self.failing.pop("disk", None) or calls < FEWEST:
+            return 3
+        return 2 if logs and self.failing.pop("files", None) else 0
+
+    def run(self, run, calls):
+        mode, *logs = run.split(" ")
+        status, out = self.fails_at_once(calls, logs), b""
+        if status == 0:
+            words = [word.encode() for word in MODES[mode] + logs]
+            status, out, _, _ = oracle.run(words, self.files, self.db)
+        if out and self.failing.pop("outs", None):
+            status, out = 4, b""
+        if self.room is not None:
+            status, out = (status if len(out) <= self.room else 4), out[: self.room]
+            self.room -= len(out)
+        self.statuses += str(status)
+        self.reports.append(shown(out))
+
+    def step(self, step):
+        kind, *rest = step.split(" ")
+        if kind == "+":
+            self.files[rest[0].encode()] = self.files.get(rest[0].encode(), b"") + b"".join(map(bytes_of_page, rest[1:]))
+        elif kind == ">":
+            old, new = (name.encode() for name in rest)
+            if old in self.files and new not in self.files:
+                self.files[new] = self.files.pop(old)
+        elif kind == "crash":
+            self.run(" ".join(rest[2:]), FEWEST if rest[0] == "*" else int(rest[0]))
+        else:
+            self.run(step, FEWEST)
+
+
+def list_answer(given):
+    """What a list of steps answers; with a star, where no run fails."""
+    setting, _, steps = given.rpartition(": ")
+    made = Listed(setting)
+    for step in steps.split("; "):
+        made.step(step)
+    return " ".join([made.statuses, *filter(None, made.reports)])
+
+
+def write_lists(path):
+    rows, count = [], 0
+    for name, given in LISTS:
+        rows.append(f"## {name}\n")
+        for row in [given.format(pick) for pick in PICKS] if "{}" in given else [given]:
+            answer = list_answer(row)
+            assert "*" not in row or set(answer.split(" ")[0]) == {"0"}, name
+            rows.append(f"{row} => {answer}\n")
+            count += 1
+    with open(path, "w", encoding="utf-8", newline="") as out:
+        out.write(HEAD + DOC_LISTS + 'pub const LISTS: &str = "\\\n' + quoted("".join(rows)) + '";\n')
+    return count
+
+
 DOC_FAULTS = """\
 /// Runs whose words say no run, in the form of `REPORTS`.
 """
@@ -305,10 +453,10 @@ DOC_WORDS = """\
 
 
 def main():
-    if len(sys.argv) != 3 or sys.argv[1] not in ("words", "runs"):
+    writers = {"words": write_words, "runs": write_runs, "lists": write_lists}
+    if len(sys.argv) != 3 or sys.argv[1] not in writers:
         sys.exit(__doc__)
-    count = write_words(sys.argv[2]) if sys.argv[1] == "words" else write_runs(sys.argv[2])
-    print(count, "runs")
+    print(writers[sys.argv[1]](sys.argv[2]), "lists" if sys.argv[1] == "lists" else "runs")
 
 
 if __name__ == "__main__":
