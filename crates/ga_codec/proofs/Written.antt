@@ -9,8 +9,10 @@ use Rattle.ga_base.specs.declared.entry.Entry.{Entry}
 use Rattle.ga_base.specs.declared.panel.Panel.{Panel}
 use Rattle.ga_base.specs.Panels.{panel_number}
 use Rattle.ga_summary.specs.Sound.{IsSummary}
-use Rattle.ga_codec.specs.Values.{SnapshotValue, DeltaValue, entry_value}
-use Rattle.ga_codec.specs.Shapes.{IsEntry, IsGeneration, SpellSnapshot, SpellDelta}
+use Rattle.ga_summary.specs.SummaryRows.{SummaryValue}
+use Rattle.ga_codec.specs.Appending.{AppendsDelta, AppendsSnapshot}
+use Rattle.ga_codec.specs.Values.{entry_value}
+use Rattle.ga_codec.specs.Shapes.{IsEntry, IsGeneration}
 use Rattle.ga_codec.specs.Steps.Parts.{Part, Writes, followed_by, times, listed}
 use Rattle.ga_codec.specs.Steps.Grammar.{number, panel, version, generation, snapshot, delta}
 use Rattle.ga_codec.proofs.PartLaws.{IsMade}
@@ -87,14 +89,23 @@ wrote_list {A = A} part n i items all old mid new e size v w =
 
 -- ---- wholes
 
-pub wrote_version : (old new : List ℕ) → old ≡ [] → new ≡ old ++ 1 ∷ [] → Writes version tt [] new
-wrote_version old new e f = record { fits = tt; bytes = f ∙ ap (λ (x : List ℕ). x ++ 1 ∷ []) e }
+pub wrote_version : (old new : List ℕ) → new ≡ old ++ 1 ∷ [] → Writes version tt old new
+wrote_version old new e = record { fits = tt; bytes = e }
 
 pub wrote_generation : (g : ℕ) (old new : List ℕ) → IsGeneration g → Writes (number w64) g old new → Writes generation g old new
 wrote_generation g old new is w = record { fits = is; bytes = w.bytes }
 
-pub written_snapshot : (bytes out : List ℕ) (s : SnapshotValue) → bytes ≡ out → Writes snapshot s [] out → IsSummary s.summary → AllByRecursion IsEntry s.entries → SpellSnapshot bytes s
-written_snapshot bytes out s e w sound good = record { spelled = e ∙ w.bytes; fits = w.fits; summary = sound; entries = good }
+pub appended_snapshot : (g : ℕ) (s : SummaryValue) (entries : List Entry) (old new : List ℕ) → Writes snapshot (record { generation = g; summary = s; entries = map entry_value entries }) old new → IsSummary s
+    → AppendsSnapshot g s entries old new
+appended_snapshot g s entries old new w sound = record {
+  bytes = snapshot.spell (record { generation = g; summary = s; entries = map entry_value entries });
+  spells = record { spelled = refl; fits = w.fits; summary = sound; entries = entries_good entries };
+  appended = w.bytes;
+}
 
-pub written_delta : (bytes out : List ℕ) (d : DeltaValue) → bytes ≡ out → Writes delta d [] out → IsSummary d.summary → AllByRecursion IsEntry d.entries → SpellDelta bytes d
-written_delta bytes out d e w sound good = record { spelled = e ∙ w.bytes; fits = w.fits; summary = sound; entries = good }
+pub appended_delta : (s : SummaryValue) (entries : List Entry) (old new : List ℕ) → Writes delta (record { summary = s; entries = map entry_value entries }) old new → IsSummary s → AppendsDelta s entries old new
+appended_delta s entries old new w sound = record {
+  bytes = delta.spell (record { summary = s; entries = map entry_value entries });
+  spells = record { spelled = refl; fits = w.fits; summary = sound; entries = entries_good entries };
+  appended = w.bytes;
+}

@@ -2,4 +2,5 @@
 pub mod Values
 pub mod Spelling
 pub mod Shapes
+pub mod Appending
 pub mod Steps

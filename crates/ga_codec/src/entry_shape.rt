@@ -12,7 +12,7 @@ use ga_base::{Entry, FRONT};
 use std::alloc::Global;
 
 /// The size of an entry: a lead, a digest and an offset.
-const ENTRY_SIZE: usize = 42;
+pub(crate) const ENTRY_SIZE: usize = 42;
 
 /// What is spelled where an entry stands, whether its lead goes with its offset or not.
 #[derive(Clone, Copy, Debug)]

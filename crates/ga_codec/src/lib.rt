@@ -8,6 +8,7 @@ mod cursor;
 mod entry_shape;
 mod fault;
 pub mod laws;
+mod sizes;
 mod snapshot;
 mod snapshot_reading;
 mod summary_reading;
@@ -16,6 +17,7 @@ mod utf8;
 mod writing;
 
 pub use fault::CodecFault;
+pub use sizes::{delta_size, snapshot_size};
 pub use snapshot::{Delta, Snapshot};
 pub use snapshot_reading::{read_delta, read_snapshot};
-pub use writing::{write_delta, write_snapshot};
+pub use writing::{push_delta, push_snapshot, write_delta, write_snapshot};

@@ -1,4 +1,4 @@
-ghost use Rattle.std.specs.Prelude.{◌≡◌, ◌+◌, MatchOption};
+ghost use Rattle.std.specs.Prelude.{◌≡◌, ◌+◌, IfSome, MatchOption};
 ghost use Rattle.ga_base.specs.declared.panel.Panel.{Panel as ThePanel};
 ghost use Rattle.ga_base.specs.Panels.{panel_number};
 ghost use Rattle.ga_summary.specs.SummaryParts.{row_of_part, rows_in, value_of};
@@ -7,15 +7,16 @@ ghost use Rattle.ga_codec.specs.Steps.Parts.{Reads, listed, times};
 
 use crate::CodecFault;
 use crate::cursor::Cursor;
-use ga_base::{Key, Name, Names, Panel, Sums, Totals};
+use ga_base::{Key, Name, Names, Panel, Sums, Text, Totals};
 use ga_summary::{PartRow, PartRows, SummaryParts};
 use std::alloc::Global;
+use std::cmp::Ordering;
 
 /// The least size of a name: those of two texts.
-const NAME_SIZE: usize = 16;
+pub(crate) const NAME_SIZE: usize = 16;
 
 /// The least size of a row: a panel, a day, four texts, four sums and the number of names.
-const ROW_SIZE: usize = 77;
+pub(crate) const ROW_SIZE: usize = 77;
 
 /// The panel that a byte represents, from 1 on in the report's order.
 fn panel_of(byte: u8) -> Option<Panel>
@@ -66,18 +67,19 @@ impl<'a> Cursor<'a> {
     {
         let mut rows = Vec::with_capacity(alloc, self.room(count, ROW_SIZE))?;
         for _ in 0..count {
-            let row = self.read_row(alloc)?;
+            let row = self.read_row(alloc, &rows)?;
             rows.push(row)?;
         }
         Ok(PartRows::from(rows))
     }
 
-    fn read_row(&mut self, alloc: Global) -> Result<PartRow, CodecFault>
+    /// Reads a row that comes after these.
+    fn read_row(&mut self, alloc: Global, before: &[PartRow]) -> Result<PartRow, CodecFault>
         ensures { Reads row row_of_part self.old self.new result }
     {
         let key = self.read_key(alloc)?;
         let sums = self.read_sums()?;
-        let names = self.read_names(alloc)?;
+        let names = self.read_names(alloc, names_of_day(before, key.date))?;
         Ok(PartRow { key, sums, names })
     }
 
@@ -127,30 +129,87 @@ impl<'a> Cursor<'a> {
         })
     }
 
-    fn read_names(&mut self, alloc: Global) -> Result<Names, CodecFault>
+    /// Reads names, and shares the texts of those that are among the known ones.
+    fn read_names(&mut self, alloc: Global, known: &[Name]) -> Result<Names, CodecFault>
         ensures { Reads (listed name) (λ names. names) self.old self.new result }
     {
         let count = self.read_u64()?;
-        self.read_each_name(alloc, count)
+        self.read_each_name(alloc, count, known)
     }
 
-    /// Reads this many names.
-    fn read_each_name(&mut self, alloc: Global, count: u64) -> Result<Names, CodecFault>
+    /// Reads this many names. Each is looked for after the one that was found last.
+    fn read_each_name(
+        &mut self,
+        alloc: Global,
+        count: u64,
+        known: &[Name],
+    ) -> Result<Names, CodecFault>
         ensures { Reads (times count name) (λ names. names) self.old self.new result }
     {
         let mut names = Vec::with_capacity(alloc, self.room(count, NAME_SIZE))?;
+        let mut left = known;
         for _ in 0..count {
-            let name = self.read_name(alloc)?;
+            let (name, rest) = self.read_name(alloc, left)?;
             names.push(name)?;
+            left = rest;
         }
         Ok(Names::from(names))
     }
 
-    fn read_name(&mut self, alloc: Global) -> Result<Name, CodecFault>
-        ensures { Reads name (λ n. n) self.old self.new result }
+    /// Reads a name, and answers the known ones among which the next may be.
+    fn read_name<'k>(
+        &mut self,
+        alloc: Global,
+        known: &'k [Name],
+    ) -> Result<(Name, &'k [Name]), CodecFault>
+        ensures { Reads name (λ read. read.0) self.old self.new result }
     {
-        let host = self.read_text(alloc)?;
-        let agent = self.read_text(alloc)?;
-        Ok(Name { host, agent })
+        let (host, agent) = (self.read_str()?, self.read_str()?);
+        match find_name(known, host, agent) {
+            Some((name, rest)) => Ok((name.clone()?, rest)),
+            None => {
+                let (host, agent) = (Text::of(alloc, host)?, Text::of(alloc, agent)?);
+                Ok((Name { host, agent }, known))
+            }
+        }
     }
+}
+
+/// The names of a day among rows that rise: those of its row of VISITORS. Each other key of the day has some of them, so their
+/// texts are shared; where rows don't rise, what is answered serves as well.
+fn names_of_day(rows: &[PartRow], date: u32) -> &[Name] {
+    let at = rows.partition_point(|row| is_before_day(&row.key, date));
+    match rows.get(at) {
+        Some(row) if row.key.panel == Panel::Visitors && row.key.date == date => row.names.items(),
+        _ => &[],
+    }
+}
+
+/// Whether a key comes before the key of VISITORS of a day.
+fn is_before_day(key: &Key, date: u32) -> bool {
+    key.panel == Panel::Visitors && key.date < date
+}
+
+/// The name of this host and agent among names that rise, and those after it. Where they don't rise it may be missed.
+fn find_name<'n>(names: &'n [Name], host: &str, agent: &str) -> Option<(&'n Name, &'n [Name])>
+    ensures { IfSome result (λ found. found.0.now ≡ record { host = host.now; agent = agent.now }) }
+{
+    let at = names
+        .binary_search_by(|name| compare_name(name, host, agent))
+        .ok()?;
+    let (_, rest) = names.split_at(at);
+    let (name, rest) = rest.split_first()?;
+    if name.host.as_str() == host && name.agent.as_str() == agent {
+        Some((name, rest))
+    } else {
+        None
+    }
+}
+
+/// How a name compares to one of this host and agent.
+fn compare_name(name: &Name, host: &str, agent: &str) -> Ordering {
+    name.host
+        .as_str()
+        .cmp(host)
+        .then_with(|| name.agent.as_str().cmp(agent))
 }

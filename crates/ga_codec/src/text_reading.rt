@@ -13,8 +13,15 @@ impl<'a> Cursor<'a> {
     pub(crate) fn read_text(&mut self, alloc: Global) -> Result<Text, CodecFault>
         ensures { Reads text (λ text. text) self.old self.new result }
     {
+        Ok(Text::of(alloc, self.read_str()?)?)
+    }
+
+    /// The same, lent.
+    pub(crate) fn read_str(&mut self) -> Result<&'a str, CodecFault>
+        ensures { Reads text (λ text. text.now) self.old self.new result }
+    {
         let size = self.read_u64()?;
-        Ok(Text::of(alloc, self.read_utf8(size)?)?)
+        self.read_utf8(size)
     }
 
     /// Reads the bytes of a text of this size.

@@ -2,12 +2,14 @@ ghost use Rattle.std.specs.Prelude.{◌≡◌, ◌+◌, ◌<◌, IfOk, OnOk, len
 ghost use Rattle.std.specs.Int.{w16, w32, w64};
 ghost use Rattle.ga_base.specs.Panels.{panel_number};
 ghost use Rattle.ga_summary.specs.Sound.{IsSummary};
+ghost use Rattle.ga_codec.specs.Appending.{AppendsDelta, AppendsSnapshot};
 ghost use Rattle.ga_codec.specs.Shapes.{IsGeneration, SpellDelta, SpellSnapshot};
 ghost use Rattle.ga_codec.specs.Steps.Grammar as grammar;
 ghost use Rattle.ga_codec.specs.Steps.Parts.{Writes, listed};
 ghost use Rattle.ga_codec.specs.Steps.Shapes.{viewed_row};
 ghost use Rattle.ga_codec.specs.Values.{delta_value, entry_value, snapshot_value};
 
+use crate::sizes::{delta_size, snapshot_size};
 use crate::{Delta, Snapshot};
 use ga_base::{Bytes, Entry, Key, Name, NoMemory, Panel, Sums, Text, Totals};
 use ga_summary::{RowView, Summary};
@@ -21,11 +23,9 @@ pub fn write_snapshot(alloc: Global, snapshot: &Snapshot) -> Result<Bytes, NoMem
     requires { IsGeneration snapshot.now.generation }
     ensures { IfOk result (λ bytes. SpellSnapshot bytes (snapshot_value snapshot.now)) }
 {
-    let mut out = Vec::new(alloc);
-    out.push(VERSION)?;
-    put_u64(&mut out, snapshot.generation)?;
-    put_summary(&mut out, &snapshot.summary)?;
-    put_entries(&mut out, snapshot.entries.items())?;
+    let entries = snapshot.entries.items();
+    let mut out = Vec::with_capacity(alloc, snapshot_size(&snapshot.summary, entries))?;
+    push_snapshot(&mut out, snapshot.generation, &snapshot.summary, entries)?;
     Ok(Bytes::from(out))
 }
 
@@ -33,11 +33,37 @@ pub fn write_snapshot(alloc: Global, snapshot: &Snapshot) -> Result<Bytes, NoMem
 pub fn write_delta(alloc: Global, delta: &Delta) -> Result<Bytes, NoMemory>
     ensures { IfOk result (λ bytes. SpellDelta bytes (delta_value delta.now)) }
 {
-    let mut out = Vec::new(alloc);
-    out.push(VERSION)?;
-    put_summary(&mut out, &delta.summary)?;
-    put_entries(&mut out, delta.entries.items())?;
+    let entries = delta.entries.items();
+    let mut out = Vec::with_capacity(alloc, delta_size(&delta.summary, entries))?;
+    push_delta(&mut out, &delta.summary, entries)?;
     Ok(Bytes::from(out))
+}
+
+/// Appends the bytes of a snapshot of this generation, which has this summary and these entries.
+pub fn push_snapshot(
+    out: &mut Vec<u8>,
+    generation: u64,
+    summary: &Summary,
+    entries: &[Entry],
+) -> Result<(), NoMemory>
+    requires { IsGeneration generation }
+    ensures { OnOk result (AppendsSnapshot generation summary.now entries.now out.old.items out.new.items) }
+{
+    out.push(VERSION)?;
+    put_u64(out, generation)?;
+    put_summary(out, summary)?;
+    put_entries(out, entries)?;
+    Ok(())
+}
+
+/// Appends the bytes of a run record that has this summary and these entries.
+pub fn push_delta(out: &mut Vec<u8>, summary: &Summary, entries: &[Entry]) -> Result<(), NoMemory>
+    ensures { OnOk result (AppendsDelta summary.now entries.now out.old.items out.new.items) }
+{
+    out.push(VERSION)?;
+    put_summary(out, summary)?;
+    put_entries(out, entries)?;
+    Ok(())
 }
 
 fn put_u16(out: &mut Vec<u8>, n: u16) -> Result<(), NoMemory>

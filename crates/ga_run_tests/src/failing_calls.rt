@@ -1,7 +1,7 @@
 //! A run over two logs and what is kept of one of them, in which one call fails.
 
 use crate::world::World;
-use ga_base::Text;
+use ga_base::{NoMemory, Text};
 use ga_disk::{Disk, MemDisk};
 use ga_one_run::Status;
 use ga_ports::{Failed, MemFiles, MemOuts, To};
@@ -65,9 +65,12 @@ fn world_before<R: Threads + Sync>(rt: &R, alloc: Global) -> Result<World, Fail>
     Ok(world)
 }
 
-/// Whether two disks have the same sides.
-fn is_same(one: &MemDisk, other: &MemDisk) -> bool {
-    one.side(0) == other.side(0) && one.side(1) == other.side(1)
+/// The bytes of both sides.
+fn sides_of(alloc: Global, disk: &MemDisk) -> Result<Vec<u8>, NoMemory> {
+    let mut sides = Vec::new(alloc);
+    sides.extend_from_slice(disk.side(0))?;
+    sides.extend_from_slice(disk.side(1))?;
+    Ok(sides)
 }
 
 /// Whether a run answers a text that begins so.
@@ -85,9 +88,15 @@ fn begins<R: Threads + Sync>(
     )
 }
 
-/// Whether a run is done, of whose files this call fails. Else it says that a log can't be read, and nothing is changed.
-fn is_done_with_files<R: Threads + Sync>(rt: &R, alloc: Global, call: u32) -> Result<bool, Fail> {
-    let (before, mut world) = (world_before(rt, alloc)?, world_before(rt, alloc)?);
+/// Whether a run in this world is done, of whose files this call fails. Else it says that a log can't be read, and nothing is
+/// changed.
+fn is_done_with_files<R: Threads + Sync>(
+    rt: &R,
+    alloc: Global,
+    call: u32,
+    world: &mut World,
+) -> Result<bool, Fail> {
+    let before = sides_of(alloc, &world.disk)?;
     world.files.fail_at(u64::from(call))?;
     let answer = world.answer(rt, alloc, TRACKED)?;
     if answer.starts_with(NEW.as_bytes()) {
@@ -95,28 +104,30 @@ fn is_done_with_files<R: Threads + Sync>(rt: &R, alloc: Global, call: u32) -> Re
     }
     let of_a = b"2\ngoaccess: a.log: read failed\n".as_slice();
     let of_b = b"2\ngoaccess: b.log: read failed\n".as_slice();
-    if (answer.as_slice() == of_a || answer.as_slice() == of_b)
-        && is_same(&world.disk, &before.disk)
-    {
+    let failed = answer.as_slice() == of_a || answer.as_slice() == of_b;
+    if failed && sides_of(alloc, &world.disk)? == before {
         return Ok(false);
     }
     Err(Fail::new(format_args!("call {call} of the files")))
 }
 
-/// Whether a run is done, of whose disk this call fails. Else it says so; what is kept is what was before, or all lines; and the
-/// same run prints all lines once no call fails.
-fn is_done_with_disk<R: Threads + Sync>(rt: &R, alloc: Global, call: u32) -> Result<bool, Fail> {
-    let mut world = world_before(rt, alloc)?;
+/// Whether a run in this world is done, of whose disk this call fails. Else it says so; what is kept is what was before, or all
+/// lines; and the same run prints all lines once no call fails.
+fn is_done_with_disk<R: Threads + Sync>(
+    rt: &R,
+    alloc: Global,
+    call: u32,
+    world: &mut World,
+) -> Result<bool, Fail> {
     world.disk.fail_at(COPYING + u64::from(call))?;
     let answer = world.answer(rt, alloc, TRACKED)?;
     if answer.starts_with(NEW.as_bytes()) {
         return Ok(true);
     }
     let kept = world.answer(rt, alloc, KEPT)?;
-    if answer.as_slice() == b"3\ngoaccess: database: device failed\n".as_slice()
-        && (kept.starts_with(OLD.as_bytes()) || kept.starts_with(NEW.as_bytes()))
-        && begins(rt, alloc, &mut world, TRACKED, NEW)?
-    {
+    let is_either = kept.starts_with(OLD.as_bytes()) || kept.starts_with(NEW.as_bytes());
+    let failed = answer.as_slice() == b"3\ngoaccess: database: device failed\n".as_slice();
+    if failed && is_either && begins(rt, alloc, world, TRACKED, NEW)? {
         return Ok(false);
     }
     Err(Fail::new(format_args!("call {call} of the disk")))
@@ -128,7 +139,8 @@ const CALLS: u32 = 64;
 #[test]
 fn a_call_of_the_files_fails(rt: HostRuntime) -> Result<(), Fail> {
     for call in 1..CALLS {
-        if is_done_with_files(&rt, rt.alloc(), call)? {
+        let mut world = world_before(&rt, rt.alloc())?;
+        if is_done_with_files(&rt, rt.alloc(), call, &mut world)? {
             assert!(rt; call > 6, "{call}");
             return Ok(());
         }
@@ -139,7 +151,8 @@ fn a_call_of_the_files_fails(rt: HostRuntime) -> Result<(), Fail> {
 #[test]
 fn a_call_of_the_disk_fails(rt: HostRuntime) -> Result<(), Fail> {
     for call in 1..CALLS {
-        if is_done_with_disk(&rt, rt.alloc(), call)? {
+        let mut world = world_before(&rt, rt.alloc())?;
+        if is_done_with_disk(&rt, rt.alloc(), call, &mut world)? {
             assert!(rt; call > 12, "{call}");
             return Ok(());
         }
@@ -147,41 +160,58 @@ fn a_call_of_the_disk_fails(rt: HostRuntime) -> Result<(), Fail> {
     Err(Fail::new("no run is done"))
 }
 
-/// Whether an output that takes this many bytes has them, and the run is kept.
-fn is_kept_with_room<R: Threads + Sync>(rt: &R, alloc: Global, room: usize) -> Result<bool, Fail> {
-    let mut world = world_before(rt, alloc)?;
-    let mut outs = MemOuts::new(alloc);
+/// Whether an output that takes this many bytes has them after a run in this world, and the run is kept.
+fn is_kept_with_room<R: Threads + Sync>(
+    rt: &R,
+    alloc: Global,
+    room: usize,
+    world: &mut World,
+    outs: &mut MemOuts,
+) -> Result<bool, Fail> {
     outs.set_room(To::Stdout, room as u64);
-    let status = world.run(rt, alloc, TRACKED, &mut outs)?;
+    let status = world.run(rt, alloc, TRACKED, outs)?;
     let (to, at) = (To::Stdout, room as u64);
     let report = NEW.as_bytes().get(STATUS..).unwrap_or_default();
-    Ok(
-        status == Status::OutFault { to, at }
-            && Some(outs.taken(To::Stdout)) == report.get(..room)
-            && begins(rt, alloc, &mut world, KEPT, NEW)?,
-    )
+    let is_front = Some(outs.taken(To::Stdout)) == report.get(..room);
+    Ok(status == Status::OutFault { to, at } && is_front && begins(rt, alloc, world, KEPT, NEW)?)
 }
 
 #[test]
 fn an_output_takes_a_front(rt: HostRuntime) -> Result<(), Fail> {
+    let alloc = rt.alloc();
     for room in [0, 1, 10, 100] {
-        assert!(rt; is_kept_with_room(&rt, rt.alloc(), room)?, "{room}");
+        let (mut world, mut outs) = (world_before(&rt, alloc)?, MemOuts::new(alloc));
+        let is_kept = is_kept_with_room(&rt, alloc, room, &mut world, &mut outs)?;
+        assert!(rt; is_kept, "{room}");
     }
     Ok(())
+}
+
+/// Holds a run with bad words, whose first write fails, to what it leaves: nothing is taken, read or made.
+fn hold_untold<R: Threads + Sync>(
+    rt: &R,
+    alloc: Global,
+    world: &mut World,
+    outs: &mut MemOuts,
+) -> Result<(), Fail> {
+    let before = sides_of(alloc, &world.disk)?;
+    outs.fail_at(1)?;
+    let status = world.run(rt, alloc, "--restore|--persist|--bogus", outs)?;
+    for to in [To::Stdout, To::Stderr, To::File] {
+        if !outs.taken(to).is_empty() {
+            return Err(Fail::new("a target took something"));
+        }
+    }
+    let counts = (status.code(), world.files.bytes_given(), outs.times_made());
+    if counts == (1, 0, 0) && sides_of(alloc, &world.disk)? == before {
+        return Ok(());
+    }
+    Err(Fail::new(format_args!("{counts:?}, or other sides")))
 }
 
 #[test]
 fn bad_words_can_not_be_told(rt: HostRuntime) -> Result<(), Fail> {
     let alloc = rt.alloc();
-    let (before, mut world) = (world_before(&rt, alloc)?, world_before(&rt, alloc)?);
-    let mut outs = MemOuts::new(alloc);
-    outs.fail_at(1)?;
-    let status = world.run(&rt, alloc, "--restore|--persist|--bogus", &mut outs)?;
-    assert_eq!(rt; status.code(), 1);
-    for to in [To::Stdout, To::Stderr, To::File] {
-        assert!(rt; outs.taken(to).is_empty());
-    }
-    assert!(rt; is_same(&world.disk, &before.disk));
-    assert_eq!(rt; (world.files.bytes_given(), outs.times_made()), (0, 0));
-    Ok(())
+    let (mut world, mut outs) = (world_before(&rt, alloc)?, MemOuts::new(alloc));
+    hold_untold(&rt, alloc, &mut world, &mut outs)
 }

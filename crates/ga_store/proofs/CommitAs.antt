@@ -1,10 +1,6 @@
 -- What was said of a side, a gate and a tail holds of equal ones.
-use Rattle.std.proofs.Common.{◌≡◌, ℕ, Bool, List, length, map, Option, Result, subst, sym}
+use Rattle.std.proofs.Common.{◌≡◌, ℕ, Bool, List, length, Option, Result, subst, sym}
 use Rattle.ga_counters.specs.declared.failed.Failed.{Failed}
-use Rattle.ga_base.specs.declared.entry.Entry.{Entry}
-use Rattle.ga_summary.specs.SummaryRows.{SummaryValue}
-use Rattle.ga_codec.specs.Shapes.{SpellDelta, SpellSnapshot}
-use Rattle.ga_codec.specs.Values.{entry_value}
 use Rattle.ga_disk.specs.Disk.{DiskView, Reaches, TornAt, Writes}
 use Rattle.ga_disk.specs.Images.{Images, LeavesSteps, LeavesSynced}
 use Rattle.ga_disk.specs.Sides.{Sides}
@@ -51,16 +47,3 @@ pub reaches-as : (n n' gate gate' : ℕ) (seen : Option Sides) → n ≡ n' → 
 reaches-as n n' gate gate' seen en eg reaches =
     let a = subst (λ (m : ℕ). Reaches m gate' seen) (sym en) reaches in
     subst (λ (m : ℕ). Reaches n m seen) (sym eg) a
-
-pub delta-as : (body : List ℕ) (s s' : SummaryValue) (e e' : List Entry) → s ≡ s' → e ≡ e'
-    → SpellDelta body (record { summary = s; entries = map entry_value e }) → SpellDelta body (record { summary = s'; entries = map entry_value e' })
-delta-as body s s' e e' es ee spells =
-    let a = subst (λ (v : SummaryValue). SpellDelta body (record { summary = v; entries = map entry_value e })) es spells in
-    subst (λ (v : List Entry). SpellDelta body (record { summary = s'; entries = map entry_value v })) ee a
-
-pub snapshot-as : (body : List ℕ) (g : ℕ) (s s' : SummaryValue) (e e' : List Entry) → s ≡ s' → e ≡ e'
-    → SpellSnapshot body (record { generation = g; summary = s; entries = map entry_value e })
-    → SpellSnapshot body (record { generation = g; summary = s'; entries = map entry_value e' })
-snapshot-as body g s s' e e' es ee spells =
-    let a = subst (λ (v : SummaryValue). SpellSnapshot body (record { generation = g; summary = v; entries = map entry_value e })) es spells in
-    subst (λ (v : List Entry). SpellSnapshot body (record { generation = g; summary = s'; entries = map entry_value v })) ee a

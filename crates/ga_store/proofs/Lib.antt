@@ -18,3 +18,4 @@ pub mod CommitFill
 pub mod CommitReady
 pub mod CommitMakes
 pub mod CommitAs
+pub mod Tails

@@ -1,15 +1,16 @@
-ghost use Rattle.std.specs.Prelude.{◌≡◌, ◌+◌, ◌<◌, ◌≤◌, ◌^◌, ◌↔◌, ◌⊎◌, false, true, length, map, Some, IfOk, IfErr, IsErrOf};
+ghost use Rattle.std.specs.Prelude.{◌≡◌, ◌+◌, ◌<◌, ◌≤◌, ◌^◌, ◌↔◌, ◌⊎◌, ◌++◌, false, true, drop, length, map, Some, IfOk, IfErr, IsErrOf};
 ghost use Rattle.ga_base.specs.declared.counts.TheConstants.{LIMIT};
 ghost use Rattle.ga_base.specs.declared.counts.Counter.TheVariants.{Generations};
 ghost use Rattle.ga_summary.specs.Sound.{IsSummary};
 ghost use Rattle.ga_codec.specs.Values.{entry_value};
 ghost use Rattle.ga_store.specs.Commit.{IsGenerationOf, IsRecordOf, IsWorkOf, Makes, MergesBy, after_run, closed_part, other_side, passes_generations};
 ghost use Rattle.ga_store.specs.Store.{db_value};
+ghost use Rattle.ga_store.specs.declared.side_parts.TheConstants.{LENGTH};
 
-use crate::side_parts::FRAME;
+use crate::side_parts::{FRAME, LENGTH};
 use crate::{Db, Mode, StoreFault};
 use ga_base::{Bytes, Counter, Entries, LIMIT, NoMemory};
-use ga_codec::{Delta, Snapshot, write_delta, write_snapshot};
+use ga_codec::{delta_size, push_delta, push_snapshot, snapshot_size};
 use ga_summary::Summary;
 use sha2::{Digest, Sha256};
 use std::alloc::Global;
@@ -103,24 +104,15 @@ fn record(
     requires { db.now.side ≡ Some side }
     ensures { IfOk result (IsRecordOf (db_value db.now) run.now (map entry_value entries.now)) }
 {
-    let delta = Delta {
-        summary: run.copy()?,
-        entries: copy_of(entries)?,
-    };
-    let body = write_delta(alloc, &delta)?;
+    let entries = entries.items();
+    let mut part = begin_part(alloc, delta_size(run, entries))?;
+    push_delta(&mut part, run, entries)?;
     Ok(Prepared {
         side,
         gate: db.slot,
-        tail: closed_part(alloc, body.bytes())?,
+        tail: end_part(part)?,
         is_new: false,
     })
-}
-
-/// A copy of entries.
-fn copy_of(entries: &Entries) -> Result<Entries, NoMemory>
-    ensures { IfOk result (λ copy. copy ≡ entries.now) }
-{
-    Ok(entries.clone()?)
 }
 
 /// A new generation on the other side.
@@ -153,16 +145,13 @@ fn next_generation(
     requires { db.now.generation < LIMIT }
     ensures { IfOk result (IsGenerationOf (db_value db.now) merged.now (map entry_value entries.now)) }
 {
-    let snapshot = Snapshot {
-        generation: db.generation + 1,
-        summary: merged.copy()?,
-        entries: copy_of(entries)?,
-    };
-    let body = write_snapshot(alloc, &snapshot)?;
+    let entries = entries.items();
+    let mut part = begin_part(alloc, snapshot_size(merged, entries))?;
+    push_snapshot(&mut part, db.generation + 1, merged, entries)?;
     Ok(Prepared {
         side: other_side(db.side),
         gate: 0,
-        tail: closed_part(alloc, body.bytes())?,
+        tail: end_part(part)?,
         is_new: true,
     })
 }
@@ -177,17 +166,36 @@ fn other_side(side: Option<u32>) -> u32
     }
 }
 
-/// A part with this body, and a closed gate after it.
-fn closed_part(alloc: Global, body: &[u8]) -> Result<Bytes, NoMemory>
-    ensures part { IfOk result (λ tail. tail ≡ closed_part body.now) }
-    ensures size { length body.now < 2 ^ 64 }
+/// The front of a part, where the length of its body will be, with room for a body of this size, its digest and a gate.
+fn begin_part(alloc: Global, size: usize) -> Result<Vec<u8>, NoMemory>
+    ensures { IfOk result (λ part. length part.items ≡ LENGTH) }
 {
-    let mut tail = Vec::with_capacity(alloc, body.len() + FRAME + 1)?;
-    tail.extend_from_slice(&(body.len() as u64).to_be_bytes())?;
-    tail.extend_from_slice(body)?;
-    tail.extend_from_slice(&Sha256::digest(body))?;
-    tail.push(0)?;
-    Ok(Bytes::from(tail))
+    let mut part = Vec::with_capacity(alloc, size.saturating_add(FRAME + 1))?;
+    part.extend_from_slice(&[0; LENGTH])?;
+    Ok(part)
+}
+
+/// The part that begins so and has this body, and a closed gate after it.
+fn end_part(part: Vec<u8>) -> Result<Bytes, NoMemory>
+    requires { LENGTH ≤ length part.items }
+    ensures part { IfOk result (λ tail. tail ≡ closed_part (drop LENGTH part.items)) }
+    ensures size { length (drop LENGTH part.items) < 2 ^ 64 }
+{
+    let mut part = part;
+    let size = (part.len() - LENGTH) as u64;
+    set_front(&mut part, &size.to_be_bytes());
+    let digest = Sha256::digest(&part[LENGTH..]);
+    part.extend_from_slice(&digest)?;
+    part.push(0)?;
+    Ok(Bytes::from(part))
+}
+
+/// Puts the length of a body in front of it.
+fn set_front(part: &mut [u8], front: &[u8; LENGTH])
+    requires { LENGTH ≤ length part.old }
+    ensures { part.new ≡ front.now ++ drop LENGTH part.old }
+{
+    part[..LENGTH].copy_from_slice(front);
 }
 
 impl Prepared {

@@ -7,8 +7,11 @@ use sha2::{Digest, Sha256};
 /// The byte of an open gate.
 pub(crate) const OPEN: u8 = 0x4f;
 
+/// The number of bytes in front of a part's body: those of its length.
+pub(crate) const LENGTH: usize = 8;
+
 /// The number of bytes of a part beside its body: the length in front, and the digest after.
-pub(crate) const FRAME: usize = 40;
+pub(crate) const FRAME: usize = LENGTH + 32;
 
 /// Whether the gate at a place of a side is open: its byte says so, and the side goes on after it.
 pub(crate) fn is_open(side: &[u8], at: usize) -> bool
@@ -24,7 +27,7 @@ pub(crate) fn body_at(side: &[u8], at: usize) -> Option<&[u8]>
     ensures none { IfNone result ((body : List ℕ) → IsPartAt side.now at body → ⊥) }
 {
     let (_, part) = side.split_at(at);
-    let (size, rest) = part.split_first_chunk::<8>()?;
+    let (size, rest) = part.split_first_chunk::<LENGTH>()?;
     digested_body(rest, u64::from_be_bytes(*size))
 }
 

@@ -1,16 +1,22 @@
-use Rattle.std.proofs.Common.{◌∙◌, ◌<◌, ◌^◌, List, ℕ, length, refl, ap, subst}
+use Rattle.std.proofs.Common.{◌∙◌, ◌<◌, ◌^◌, List, ℕ, length, map, refl, ap, subst}
+use Rattle.ga_base.specs.declared.entry.Entry.{Entry}
+use Rattle.ga_codec.specs.Shapes.{SpellDelta}
+use Rattle.ga_codec.specs.Values.{entry_value}
 use Rattle.ga_store.specs.Commit.{closed_part}
-use Rattle.ga_store.proofs.CommitAs.{delta-as}
+use Rattle.ga_store.specs.declared.side_parts.TheConstants.{LENGTH}
+use Rattle.ga_store.proofs.Tails.{drop-appended}
 use Rattle.ga_store.proofs.prepared.record.Goals as goal
 
 pub returns : goal.returns
 returns c =
+    let appends = c.in_ok-push_delta.ensures in
+    let is = drop-appended LENGTH c.in_ok-part.part.items appends.bytes c.push_delta.new.out.items c.in_ok-part.ensures appends.appended in
     record {
       side = c.requires;
       gate = refl;
       kind = refl;
-      body = c.in_ok-body.body;
-      size = subst (λ (b : List ℕ). length b < 2 ^ 64) c.bytes.ensures c.in_ok-closed_part.ensures.size;
-      tail = c.in_ok-closed_part.ensures.part ∙ ap closed_part c.bytes.ensures;
-      spells = delta-as c.in_ok-body.body _ _ _ _ c.in_ok-copy.ensures c.in_ok-copy_of.ensures c.in_ok-body.ensures;
+      body = appends.bytes;
+      size = subst (λ (b : List ℕ). length b < 2 ^ 64) is c.in_ok-end_part.ensures.size;
+      tail = c.in_ok-end_part.ensures.part ∙ ap closed_part is;
+      spells = subst (λ (entries : List Entry). SpellDelta appends.bytes (record { summary = c.args.run.now; entries = map entry_value entries })) c.items-entries.ensures appends.spells;
     }
