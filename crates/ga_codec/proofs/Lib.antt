@@ -7,6 +7,10 @@ pub mod Fields
 pub mod Looping
 pub mod Generations
 pub mod Wholes
+pub mod Heads
+pub mod Fronts
+pub mod Pieces
+pub mod Finishing
 pub mod Entries
 pub mod Written
 pub mod Faults

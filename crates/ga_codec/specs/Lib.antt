@@ -3,4 +3,5 @@ pub mod Values
 pub mod Spelling
 pub mod Shapes
 pub mod Appending
+pub mod Pieces
 pub mod Steps

@@ -3,3 +3,4 @@ pub mod Parts
 pub mod Grammar
 pub mod Shapes
 pub mod Utf8
+pub mod Pieces

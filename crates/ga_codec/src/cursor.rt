@@ -45,6 +45,13 @@ impl<'a> Cursor<'a> {
         self.place
     }
 
+    /// The place after the bytes that are left.
+    pub(crate) fn end(&self) -> u64
+        ensures { result ≡ self.now.place + length self.now.rest }
+    {
+        self.place + self.rest.len() as u64
+    }
+
     /// The bytes that are left.
     pub(crate) fn rest(&self) -> &'a [u8]
         ensures rest { result.now ≡ self.now.rest }

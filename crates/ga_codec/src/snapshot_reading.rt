@@ -21,9 +21,9 @@ const MOST_FIRST: u8 = 0x3F;
 
 /// A summary and entries as they are spelled, whether they are sound or not.
 #[derive(Debug, Drop)]
-struct Body {
-    summary: SummaryParts,
-    entries: Vec<EntryShape>,
+pub(crate) struct Body {
+    pub(crate) summary: SummaryParts,
+    pub(crate) entries: Vec<EntryShape>,
 }
 
 /// Reads a snapshot. All of the bytes have to be its spelling.
@@ -76,7 +76,7 @@ impl<'a> Cursor<'a> {
         Ok(Body { summary, entries })
     }
 
-    fn read_version(&mut self) -> Result<(), CodecFault>
+    pub(crate) fn read_version(&mut self) -> Result<(), CodecFault>
         ensures { Reads version (λ v. v) self.old self.new result }
     {
         if self.peek()? != VERSION {
@@ -86,7 +86,7 @@ impl<'a> Cursor<'a> {
         Ok(())
     }
 
-    fn read_generation(&mut self) -> Result<u64, CodecFault>
+    pub(crate) fn read_generation(&mut self) -> Result<u64, CodecFault>
         ensures { Reads generation (λ g. g) self.old self.new result }
     {
         if self.peek()? > MOST_FIRST {
@@ -103,7 +103,11 @@ impl<'a> Cursor<'a> {
 
 impl Body {
     /// The summary and the entries, where they are sound and all bytes were read.
-    fn finish(self, alloc: Global, cursor: &Cursor) -> Result<(Summary, Entries), CodecFault>
+    pub(crate) fn finish(
+        self,
+        alloc: Global,
+        cursor: &Cursor,
+    ) -> Result<(Summary, Entries), CodecFault>
         ensures good { IfOk result (λ r. (cursor.now.rest ≡ []) × AreGood self × (r.0 ≡ value_of self.summary)
             × (map entry_value r.1 ≡ map shape_value self.entries.items)) }
         ensures bad { (at : ℕ) → IsErrOf result (CodecFault.NotInGrammar at)

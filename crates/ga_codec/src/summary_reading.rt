@@ -1,4 +1,4 @@
-ghost use Rattle.std.specs.Prelude.{◌≡◌, ◌+◌, IfSome, MatchOption};
+ghost use Rattle.std.specs.Prelude.{◌≡◌, ◌+◌, ◌≤◌, length, IfSome, MatchOption};
 ghost use Rattle.ga_base.specs.declared.panel.Panel.{Panel as ThePanel};
 ghost use Rattle.ga_base.specs.Panels.{panel_number};
 ghost use Rattle.ga_summary.specs.SummaryParts.{row_of_part, rows_in, value_of};
@@ -18,6 +18,9 @@ pub(crate) const NAME_SIZE: usize = 16;
 /// The least size of a row: a panel, a day, four texts, four sums and the number of names.
 pub(crate) const ROW_SIZE: usize = 77;
 
+/// How many of the names that are left are searched before all of them: the next is nearly always near.
+const NEAR: [usize; 3] = [8, 64, 512];
+
 /// The panel that a byte represents, from 1 on in the report's order.
 fn panel_of(byte: u8) -> Option<Panel>
     ensures { MatchOption result ((p : ThePanel) → panel_number p + 1 ≡ byte → ⊥) (λ p. panel_number p + 1 ≡ byte) }
@@ -35,7 +38,7 @@ impl<'a> Cursor<'a> {
         Ok(SummaryParts { totals, rows })
     }
 
-    fn read_totals(&mut self) -> Result<Totals, CodecFault>
+    pub(crate) fn read_totals(&mut self) -> Result<Totals, CodecFault>
         ensures { Reads totals (λ t. t) self.old self.new result }
     {
         let lines = self.read_u64()?;
@@ -74,7 +77,11 @@ impl<'a> Cursor<'a> {
     }
 
     /// Reads a row that comes after these.
-    fn read_row(&mut self, alloc: Global, before: &[PartRow]) -> Result<PartRow, CodecFault>
+    pub(crate) fn read_row(
+        &mut self,
+        alloc: Global,
+        before: &[PartRow],
+    ) -> Result<PartRow, CodecFault>
         ensures { Reads row row_of_part self.old self.new result }
     {
         let key = self.read_key(alloc)?;
@@ -194,7 +201,7 @@ fn is_before_day(key: &Key, date: u32) -> bool {
 fn find_name<'n>(names: &'n [Name], host: &str, agent: &str) -> Option<(&'n Name, &'n [Name])>
     ensures { IfSome result (λ found. found.0.now ≡ record { host = host.now; agent = agent.now }) }
 {
-    let at = names
+    let at = near_names(names, host, agent)
         .binary_search_by(|name| compare_name(name, host, agent))
         .ok()?;
     let (_, rest) = names.split_at(at);
@@ -204,6 +211,20 @@ fn find_name<'n>(names: &'n [Name], host: &str, agent: &str) -> Option<(&'n Name
     } else {
         None
     }
+}
+
+/// The shortest of a few fronts that is followed by a name after this host and agent, else all names.
+fn near_names<'n>(names: &'n [Name], host: &str, agent: &str) -> &'n [Name]
+    ensures { length result.now ≤ length names.now }
+{
+    for size in NEAR {
+        if let Some(next) = names.get(size) {
+            if compare_name(next, host, agent).is_gt() {
+                return &names[..size];
+            }
+        }
+    }
+    names
 }
 
 /// How a name compares to one of this host and agent.

@@ -1,8 +1,13 @@
 pub mod RecoverParts
 pub mod RecoverRecords
-pub mod RecoverFirst
 pub mod RecoverDisk
-pub mod RecoverReading
+pub mod Streaming
+pub mod TakenParts
+pub mod BodyReads
+pub mod StartReads
+pub mod RecordLemmas
+pub mod BothReads
+pub mod RecoverStreams
 pub mod OneDatabase
 pub mod SomeDatabase
 pub mod Fronts

@@ -1,23 +1,19 @@
 -- Calls of a disk that change no side, one after the other, and what recovery says of them.
-use Rattle.std.proofs.Common.{◌≡◌, ℕ, ◌≤◌, ◌<◌, Bool, true, false, List, ◌++◌, ◌+◌, ◌-◌, ◌*◌, length, take, drop, Option, Some, None, Result, Ok, Err, IfSome, inl, refl, sym, ap, ◌∙◌, subst, arith}
-use Rattle.std.proofs.Math.Seq.{take-add}
+use Rattle.std.proofs.Common.{◌≡◌, ℕ, ◌≤◌, ◌<◌, Bool, true, false, List, ◌+◌, ◌-◌, ◌*◌, Option, Some, None, Result, Ok, Err, IfSome, inl, refl, sym, ap, ◌∙◌, subst, arith}
 use Rattle.std.specs.Prelude.{◌/◌}
-use Rattle.std.proofs.lemmas.List.{take_all}
 use Rattle.std.proofs.lemmas.Nat.{div-mul-add}
-use Rattle.std.proofs.lemmas.Slice.{take-put_mid}
-use borrow.Rule.Slice.PartMut.{put_mid}
 use Rattle.ga_counters.specs.Counts.{raised}
 use Rattle.ga_disk.specs.Disk.{DiskView, calls_once, fails_once}
-use Rattle.ga_disk.specs.Images.{AddsNone, HasSide, Images, LeavesSame, LeavesSynced, OnlyImage}
-use Rattle.ga_disk.specs.Sides.{Sides, of_side}
+use Rattle.ga_disk.specs.Images.{AddsNone, Images, LeavesSame, LeavesSynced, OnlyImage}
+use Rattle.ga_disk.specs.Sides.{Sides}
 use Rattle.ga_disk.specs.Trace.{DiskCall}
 use Rattle.ga_disk.specs.Trace.DiskTrace.{disk_then, no_disk_call, one_disk_call}
 use Rattle.ga_disk.specs.declared.disk_counts.DiskCounts.{DiskCounts}
 use Rattle.ga_disk.proofs.Only.{only-same, same-then}
 use Rattle.ga_store.specs.Database.{DbOf}
 use Rattle.ga_store.specs.Database.Reading.{damaged}
-use Rattle.ga_store.specs.Steps.Recovery.{Answers, Fetches, InPieces, IsOutside, IsSide}
-use Rattle.ga_store.specs.Store.{Looks, ReadsOnce, Recovers, SyncsBoth, is_disk_fault, most_read, reads_of}
+use Rattle.ga_store.specs.Steps.Recovery.{Answers, InPieces, IsOutside, IsSide}
+use Rattle.ga_store.specs.Store.{Looks, ReadsOnce, Recovers, is_disk_fault, most_read, reads_of}
 use Rattle.ga_store.specs.declared.db.Db.{Db}
 use Rattle.ga_store.specs.declared.fault.StoreFault.{StoreFault}
 use Rattle.ga_store.specs.declared.fault.StoreFault.TheVariants.{CounterFull, Damaged, DiskFault, NoMemory}
@@ -94,34 +90,11 @@ open-same looks = ap (λ (d : DiskView). d.is_open) looks.view
 same-sides : (a b : Sides) → a.side0 ≡ b.side0 → a.side1 ≡ b.side1 → a ≡ b
 same-sides a b e f = λ i. record { side0 = e i; side1 = f i }
 
-pub both-synced : (seen : Option Sides) (images images' : Images) → IfSome seen (HasSide 0 images) → IfSome seen (HasSide 1 images') → AddsNone images images'
-    → IfSome seen (OnlyImage images')
-both-synced None images images' first second none = tt
-both-synced (Some seen) images images' first second none = λ image now. same-sides image seen (first image (none image now)) (second image now)
-
 pub only-fewer : (seen : Option Sides) (images images' : Images) → AddsNone images images' → IfSome seen (OnlyImage images) → IfSome seen (OnlyImage images')
 only-fewer None images images' none only = tt
 only-fewer (Some seen) images images' none only = λ image now. only image (none image now)
 
 -- ---- a side is read piece by piece
-
--- one more piece
-pub piece-more : (seen seen' : Option Sides) (side at n k : ℕ) (bytes piece : List ℕ) → seen' ≡ seen → at + n ≤ length bytes → length piece ≡ n
-    → IfSome seen (λ seen. take at bytes ≡ take at (of_side side seen)) → IfSome seen' (λ seen. piece ≡ take (length piece) (drop at (of_side side seen)))
-    → IfSome seen (λ seen. take (at + n) (put_mid at k bytes piece) ≡ take (at + n) (of_side side seen))
-piece-more None seen' side at n k bytes piece same fits long front more = tt
-piece-more (Some seen) seen' side at n k bytes piece same fits long front more =
-    let told : piece ≡ take (length piece) (drop at (of_side side seen)) =
-    subst (λ (o : Option Sides). IfSome o (λ seen. piece ≡ take (length piece) (drop at (of_side side seen)))) same more in
-    take-put_mid at k bytes piece (at + n) (omega arith) (omega arith) ∙ ap (λ (b : List ℕ). b ++ piece) front
-    ∙ ap (λ (b : List ℕ). take at (of_side side seen) ++ b) (told ∙ ap (λ (k : ℕ). take k (drop at (of_side side seen))) long)
-    ∙ sym (take-add at n (of_side side seen))
-
--- all of them
-pub piece-all : (seen : Option Sides) (side at : ℕ) (bytes : List ℕ) → length bytes ≤ at → IfSome seen (λ seen. length bytes ≡ length (of_side side seen))
-    → IfSome seen (λ seen. take at bytes ≡ take at (of_side side seen)) → IfSome seen (λ seen. bytes ≡ of_side side seen)
-piece-all None side at bytes le long told = tt
-piece-all (Some seen) side at bytes le long told = sym (take_all at bytes le) ∙ told ∙ take_all at (of_side side seen) (omega arith)
 
 -- ---- what recovery answers
 
@@ -131,31 +104,13 @@ pub record BothRead (disk : DiskView) (images : Images) (side0 side1 : List ℕ)
   pub first : IsSide 0 disk side0
   pub second : IsSide 1 disk side1
 
--- a side that was read is still so after calls that change none
-side-later : {disk disk' : DiskView} (side : ℕ) (bytes : List ℕ) → disk'.seen ≡ disk.seen → IsSide side disk bytes → IsSide side disk' bytes
-side-later side bytes same read = record {
-  told = subst (λ (o : Option Sides). IfSome o (λ seen. bytes ≡ of_side side seen)) (sym same) read.told;
-  size = read.size;
-}
-
--- the sides are synced, then read one after the other
-pub read-both : {start synced mid end : DiskView} {i0 i1 i2 i3 : Images} (side0 side1 : List ℕ) → Looks false start synced i0 i1
-    → IfSome start.seen (OnlyImage i1) → Looks false synced mid i1 i2 → IsSide 0 synced side0 → Looks false mid end i2 i3 → IsSide 1 mid side1
-    → BothRead end i3 side0 side1
-read-both {start} {synced} {mid} {end} {i0} {i1} {i2} {i3} side0 side1 first only second read0 third read1 = record {
-  only = subst (λ (o : Option Sides). IfSome o (OnlyImage i3)) (sym (seen-same third ∙ seen-same second ∙ seen-same first))
-      (only-fewer start.seen i2 i3 third.leaves.none_added (only-fewer start.seen i1 i2 second.leaves.none_added only));
-  first = side-later 0 side0 (seen-same third ∙ seen-same second) read0;
-  second = side-later 1 side1 (seen-same third) read1;
-}
-
-both-told : (seen : Option Sides) (side0 side1 : List ℕ) → IfSome seen (λ seen. side0 ≡ seen.side0) → IfSome seen (λ seen. side1 ≡ seen.side1)
+pub both-told : (seen : Option Sides) (side0 side1 : List ℕ) → IfSome seen (λ seen. side0 ≡ seen.side0) → IfSome seen (λ seen. side1 ≡ seen.side1)
     → IfSome seen (λ seen. seen ≡ record { side0 = side0; side1 = side1 })
 both-told None side0 side1 first second = tt
 both-told (Some seen) side0 side1 first second = same-sides seen _ (sym first) (sym second)
 
 -- this many calls read this many bytes
-reads-exact : (bytes reads : ℕ) → InPieces bytes reads → reads ≡ reads_of bytes
+pub reads-exact : (bytes reads : ℕ) → InPieces bytes reads → reads ≡ reads_of bytes
 reads-exact bytes reads pieces =
     let enough = pieces.enough in
     let none_over = pieces.none_over in
@@ -188,26 +143,6 @@ module _ {D : Type 0} (view_of : D → DiskView) (images_of : D → Images) wher
     }
     recovers-not (Damaged side at) is outside looks = absurd outside
     recovers-not (CounterFull which total) is outside looks = absurd outside
-
-  -- both were synced, and then read once
-  pub once-both : (start synced mid end : D) (side0 side1 : List ℕ) → SyncsBoth view_of images_of start synced
-      → (view_of synced).counts.calls ≡ raised (view_of start).counts.calls 2
-      → Looks false (view_of synced) (view_of end) (images_of synced) (images_of end)
-      → Fetches 1 (length side0) (view_of synced) (view_of mid) → Fetches 1 (length side1) (view_of mid) (view_of end)
-      → BothRead (view_of end) (images_of end) side0 side1 → ReadsOnce view_of images_of start end
-  once-both start synced mid end side0 side1 syncs first looks second third read = record {
-    before = synced;
-    syncs = syncs;
-    looks = looks;
-    sides = record { side0 = side0; side1 = side1 };
-    told = both-told (view_of end).seen side0 side1 read.first.told read.second.told;
-    calls =
-        let one = reads-exact (length side0) second.reads second.pieces in
-        let other = reads-exact (length side1) third.reads third.pieces in
-        let sum : (view_of end).counts.calls ≡ raised (view_of start).counts.calls (2 + (1 + second.reads) + (1 + third.reads)) =
-        omega (arith, first, second.calls, third.calls) in
-        sum ∙ ap (λ (n : ℕ × ℕ). raised (view_of start).counts.calls (2 + (1 + n.0) + (1 + n.1))) (λ i. (one i, other i));
-  }
 
   pub recovers : (disk disk' : D) (result : Result Db StoreFault) (side0 side1 : List ℕ)
       → ((image : Sides) → (images_of disk).since (images_of disk).moment image → (images_of disk).now image)

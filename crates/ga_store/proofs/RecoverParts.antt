@@ -1,8 +1,8 @@
 -- Bytes that stand on a side one after the other, and the parts made of them.
-use Rattle.std.proofs.Common.{◌≡◌, ℕ, zero, suc, [], ◌∷◌, ◌+◌, ◌<◌, ◌≤◌, ◌^◌, List, ◌++◌, length, get_or, take, drop, refl, sym, ap, ◌∙◌, subst, arith, Option, Some, None, IfSome, IfNone, length-append, length-take, length-drop}
+use Rattle.std.proofs.Common.{◌≡◌, ℕ, ◌+◌, ◌≤◌, List, ◌++◌, length, take, drop, refl, sym, ap, ◌∙◌, subst, arith, Option, Some, None, IfSome, length-append, length-take, length-drop}
 use Rattle.std.proofs.Math.Seq.{take-add}
-use Rattle.std.proofs.lemmas.List.{get_or-drop, drop-drop, drop-take, take_at, drop_at, take-take}
-use Rattle.std.proofs.lemmas.Nat.{be_bytes_8, from_be_bytes-to_be_bytes_8}
+use Rattle.std.proofs.lemmas.List.{drop-drop, drop-take, take_at, drop_at, take-take}
+use Rattle.std.proofs.lemmas.Nat.{from_be_bytes-to_be_bytes_8}
 use Rattle.std.specs.Int.{w64, from_be_bytes}
 use Rattle.sha2.specs.Sha256.{sha256}
 use Rattle.sha2.proofs.Facts256.{length-sha256}
@@ -58,7 +58,7 @@ stands-from x b at k to is le s = record {
 
 -- ---- a body with its digest
 
-long-digested : (body : List ℕ) → length (body ++ sha256 body) ≡ length body + 32
+pub long-digested : (body : List ℕ) → length (body ++ sha256 body) ≡ length body + 32
 long-digested body = length-append body (sha256 body) ∙ ap (λ (n : ℕ). length body + n) (length-sha256 body)
 
 -- the bytes in front of the digest are its own
@@ -98,15 +98,6 @@ long-part body =
     let all = length-append (eight_bytes (length body)) (body ++ sha256 body) in
     omega (arith, long-digested body)
 
-bytes-taken : (n : ℕ) (xs : List ℕ) → ((i : ℕ) → get_or xs i 0 < 256) → (i : ℕ) → get_or (take n xs) i 0 < 256
-bytes-taken zero xs bytes i = omega arith
-bytes-taken (suc n) [] bytes i = omega arith
-bytes-taken (suc n) (x ∷ xs) bytes zero = bytes 0
-bytes-taken (suc n) (x ∷ xs) bytes (suc i) = bytes-taken n xs (λ j. bytes (suc j)) i
-
-bytes-dropped : (n : ℕ) (xs : List ℕ) → ((i : ℕ) → get_or xs i 0 < 256) → (i : ℕ) → get_or (drop n xs) i 0 < 256
-bytes-dropped n xs bytes i = subst (λ (byte : ℕ). byte < 256) (sym (get_or-drop n xs i 0)) (bytes (n + i))
-
 -- eight bytes are taken in front of the rest
 pub record IsFront (side : List ℕ) (at : ℕ) (front rest : List ℕ) : Type 0 where
   pub within : 8 ≤ length (drop at side)
@@ -120,20 +111,6 @@ front-of side part front rest at is first second long = record {
   is_front = first ∙ ap (λ (b : List ℕ). take 8 b) is;
   is_rest = second ∙ ap (λ (b : List ℕ). drop 8 b) is;
 }
-
--- a part is read in front of its body
-pub part-here : (side front rest body : List ℕ) (at : ℕ) → at ≤ length side → ((i : ℕ) → get_or side i 0 < 256) → IsFront side at front rest
-    → length body ≡ from_be_bytes w64 front → length body < 2 ^ 64 → StandsAt rest 0 (body ++ sha256 body) → IsPartAt side at body
-part-here side front rest body at le bytes is size fits s =
-    let enough = is.within in
-    let long : length front ≡ 8 = ap length is.is_front ∙ omega (arith, length-take 8 (drop at side)) in
-    let are = subst (λ (b : List ℕ). (i : ℕ) → get_or b i 0 < 256) (sym is.is_front) (bytes-taken 8 (drop at side) (bytes-dropped at side bytes)) in
-    let spelled : eight_bytes (length body) ≡ front = be_bytes_8 front (length body) long are size in
-    let number : length (eight_bytes (length body)) ≡ 8 = refl in
-    let here : StandsAt (drop at side) 0 (eight_bytes (length body)) = record { within = omega arith; same = sym is.is_front ∙ sym spelled } in
-    let behind = stands-behind (drop at side) (body ++ sha256 body) 0 8 8 refl enough (subst (λ (b : List ℕ). StandsAt b 0 (body ++ sha256 body)) is.is_rest s) in
-    let all : StandsAt (drop at side) 0 (part_bytes body) = stands-both (drop at side) (eight_bytes (length body)) (body ++ sha256 body) 0 8 refl here behind in
-    record { size = fits; stands = stands-behind side (part_bytes body) 0 at at (omega arith) le all }
 
 -- the length of a part that is at a place, and what is after it
 pub record HasLength (front rest body : List ℕ) : Type 0 where
@@ -172,7 +149,3 @@ if_some-map P Q (Some x) step p = step x p
 pub if_some-all : {A : Type 0} (P : A → Type 0) (o : Option A) → ((x : A) → P x) → IfSome o P
 if_some-all P None all = tt
 if_some-all P (Some x) all = all x
-
-pub if_none-map : {A P Q : Type 0} (o : Option A) → (P → Q) → IfNone o P → IfNone o Q
-if_none-map None step p = step p
-if_none-map (Some x) step p = tt

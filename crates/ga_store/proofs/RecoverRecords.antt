@@ -1,5 +1,5 @@
 -- A run record after a gate that is taken on, and one that isn't.
-use Rattle.std.proofs.Common.{◌≡◌, ℕ, ◌+◌, ◌<◌, true, List, Option, Some, None, refl, ap, ◌∙◌, subst, arith}
+use Rattle.std.proofs.Common.{◌≡◌, ℕ, ◌+◌, true, List, Option, Some, None, refl, ap, ◌∙◌, subst}
 use Rattle.ga_base.specs.declared.counts.Counter.{Counter}
 use Rattle.ga_summary.specs.Limits.{passes}
 use Rattle.ga_base.specs.Totals.{totals_plus}
@@ -9,7 +9,7 @@ use Rattle.ga_codec.specs.Values.{DeltaValue}
 use Rattle.ga_store.specs.SideParts.{IsPartAt, is_open_at}
 use Rattle.ga_store.specs.Database.{DbValue, TakesOn}
 use Rattle.ga_store.specs.Steps.Recovery.{HasRecord, LacksRecord}
-use Rattle.ga_store.proofs.RecoverParts.{long-part, one-part}
+use Rattle.ga_store.proofs.RecoverParts.{one-part}
 
 -- a row of bytes spells one run record
 abbrev pub OneDelta : Type 0
@@ -18,9 +18,6 @@ OneDelta = (bytes : List ℕ) (a b : DeltaValue) → SpellDelta bytes a → Spel
 pub no-total : (o : Option (Counter × ℕ)) → ((which : Counter) (total : ℕ) → o ≡ Some (which, total) → ⊥) → o ≡ None
 no-total None none = refl
 no-total (Some (which, total)) none = absurd (none which total refl)
-
-pub record-long : {side : List ℕ} {slot next : ℕ} {delta : DeltaValue} → HasRecord side slot delta next → slot + 40 < next
-record-long h = omega (arith, h.behind, long-part h.body)
 
 pub taken-on : (side : List ℕ) (old new : DbValue) (delta : DeltaValue) (next : ℕ) → is_open_at side old.slot ≡ true → HasRecord side old.slot delta next
     → passes (totals_plus old.summary.totals delta.summary.totals) ≡ None → IsMerged old.summary delta.summary new.summary
@@ -55,7 +52,3 @@ too-much law side old next delta end x h full t =
 -- no part there has a run record
 pub no-part : (side : List ℕ) (slot : ℕ) → ((body : List ℕ) → IsPartAt side (slot + 1) body → ⊥) → LacksRecord side slot
 no-part side slot none body delta part spells = none body part
-
-pub no-delta : (side body : List ℕ) (slot : ℕ) → IsPartAt side (slot + 1) body → ((delta : DeltaValue) → SpellDelta body delta → ⊥) → LacksRecord side slot
-no-delta side body slot part none other delta there spells =
-    none delta (subst (λ (b : List ℕ). SpellDelta b delta) (one-part side other body (slot + 1) there part) spells)

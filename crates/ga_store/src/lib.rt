@@ -5,6 +5,7 @@
 //! a run from it, and `commit` writes that.
 #![tactic(auto)]
 
+mod body_reading;
 mod committing;
 mod db;
 mod fault;
@@ -12,9 +13,13 @@ mod found;
 pub mod laws;
 mod mode;
 mod prepared;
+mod record_reading;
 mod recovery;
 mod side_parts;
 mod side_reading;
+mod side_stream;
+mod start_reading;
+mod starts;
 
 pub use committing::commit;
 pub use db::Db;

@@ -1,132 +1,166 @@
-ghost use Rattle.std.specs.Prelude.{◌≡◌, ◌<◌, ◌≤◌, ◌+◌, true, IfOk, OnOk};
-ghost use Rattle.ga_codec.specs.Values.{snapshot_value};
-ghost use Rattle.ga_store.specs.SideParts.{is_open_at};
-ghost use Rattle.ga_store.specs.Database.{DbOf, HasSnapshot, ReadsOn, of_snapshot};
-ghost use Rattle.ga_store.specs.Steps.Recovery.{Answers, AnswersFirst, AnswersRecord, AnswersStep};
-ghost use Rattle.ga_store.specs.Store.{db_value};
+ghost use Rattle.std.specs.Prelude.{◌≡◌, IsTrue};
+ghost use Rattle.ga_store.specs.Steps.BothStreams.{AllSay, SecondSays, SidesSay, StartsGoOn, StreamsBoth};
+ghost use Rattle.ga_store.specs.Steps.Starts.{BegunGoesOn, IsPlaced};
+ghost use Rattle.ga_store.specs.Steps.Stream.{IsAt, IsOf, Streams};
+ghost use Rattle.ga_store.specs.declared.starts.Start.{Start};
 
-use crate::found::{FirstPart, RecordPart};
-use crate::side_parts::{FRAME, body_at, is_open};
+use crate::found::FirstPart;
+use crate::record_reading::read_on;
+use crate::side_stream::SideStream;
+use crate::start_reading::{begin, finish};
+use crate::starts::{Begun, Said, Start};
 use crate::{Db, StoreFault};
-use ga_codec::laws::one_delta_reading;
-use ga_codec::{CodecFault, read_delta, read_snapshot};
-use ga_summary::MergeFault;
+use ga_disk::Disk;
 use std::alloc::Global;
 
-/// What the bytes of two sides say.
-///
-/// It goes over each byte a fixed number of times, merges aside, whatever lengths they state.
-pub(crate) fn read_sides(alloc: Global, side0: &[u8], side1: &[u8]) -> Result<Db, StoreFault>
-    ensures { Answers (DbOf (record { side0 = side0.now; side1 = side1.now })) result }
+/// What two sides say, of which nothing was taken.
+pub(crate) fn read_sides<D: Disk>(
+    alloc: Global,
+    disk: &mut D,
+    stream0: &mut SideStream,
+    stream1: &mut SideStream,
+) -> Result<Said, StoreFault>
+    requires open { IsTrue (D.view disk.old).is_open }
+    requires of0 { IsOf stream0.old (D.view disk.old).seen }
+    requires of1 { IsOf stream1.old (D.view disk.old).seen }
+    requires at0 { IsAt stream0.old 0 }
+    requires at1 { IsAt stream1.old 0 }
+    ensures { StreamsBoth (D.view disk.old) (D.view disk.new) (D.images disk.old) (D.images disk.new)
+        (record { s0 = stream0.old; s1 = stream1.old }) (record { s0 = stream0.new; s1 = stream1.new })
+        (AllSay (record { s0 = stream0.new; s1 = stream1.new })) result }
 {
-    let first0 = read_first(alloc, 0, side0)?;
-    let first1 = read_first(alloc, 1, side1)?;
-    match (first0, first1) {
-        (None, None) => Ok(Db::empty(alloc)),
-        (Some(first), None) => read_on(alloc, 0, side0, first),
-        (None, Some(first)) => read_on(alloc, 1, side1, first),
-        (Some(first), Some(second)) => read_later(alloc, side0, side1, first, second),
+    let begun0 = begin(alloc, disk, stream0)?;
+    let begun1 = begin(alloc, disk, stream1)?;
+    let (start0, start1) = finish_both(alloc, disk, stream0, stream1, begun0, begun1)?;
+    choose(alloc, disk, stream0, stream1, start0, start1)
+}
+
+/// Reads two starts to their ends, first that with the earlier number, so that its snapshot is dropped before the other is
+/// made.
+fn finish_both<D: Disk>(
+    alloc: Global,
+    disk: &mut D,
+    stream0: &mut SideStream,
+    stream1: &mut SideStream,
+    begun0: Begun,
+    begun1: Begun,
+) -> Result<(Start, Start), StoreFault>
+    requires open { IsTrue (D.view disk.old).is_open }
+    requires of0 { IsOf stream0.old (D.view disk.old).seen }
+    requires of1 { IsOf stream1.old (D.view disk.old).seen }
+    requires good0 { BegunGoesOn begun0 stream0.old }
+    requires good1 { BegunGoesOn begun1 stream1.old }
+    ensures { StreamsBoth (D.view disk.old) (D.view disk.new) (D.images disk.old) (D.images disk.new)
+        (record { s0 = stream0.old; s1 = stream1.old }) (record { s0 = stream0.new; s1 = stream1.new })
+        (StartsGoOn (record { s0 = stream0.old; s1 = stream1.old }) (record { s0 = stream0.new; s1 = stream1.new }) begun0 begun1) result }
+{
+    let (number0, number1) = (begun0.number(), begun1.number());
+    if number1 < number0 {
+        let start1 = finish(alloc, disk, stream1, begun1, number0)?;
+        let start0 = finish(alloc, disk, stream0, begun0, number1)?;
+        return Ok((start0, start1));
+    }
+    let start0 = finish(alloc, disk, stream0, begun0, number1)?;
+    let start1 = finish(alloc, disk, stream1, begun1, number0)?;
+    Ok((start0, start1))
+}
+
+/// Reads on the side that has the later snapshot; damage of side 0 comes first.
+fn choose<D: Disk>(
+    alloc: Global,
+    disk: &mut D,
+    stream0: &mut SideStream,
+    stream1: &mut SideStream,
+    start0: Start,
+    start1: Start,
+) -> Result<Said, StoreFault>
+    requires open { IsTrue (D.view disk.old).is_open }
+    requires of0 { IsOf stream0.old (D.view disk.old).seen }
+    requires of1 { IsOf stream1.old (D.view disk.old).seen }
+    requires placed0 { IsPlaced stream0.old start0 }
+    requires placed1 { IsPlaced stream1.old start1 }
+    ensures { StreamsBoth (D.view disk.old) (D.view disk.new) (D.images disk.old) (D.images disk.new)
+        (record { s0 = stream0.old; s1 = stream1.old }) (record { s0 = stream0.new; s1 = stream1.new })
+        (SidesSay (record { s0 = stream0.new; s1 = stream1.new }) start0 start1) result }
+{
+    match start0 {
+        Start::Damaged => Ok(Said::Damaged { side: 0, at: 1 }),
+        Start::Snapshot(first) => choose_first(alloc, disk, stream0, stream1, first, start1),
+        Start::Unused => choose_second(alloc, disk, stream1, start1),
+        Start::Older => choose_second(alloc, disk, stream1, start1),
+    }
+}
+
+/// The same where side 0 has this snapshot.
+fn choose_first<D: Disk>(
+    alloc: Global,
+    disk: &mut D,
+    stream0: &mut SideStream,
+    stream1: &mut SideStream,
+    first: FirstPart,
+    start1: Start,
+) -> Result<Said, StoreFault>
+    requires open { IsTrue (D.view disk.old).is_open }
+    requires of0 { IsOf stream0.old (D.view disk.old).seen }
+    requires of1 { IsOf stream1.old (D.view disk.old).seen }
+    requires at0 { IsAt stream0.old first.next }
+    requires placed1 { IsPlaced stream1.old start1 }
+    ensures { StreamsBoth (D.view disk.old) (D.view disk.new) (D.images disk.old) (D.images disk.new)
+        (record { s0 = stream0.old; s1 = stream1.old }) (record { s0 = stream0.new; s1 = stream1.new })
+        (SidesSay (record { s0 = stream0.new; s1 = stream1.new }) (Start.Snapshot first) start1) result }
+{
+    match start1 {
+        Start::Damaged => Ok(Said::Damaged { side: 1, at: 1 }),
+        Start::Snapshot(second) => read_later(alloc, disk, stream0, stream1, first, second),
+        Start::Unused => read_on(alloc, disk, stream0, 0, first),
+        Start::Older => read_on(alloc, disk, stream0, 0, first),
+    }
+}
+
+/// The same where side 0 is unused or has an older snapshot.
+fn choose_second<D: Disk>(
+    alloc: Global,
+    disk: &mut D,
+    stream1: &mut SideStream,
+    start1: Start,
+) -> Result<Said, StoreFault>
+    requires open { IsTrue (D.view disk.old).is_open }
+    requires of1 { IsOf stream1.old (D.view disk.old).seen }
+    requires placed1 { IsPlaced stream1.old start1 }
+    ensures { Streams (D.view disk.old) (D.view disk.new) (D.images disk.old) (D.images disk.new) stream1.old stream1.new
+        (SecondSays stream1.new start1) result }
+{
+    match start1 {
+        Start::Damaged => Ok(Said::Damaged { side: 1, at: 1 }),
+        Start::Snapshot(second) => read_on(alloc, disk, stream1, 1, second),
+        Start::Unused => Ok(Said::Database(Db::empty(alloc))),
+        Start::Older => Ok(Said::Database(Db::empty(alloc))),
     }
 }
 
 /// Reads on the side that has the later of two snapshots. Two of one generation are damage of side 1.
-fn read_later(
+fn read_later<D: Disk>(
     alloc: Global,
-    side0: &[u8],
-    side1: &[u8],
+    disk: &mut D,
+    stream0: &mut SideStream,
+    stream1: &mut SideStream,
     first: FirstPart,
     second: FirstPart,
-) -> Result<Db, StoreFault>
-    requires first { HasSnapshot side0.now (snapshot_value first.snapshot) first.next }
-    requires second { HasSnapshot side1.now (snapshot_value second.snapshot) second.next }
-    ensures { Answers (DbOf (record { side0 = side0.now; side1 = side1.now })) result }
+) -> Result<Said, StoreFault>
+    requires open { IsTrue (D.view disk.old).is_open }
+    requires of0 { IsOf stream0.old (D.view disk.old).seen }
+    requires of1 { IsOf stream1.old (D.view disk.old).seen }
+    requires at0 { IsAt stream0.old first.next }
+    requires at1 { IsAt stream1.old second.next }
+    ensures { StreamsBoth (D.view disk.old) (D.view disk.new) (D.images disk.old) (D.images disk.new)
+        (record { s0 = stream0.old; s1 = stream1.old }) (record { s0 = stream0.new; s1 = stream1.new })
+        (SidesSay (record { s0 = stream0.new; s1 = stream1.new }) (Start.Snapshot first) (Start.Snapshot second)) result }
 {
     if first.snapshot.generation < second.snapshot.generation {
-        return read_on(alloc, 1, side1, second);
+        return read_on(alloc, disk, stream1, 1, second);
     }
     if first.snapshot.generation == second.snapshot.generation {
-        return Err(StoreFault::Damaged { side: 1, at: 1 });
+        return Ok(Said::Damaged { side: 1, at: 1 });
     }
-    read_on(alloc, 0, side0, first)
-}
-
-/// The snapshot at the start of a side with this number; None where its gate is closed.
-fn read_first(alloc: Global, number: u32, side: &[u8]) -> Result<Option<FirstPart>, StoreFault>
-    ensures { AnswersFirst number side.now result }
-{
-    if !is_open(side, 0) {
-        return Ok(None);
-    }
-    let damage = StoreFault::Damaged {
-        side: number,
-        at: 1,
-    };
-    let Some(body) = body_at(side, 1) else {
-        return Err(damage);
-    };
-    match read_snapshot(alloc, body) {
-        Ok(snapshot) => Ok(Some(FirstPart {
-            snapshot,
-            next: (1 + FRAME + body.len()) as u64,
-        })),
-        Err(CodecFault::NotInGrammar { .. }) => Err(damage),
-        Err(CodecFault::NoMemory) => Err(StoreFault::NoMemory),
-    }
-}
-
-/// Takes the records after the snapshot of a side with this number, up to the first closed gate.
-fn read_on(alloc: Global, number: u32, side: &[u8], first: FirstPart) -> Result<Db, StoreFault>
-    ensures { Answers (ReadsOn number side.now (of_snapshot number first.next (snapshot_value first.snapshot))) result }
-{
-    let mut db = Db::of_first(number, first);
-    while is_open(side, db.slot as usize) {
-        take_record(alloc, number, side, &mut db)?;
-    }
-    Ok(db)
-}
-
-/// Takes the record after the open gate at the slot.
-fn take_record(alloc: Global, number: u32, side: &[u8], db: &mut Db) -> Result<(), StoreFault>
-    requires open { is_open_at side.now db.old.slot ≡ true }
-    requires few { db.old.records ≤ db.old.slot }
-    ensures step { AnswersStep number side.now (db_value db.old) (db_value db.new) result }
-    ensures few { OnOk result (db.new.records ≤ db.new.slot) }
-    ensures rises { OnOk result (db.old.slot < db.new.slot) }
-{
-    // That a row of bytes is one run record, for the proof alone.
-    one_delta_reading();
-    let slot = db.slot;
-    let found = read_record(alloc, number, side, slot)?;
-    match db.take_on(found) {
-        Ok(()) => Ok(()),
-        Err(MergeFault::CounterFull { .. }) => Err(StoreFault::Damaged {
-            side: number,
-            at: slot + 1,
-        }),
-        Err(MergeFault::NoMemory) => Err(StoreFault::NoMemory),
-    }
-}
-
-/// The run record after the open gate at a place of a side with this number.
-fn read_record(alloc: Global, number: u32, side: &[u8], slot: u64) -> Result<RecordPart, StoreFault>
-    requires { is_open_at side.now slot ≡ true }
-    ensures record { AnswersRecord number side.now slot result }
-    ensures behind { IfOk result (λ found. slot + 40 < found.next) }
-{
-    let start = slot as usize + 1;
-    let damage = StoreFault::Damaged {
-        side: number,
-        at: slot + 1,
-    };
-    let Some(body) = body_at(side, start) else {
-        return Err(damage);
-    };
-    match read_delta(alloc, body) {
-        Ok(delta) => Ok(RecordPart {
-            delta,
-            next: (start + FRAME + body.len()) as u64,
-        }),
-        Err(CodecFault::NotInGrammar { .. }) => Err(damage),
-        Err(CodecFault::NoMemory) => Err(StoreFault::NoMemory),
-    }
+    read_on(alloc, disk, stream0, 0, first)
 }

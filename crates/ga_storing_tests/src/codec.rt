@@ -1,5 +1,5 @@
 use ga_cases::hold;
-use ga_codec::{CodecFault, read_delta, read_snapshot, write_delta, write_snapshot};
+use ga_codec::{BodyReader, CodecFault, read_delta, read_snapshot, write_delta, write_snapshot};
 use std::alloc::Global;
 use std::test::Fail;
 
@@ -65,6 +65,33 @@ fn spells_record(alloc: Global, bytes: &[u8]) -> Result<bool, CodecFault> {
     Ok(write_delta(alloc, &delta)?.bytes() == bytes)
 }
 
+/// Whether a snapshot whose bytes come one by one is read, and is spelled so.
+fn spells_by_and_by(alloc: Global, bytes: &[u8]) -> Result<bool, CodecFault> {
+    let mut reader = BodyReader::of_snapshot(alloc);
+    let mut read = 0;
+    for end in 0..bytes.len() {
+        read += reader.read(alloc, &bytes[read..end], false)?;
+    }
+    read += reader.read(alloc, &bytes[read..], true)?;
+    let snapshot = reader.finish_snapshot(alloc, &bytes[read..])?;
+    if snapshot.generation < 1 || snapshot.generation > 2 {
+        return Ok(false);
+    }
+    Ok(write_snapshot(alloc, &snapshot)?.bytes() == bytes)
+}
+
+/// The same of a run record.
+fn spells_record_by_and_by(alloc: Global, bytes: &[u8]) -> Result<bool, CodecFault> {
+    let mut reader = BodyReader::of_delta(alloc);
+    let mut read = 0;
+    for end in 0..bytes.len() {
+        read += reader.read(alloc, &bytes[read..end], false)?;
+    }
+    read += reader.read(alloc, &bytes[read..], true)?;
+    let delta = reader.finish_delta(alloc, &bytes[read..])?;
+    Ok(write_delta(alloc, &delta)?.bytes() == bytes)
+}
+
 #[test]
 fn values_have_these_bytes(rt: HostRuntime) -> Result<(), Fail> {
     let alloc = rt.alloc();
@@ -73,6 +100,17 @@ fn values_have_these_bytes(rt: HostRuntime) -> Result<(), Fail> {
     assert_eq!(rt; spells_record(alloc, NOTHING), Ok(true));
     let short = read_snapshot(alloc, &EMPTY[..72]).err();
     assert_eq!(rt; short, Some(CodecFault::NotInGrammar { at: 72 }));
+    Ok(())
+}
+
+#[test]
+fn pieces_are_read_as_the_whole(rt: HostRuntime) -> Result<(), Fail> {
+    let alloc = rt.alloc();
+    assert_eq!(rt; spells_by_and_by(alloc, EMPTY), Ok(true));
+    assert_eq!(rt; spells_by_and_by(alloc, THREE_ROWS), Ok(true));
+    assert_eq!(rt; spells_record_by_and_by(alloc, NOTHING), Ok(true));
+    let short = spells_by_and_by(alloc, &THREE_ROWS[..378]).err();
+    assert_eq!(rt; short, Some(CodecFault::NotInGrammar { at: 96 }));
     Ok(())
 }
 

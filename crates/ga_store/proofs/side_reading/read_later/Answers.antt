@@ -1,26 +1,30 @@
-use Rattle.std.proofs.Common.{◌<◌, arith}
-use Rattle.ga_codec.specs.Values.{snapshot_value}
-use Rattle.ga_disk.specs.Sides.{Sides}
-use Rattle.ga_store.specs.Database.{DbOf, ReadsOn, of_snapshot}
+use Rattle.std.proofs.Common.{◌<◌, [], sym, arith}
 use Rattle.ga_store.specs.Database.DbOf.{chosen0, chosen1, equal}
 use Rattle.ga_store.specs.Database.YieldsTo.{older}
-use Rattle.ga_store.proofs.RecoverReading.{answers-as}
+use Rattle.ga_store.proofs.BothReads.{both-none, both-of0, both-of1}
+use Rattle.ga_store.proofs.RecoverDisk.{looks-none}
 use Rattle.ga_store.proofs.side_reading.read_later.Goals as goal
 
 pub returns-then-first-second : goal.returns-then-first-second
-returns-then-first-second c =
-    let sides : Sides = record { side0 = c.args.side0.now; side1 = c.args.side1.now } in
-    let start = of_snapshot 1 c.args.second.next (snapshot_value c.args.second.snapshot) in
-    answers-as (ReadsOn 1 c.args.side1.now start) (DbOf sides) c.read_on.result
-    (λ reading on. chosen1 c.requires.second (older c.requires.first c.if-first-second.true) on) c.read_on.ensures
+returns-then-first-second g c = both-of1 c.args.stream0.now c.read_on.result c.read_on.ensures
+    (λ said taken e on own0 own1 before0 rest0 before1 rest1 has0 has1 is0 is1.
+    chosen1 has1.0 (older has0.0 c.if-first-second.true) (on before1 rest1 (sym has1.1) is1))
 
 pub returns-then-first-second-2 : goal.returns-then-first-second-2
-returns-then-first-second-2 c = equal c.requires.first c.requires.second c.if-first-second-2.true
+returns-then-first-second-2 g c = record {
+  looks = looks-none _ _;
+  took = record {
+    taken0 = [];
+    taken1 = [];
+    took = both-none _ _ _;
+    goes = λ own0 own1 before0 rest0 before1 rest1 has0 has1 is0 is1. equal has0.0 has1.0 c.if-first-second-2.true;
+  };
+  outside = tt;
+}
 
 pub returns : goal.returns
-returns c =
-    let sides : Sides = record { side0 = c.args.side0.now; side1 = c.args.side1.now } in
-    let start = of_snapshot 0 c.args.first.next (snapshot_value c.args.first.snapshot) in
+returns g c =
     let less : c.args.second.snapshot.generation < c.args.first.snapshot.generation = omega arith in
-    answers-as (ReadsOn 0 c.args.side0.now start) (DbOf sides) c.read_on-2.result
-    (λ reading on. chosen0 c.requires.first (older c.requires.second less) on) c.read_on-2.ensures
+    both-of0 c.args.stream1.now c.read_on-2.result c.read_on-2.ensures
+    (λ said taken e on own0 own1 before0 rest0 before1 rest1 has0 has1 is0 is1.
+    chosen0 has0.0 (older has1.0 less) (on before0 rest0 (sym has0.1) is0))

@@ -1,0 +1,30 @@
+-- What is taken of a part in front of its body and after it.
+use Rattle.std.specs.Prelude.{◌≡◌, ◌↔◌, ℕ, ◌+◌, ◌<◌, ◌≤◌, ◌^◌, Bool, true, List, [], ◌∷◌, ◌++◌, length, Option, Some, None}
+use Rattle.sha2.specs.Hashers.{Holds256}
+use Rattle.sha2.specs.Sha256.{sha256}
+use Rattle.sha2.specs.declared.Sha256.{Sha256}
+use Rattle.ga_codec.specs.Spelling.{eight_bytes}
+use Rattle.ga_store.specs.SideParts.{IsPartAt, is_open_at}
+use Rattle.ga_store.specs.Steps.Stream.{IsRest, StreamView, left}
+
+-- whether the gate that comes next is open; nothing was taken
+pub record SaysGate (s : StreamView) (is_open : Bool) (taken : List ℕ) : Type 0 where
+  pub none : taken ≡ []
+  pub says : (rest : List ℕ) → IsRest s rest → is_open_at rest 0 ≡ is_open
+  pub window : is_open ≡ true → 1 ≤ length s.window
+
+-- the byte of a gate and the size of a body were taken, for which and for a digest the side has room
+pub record HasSize (s : StreamView) (size : ℕ) (taken : List ℕ) : Type 0 where
+  pub gate : ℕ
+  pub is : taken ≡ gate ∷ eight_bytes size
+  pub fits : size < 2 ^ 64
+  pub room : size + 32 ≤ left s
+
+abbrev pub SaysSize : StreamView → Option ℕ → List ℕ → Type 0
+SaysSize s None taken = (rest : List ℕ) → IsRest s rest → (body : List ℕ) → IsPartAt (taken ++ rest) 1 body → ⊥
+SaysSize s (Some size) taken = HasSize s size taken
+
+-- a digest was taken, and this is whether it is that of what was digested
+pub record SaysDigest (hasher : Sha256) (same : Bool) (taken : List ℕ) : Type 0 where
+  pub long : length taken ≡ 32
+  pub says : (message : List ℕ) → Holds256 hasher message → (same ≡ true) ↔ (taken ≡ sha256 message)

@@ -1,0 +1,170 @@
+ghost use Rattle.std.specs.Prelude.{◌≡◌, ◌+◌, ◌≤◌, ◌++◌, ◌==◌, ℕ, true, false, length, IfOk, OnOk, IsErrOf, IsTrue};
+ghost use Rattle.ga_codec.specs.Pieces.{BeginsNone, front_bytes, is_full};
+ghost use Rattle.ga_codec.specs.declared.fault.CodecFault.{CodecFault};
+ghost use Rattle.ga_store.specs.Steps.Bodies.{IsHashed, PieceRead, SaysDelta, SaysNext, SaysRows, SaysSnapshot};
+ghost use Rattle.ga_store.specs.Steps.Stream.{IsOf, Streams, left};
+
+use crate::StoreFault;
+use crate::side_parts::take_digest;
+use crate::side_stream::SideStream;
+use ga_codec::{BodyReader, CodecFault, Delta, Snapshot};
+use ga_disk::Disk;
+use sha2::{Digest, Sha256};
+use std::alloc::Global;
+
+/// The body of a part, which is read and digested as it comes.
+#[derive(Debug, Drop)]
+pub(crate) struct OpenBody {
+    /// What was read of it.
+    pub(crate) reader: BodyReader,
+    /// The digest of that.
+    pub(crate) hasher: Sha256,
+    /// How many bytes are left of it.
+    pub(crate) left: u64,
+}
+
+/// Reads on in a body at the front of a piece of it, and answers how many bytes that took.
+pub(crate) fn read_piece(
+    alloc: Global,
+    body: &mut OpenBody,
+    piece: &[u8],
+) -> Result<usize, CodecFault>
+    requires hashed { IsHashed body.old }
+    requires within { length piece.now ≤ body.old.left }
+    ensures read { IfOk result (λ count. PieceRead count piece.now body.old body.new) }
+    ensures last { OnOk result (length piece.now ≡ body.old.left → is_full body.new.reader ≡ true) }
+    ensures refused { (at : ℕ) → IsErrOf result (CodecFault.NotInGrammar at)
+        → BeginsNone body.old.reader.is_snapshot (length piece.now == body.old.left) (front_bytes body.old.reader ++ piece.now) }
+{
+    let is_last = piece.len() as u64 == body.left;
+    let count = body.reader.read(alloc, piece, is_last)?;
+    body.hasher.update(&piece[..count]);
+    body.left -= count as u64;
+    Ok(count)
+}
+
+/// Reads on in a body as far as the next slices go, and answers whether what they have may be in one.
+pub(crate) fn read_next<D: Disk>(
+    alloc: Global,
+    disk: &mut D,
+    stream: &mut SideStream,
+    body: &mut OpenBody,
+) -> Result<bool, StoreFault>
+    requires open { IsTrue (D.view disk.old).is_open }
+    requires told { IsOf stream.old (D.view disk.old).seen }
+    requires hashed { IsHashed body.old }
+    requires room { body.old.left + 32 ≤ left stream.old }
+    ensures { Streams (D.view disk.old) (D.view disk.new) (D.images disk.old) (D.images disk.new) stream.old stream.new
+        (SaysNext stream.old stream.new body.old body.new) result }
+{
+    let want = stream.window().len().saturating_mul(2).saturating_add(1);
+    stream.load(disk, want)?;
+    let window = stream.window();
+    let piece = &window[..(window.len() as u64).min(body.left) as usize];
+    match read_piece(alloc, body, piece) {
+        Ok(count) => {
+            stream.take(count);
+            Ok(true)
+        }
+        Err(CodecFault::NotInGrammar { .. }) => Ok(false),
+        Err(CodecFault::NoMemory) => Err(StoreFault::NoMemory),
+    }
+}
+
+/// Reads all rows of a body, and answers whether they may be those of one.
+pub(crate) fn read_rows<D: Disk>(
+    alloc: Global,
+    disk: &mut D,
+    stream: &mut SideStream,
+    body: &mut OpenBody,
+) -> Result<bool, StoreFault>
+    requires open { IsTrue (D.view disk.old).is_open }
+    requires told { IsOf stream.old (D.view disk.old).seen }
+    requires hashed { IsHashed body.old }
+    requires room { body.old.left + 32 ≤ left stream.old }
+    ensures { Streams (D.view disk.old) (D.view disk.new) (D.images disk.old) (D.images disk.new) stream.old stream.new
+        (SaysRows stream.new body.old body.new) result }
+{
+    while !body.reader.is_full() {
+        if !read_next(alloc, disk, stream, body)? {
+            return Ok(false);
+        }
+    }
+    Ok(true)
+}
+
+/// The snapshot whose rows were read, where what follows them goes with them, and the digest with all.
+pub(crate) fn finish_snapshot<D: Disk>(
+    alloc: Global,
+    disk: &mut D,
+    stream: &mut SideStream,
+    body: OpenBody,
+) -> Result<Option<Snapshot>, StoreFault>
+    requires open { IsTrue (D.view disk.old).is_open }
+    requires told { IsOf stream.old (D.view disk.old).seen }
+    requires kind { body.reader.is_snapshot ≡ true }
+    requires full { is_full body.reader ≡ true }
+    requires hashed { IsHashed body }
+    requires room { body.left + 32 ≤ left stream.old }
+    ensures { Streams (D.view disk.old) (D.view disk.new) (D.images disk.old) (D.images disk.new) stream.old stream.new
+        (SaysSnapshot stream.new body) result }
+{
+    let OpenBody {
+        reader,
+        mut hasher,
+        left,
+    } = body;
+    let size = left as usize;
+    stream.load(disk, size)?;
+    let rest = &stream.window()[..size];
+    let snapshot = match reader.finish_snapshot(alloc, rest) {
+        Ok(snapshot) => snapshot,
+        Err(CodecFault::NotInGrammar { .. }) => return Ok(None),
+        Err(CodecFault::NoMemory) => return Err(StoreFault::NoMemory),
+    };
+    hasher.update(rest);
+    stream.take(size);
+    if take_digest(disk, stream, hasher)? {
+        Ok(Some(snapshot))
+    } else {
+        Ok(None)
+    }
+}
+
+/// The same of a run record.
+pub(crate) fn finish_delta<D: Disk>(
+    alloc: Global,
+    disk: &mut D,
+    stream: &mut SideStream,
+    body: OpenBody,
+) -> Result<Option<Delta>, StoreFault>
+    requires open { IsTrue (D.view disk.old).is_open }
+    requires told { IsOf stream.old (D.view disk.old).seen }
+    requires kind { body.reader.is_snapshot ≡ false }
+    requires full { is_full body.reader ≡ true }
+    requires hashed { IsHashed body }
+    requires room { body.left + 32 ≤ left stream.old }
+    ensures { Streams (D.view disk.old) (D.view disk.new) (D.images disk.old) (D.images disk.new) stream.old stream.new
+        (SaysDelta stream.new body) result }
+{
+    let OpenBody {
+        reader,
+        mut hasher,
+        left,
+    } = body;
+    let size = left as usize;
+    stream.load(disk, size)?;
+    let rest = &stream.window()[..size];
+    let delta = match reader.finish_delta(alloc, rest) {
+        Ok(delta) => delta,
+        Err(CodecFault::NotInGrammar { .. }) => return Ok(None),
+        Err(CodecFault::NoMemory) => return Err(StoreFault::NoMemory),
+    };
+    hasher.update(rest);
+    stream.take(size);
+    if take_digest(disk, stream, hasher)? {
+        Ok(Some(delta))
+    } else {
+        Ok(None)
+    }
+}

@@ -1,0 +1,100 @@
+ghost use Rattle.std.specs.Prelude.{◌≡◌, ◌≤◌, IsTrue, length};
+ghost use Rattle.ga_codec.specs.Values.{snapshot_value};
+ghost use Rattle.ga_store.specs.Database.{of_snapshot};
+ghost use Rattle.ga_store.specs.Steps.Records.{BehindGate, SaysDelta, SaysOn, SaysRecord};
+ghost use Rattle.ga_store.specs.Steps.Stream.{IsAt, IsOf, Streams};
+ghost use Rattle.ga_store.specs.Store.{db_value};
+
+use crate::body_reading::{OpenBody, finish_delta, read_rows};
+use crate::found::{FirstPart, RecordPart};
+use crate::side_parts::{is_open, take_size};
+use crate::side_stream::SideStream;
+use crate::starts::Said;
+use crate::{Db, StoreFault};
+use ga_codec::laws::one_delta_reading;
+use ga_codec::{BodyReader, Delta};
+use ga_disk::Disk;
+use ga_summary::MergeFault;
+use sha2::{Digest, Sha256};
+use std::alloc::Global;
+
+/// Takes the records after the snapshot of a side with this number, up to the first closed gate.
+pub(crate) fn read_on<D: Disk>(
+    alloc: Global,
+    disk: &mut D,
+    stream: &mut SideStream,
+    number: u32,
+    first: FirstPart,
+) -> Result<Said, StoreFault>
+    requires open { IsTrue (D.view disk.old).is_open }
+    requires told { IsOf stream.old (D.view disk.old).seen }
+    requires place { IsAt stream.old first.next }
+    ensures { Streams (D.view disk.old) (D.view disk.new) (D.images disk.old) (D.images disk.new) stream.old stream.new
+        (SaysOn stream.new number (of_snapshot number first.next (snapshot_value first.snapshot))) result }
+{
+    let mut db = Db::of_first(number, first);
+    while is_open(disk, stream)? {
+        let slot = db.slot;
+        if !take_record(alloc, disk, stream, &mut db)? {
+            return Ok(Said::Damaged {
+                side: number,
+                at: slot + 1,
+            });
+        }
+    }
+    Ok(Said::Database(db))
+}
+
+/// Takes the record after the open gate that comes next, and answers whether there is one that the database can take on.
+fn take_record<D: Disk>(
+    alloc: Global,
+    disk: &mut D,
+    stream: &mut SideStream,
+    db: &mut Db,
+) -> Result<bool, StoreFault>
+    requires open { IsTrue (D.view disk.old).is_open }
+    requires told { IsOf stream.old (D.view disk.old).seen }
+    requires gate { BehindGate stream.old }
+    requires place { IsAt stream.old db.old.slot }
+    requires few { db.old.records ≤ db.old.slot }
+    ensures { Streams (D.view disk.old) (D.view disk.new) (D.images disk.old) (D.images disk.new) stream.old stream.new
+        (SaysRecord stream.new (db_value db.old) (db_value db.new)) result }
+{
+    // That a row of bytes is one run record, for the proof alone.
+    one_delta_reading();
+    let Some(delta) = read_delta(alloc, disk, stream)? else {
+        return Ok(false);
+    };
+    let next = stream.place();
+    match db.take_on(RecordPart { delta, next }) {
+        Ok(()) => Ok(true),
+        Err(MergeFault::CounterFull { .. }) => Ok(false),
+        Err(MergeFault::NoMemory) => Err(StoreFault::NoMemory),
+    }
+}
+
+/// Takes the open gate that comes next, and the run record after it; None where no part with one is there.
+fn read_delta<D: Disk>(
+    alloc: Global,
+    disk: &mut D,
+    stream: &mut SideStream,
+) -> Result<Option<Delta>, StoreFault>
+    requires open { IsTrue (D.view disk.old).is_open }
+    requires told { IsOf stream.old (D.view disk.old).seen }
+    requires gate { 1 ≤ length stream.old.window }
+    ensures { Streams (D.view disk.old) (D.view disk.new) (D.images disk.old) (D.images disk.new) stream.old stream.new
+        (SaysDelta stream.new) result }
+{
+    let Some(size) = take_size(disk, stream)? else {
+        return Ok(None);
+    };
+    let mut body = OpenBody {
+        reader: BodyReader::of_delta(alloc),
+        hasher: Sha256::new(),
+        left: size,
+    };
+    if !read_rows(alloc, disk, stream, &mut body)? {
+        return Ok(None);
+    }
+    finish_delta(alloc, disk, stream, body)
+}
