@@ -118,6 +118,38 @@ class Logs:
         return 0, self.report(), b""
 
 
+class Followed:
+    """Logs that grow and change their names, and what the runs over them may have kept. Nothing is known of a database but what
+    each run may have read."""
+
+    def __init__(self, words):
+        # the words of a run without a database; of each log its bytes; and which log has a name now
+        self.words, self.texts, self.names = words, [], {}
+        # what may be kept: of each log that was read the place up to which its lines are counted
+        self.may = [{}]
+
+    def append(self, name, text):
+        """Appends to a log, which is made if it isn't there."""
+        log = self.names.setdefault(name, len(self.texts))
+        if log == len(self.texts):
+            self.texts.append(b"")
+        self.texts[log] += text
+
+    def end_of(self, log, is_kept):
+        """The place up to which a run reads a log. One that is kept leaves a line that isn't ended."""
+        return self.texts[log].rfind(b"\n") + 1 if is_kept else len(self.texts[log])
+
+    def reads(self, mode, names):
+        """What may have been read after a run, in the order of what may be kept where it goes on from that."""
+        ends = {self.names[name]: self.end_of(self.names[name], "--persist" in mode) for name in names}
+        return [{**kept, **ends} for kept in (self.may if "--restore" in mode else [{}])]
+
+    def one_pass(self, read):
+        """The report of one run without a database over what was read of each log."""
+        files = {b"%d" % log: self.texts[log][:end] for log, end in read.items()} or {b"none": b""}
+        return oracle.run([*(word.encode() for word in self.words), *files], files)[1]
+
+
 class Tries:
     """The program, the folder that it is tried in, and how many tries passed."""
 

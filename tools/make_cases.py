@@ -374,15 +374,39 @@ def shown(report):
     return " ".join(parts)
 
 
-class Listed:
+class Steps:
+    """Makes the steps of a list, each by the method for its kind."""
+
+    def step(self, step):
+        kind, *rest = step.split(" ")
+        if kind == "+":
+            self.grow(rest[0], b"".join(map(bytes_of_page, rest[1:])))
+        elif kind == ">":
+            self.rename(*rest)
+        elif kind == "crash":
+            calls, _, mode, *logs = rest
+            # a star is never a number here: nothing fails
+            self.crash(FEWEST if calls == "*" else int(calls), mode, logs)
+        else:
+            self.run(kind, rest)
+
+
+class Listed(Steps):
     """A list of steps as it is made, with the statuses and the reports of its runs."""
 
     def __init__(self, setting):
         kind, _, value = setting.partition(" ")
-        # a star is never a number here: nothing fails
+        # (nor is one here)
         self.failing = {kind: value} if value not in ("", "*") else {}
         self.room = int(self.failing.get("room", "0")) if "room" in self.failing else None
         self.files, self.db, self.statuses, self.reports = {}, oracle.Database(), "", []
+
+    def grow(self, name, text):
+        self.files[name.encode()] = self.files.get(name.encode(), b"") + text
+
+    def rename(self, old, new):
+        if old.encode() in self.files and new.encode() not in self.files:
+            self.files[new.encode()] = self.files.pop(old.encode())
 
     def fails_at_once(self, calls, logs):
         """The status of a run that fails before it can be kept, if it does."""
@@ -390,8 +414,10 @@ class Listed:
             return 3
         return 2 if logs and self.failing.pop("files", None) else 0
 
-    def run(self, run, calls):
-        mode, *logs = run.split(" ")
+    def run(self, mode, logs):
+        self.crash(FEWEST, mode, logs)
+
+    def crash(self, calls, mode, logs):
         status, out = self.fails_at_once(calls, logs), b""
         if status == 0:
             words = [word.encode() for word in MODES[mode] + logs]
@@ -404,27 +430,26 @@ class Listed:
         self.statuses += str(status)
         self.reports.append(shown(out))
 
-    def step(self, step):
-        kind, *rest = step.split(" ")
-        if kind == "+":
-            self.files[rest[0].encode()] = self.files.get(rest[0].encode(), b"") + b"".join(map(bytes_of_page, rest[1:]))
-        elif kind == ">":
-            old, new = (name.encode() for name in rest)
-            if old in self.files and new not in self.files:
-                self.files[new] = self.files.pop(old)
-        elif kind == "crash":
-            self.run(" ".join(rest[2:]), FEWEST if rest[0] == "*" else int(rest[0]))
-        else:
-            self.run(step, FEWEST)
+
+def steps_of(given):
+    """What is to fail in a list, and its steps."""
+    setting, _, steps = given.rpartition(": ")
+    return setting, steps.split("; ")
 
 
 def list_answer(given):
     """What a list of steps answers; with a star, where no run fails."""
-    setting, _, steps = given.rpartition(": ")
+    setting, steps = steps_of(given)
     made = Listed(setting)
-    for step in steps.split("; "):
+    for step in steps:
         made.step(step)
     return " ".join([made.statuses, *filter(None, made.reports)])
+
+
+def write_rows(path, rows):
+    """Writes a table of lists."""
+    with open(path, "w", encoding="utf-8", newline="") as out:
+        out.write(HEAD + DOC_LISTS + 'pub const LISTS: &str = "\\\n' + quoted("".join(rows)) + '";\n')
 
 
 def write_lists(path):
@@ -436,8 +461,7 @@ def write_lists(path):
             assert "*" not in row or set(answer.split(" ")[0]) == {"0"}, name
             rows.append(f"{row} => {answer}\n")
             count += 1
-    with open(path, "w", encoding="utf-8", newline="") as out:
-        out.write(HEAD + DOC_LISTS + 'pub const LISTS: &str = "\\\n' + quoted("".join(rows)) + '";\n')
+    write_rows(path, rows)
     return count
 
 
