@@ -176,6 +176,11 @@ module _ (setup : Setup) (s : Settings) (files files' : FilesView) (d d' : DiskV
   pub hungry-from : (entries' : List Entry) (total : TallySeen) → CountsFrom setup s stored files files' total entries' → StopsCounting setup s files files' d d' i i' NoMemory
   hungry-from entries' total h = hungry-last setup s files files' d d' i i' stored finds h.entries h.begin entries' total h.counts
 
+  pub stops-on : (status : Status) → StopsAlone setup s stored files files' status → StopsCounting setup s files files' d d' i i' status
+  stops-on status (inl h) = stops-from status (inl h)
+  stops-on status (inr (is, inl same)) = stops-from status (inr (is, same))
+  stops-on status (inr (is, inr h)) = subst Stops (sym is) (hungry-from h.entries' h.total h.counted)
+
 -- logs that weren't all counted leave no text
 pub text-stops : {setup : Setup} {s : Settings} {stored : DbValue} {files files' : FilesView} {status : Status} → StopsFrom setup s stored files files' status → StopsAlone setup s stored files files' status
 text-stops (inl h) = inl h

@@ -16,7 +16,8 @@ ghost use Rattle.ga_one_run.specs.Reports.{IsTextTold, text_as};
 ghost use Rattle.ga_one_run.specs.Run.{IsRun};
 ghost use Rattle.ga_one_run.specs.Statuses.{target_name};
 ghost use Rattle.ga_one_run.specs.Outside.{outside_of};
-ghost use Rattle.ga_one_run.specs.Steps.Run.{CountsFrom, CountsRun, EndsAlone, EndsInputs, EndsLast, EndsReport, EndsRun, IsReady, IsTextAlone, NoFileFailed, StopsAlone, StopsCounting, StopsFrom, failed_name, input_name, workers_said};
+ghost use Rattle.ga_totals.specs.Totals.{IsOfCountable};
+ghost use Rattle.ga_one_run.specs.Steps.Run.{AreSums, CountsFrom, CountsOn, CountsRun, EndsAlone, EndsInputs, EndsLast, EndsReport, EndsRun, IsOfLines, IsReady, IsTextAlone, IsTextOfTotal, NoFileFailed, StopsAlone, StopsCounting, StopsFrom, failed_name, input_name, workers_said};
 
 use crate::faults::tell;
 use crate::printing::deliver;
@@ -237,14 +238,26 @@ fn text_alone<R: Threads + Sync, G: Gate, F: Files>(
     ensures sure { CanServe context.now.settings.now.logs (F.view files.old) → IfErr result NoFileFailed }
     ensures files_trace { FilesTrace (F.view files.old) (F.view files.new) }
 {
-    let settings = context.settings;
     let (total, _entries) = count_stored(context, setup, stored, files)?;
-    let jobs = workers_of(settings).jobs;
-    let told = total.source(context.rt, context.alloc, jobs)?;
-    let text = text_of(context.rt, context.alloc, settings, &told)?;
-    drop(told);
+    let text = text_of_total(context.rt, context.alloc, context.settings, &total)?;
     // After the report the program ends, and the system takes the total's memory back at once: piece by piece it takes long.
     mem::forget(total);
+    Ok(text)
+}
+
+/// The text of the report on what a total is of.
+fn text_of_total<R: Threads + Sync>(
+    rt: &R,
+    alloc: Global,
+    settings: &Settings,
+    total: &Total,
+) -> Result<Bytes, NoMemory>
+    requires { IsOfCountable total.now }
+    ensures { IfOk result (IsTextOfTotal settings.now total.now) }
+{
+    let jobs = workers_of(settings).jobs;
+    let told = total.source(rt, alloc, jobs)?;
+    let text = text_of(rt, alloc, settings, &told)?;
     Ok(text)
 }
 
@@ -261,18 +274,47 @@ fn count<R: Threads + Sync, G: Gate, F: Files, D: Disk>(
     ensures files_trace { FilesTrace (F.view files.old) (F.view files.new) }
     ensures disk_trace { DiskTrace (D.view disk.old) (D.view disk.new) }
 {
-    let settings = context.settings;
-    let stored = find(context.alloc, settings, disk)?;
-    summary_is_sound(&stored.summary);
-    let (total, entries) = count_stored(context, setup, &stored, files)?;
-    let run = total.summary(context.alloc)?;
-    let whole = whole_summary(settings, &stored, &run)?;
+    let stored = find(context.alloc, context.settings, disk)?;
+    let (run, whole, entries) = count_on(context, setup, &stored, files)?;
     Ok(RunCounts {
         stored,
         run,
         whole,
         entries,
     })
+}
+
+/// Counts the logs from what is stored on: the sum of the run and the whole one, and how far each log was counted.
+fn count_on<R: Threads + Sync, G: Gate, F: Files>(
+    context: &RunContext<'_, R, G>,
+    setup: &Setup,
+    stored: &Db,
+    files: &mut F,
+) -> Result<(Summary, Summary, Entries), Status>
+    ensures ok { IfOk result (λ counted. CountsOn setup.now context.now.settings.now (db_value stored.now) (F.view files.old) (F.view files.new) counted.0 counted.1 counted.2) }
+    ensures stops { IfErr result (StopsAlone setup.now context.now.settings.now (db_value stored.now) (F.view files.old) (F.view files.new)) }
+    ensures sure { CanServe context.now.settings.now.logs (F.view files.old) → IfErr result NoFileFailed }
+    ensures files_trace { FilesTrace (F.view files.old) (F.view files.new) }
+{
+    let (total, entries) = count_stored(context, setup, stored, files)?;
+    let (run, whole) = sums_of(context.alloc, context.settings, stored, &total)?;
+    Ok((run, whole, entries))
+}
+
+/// The sum of a run by its total, and the whole one with what is stored.
+fn sums_of(
+    alloc: Global,
+    settings: &Settings,
+    stored: &Db,
+    total: &Total,
+) -> Result<(Summary, Summary), NoMemory>
+    requires { IsOfLines settings.now (db_value stored.now) total.now }
+    ensures { IfOk result (λ sums. AreSums settings.now (db_value stored.now) total.now sums.0 sums.1) }
+{
+    summary_is_sound(&stored.summary);
+    let run = total.summary(alloc)?;
+    let whole = whole_summary(settings, stored, &run)?;
+    Ok((run, whole))
 }
 
 /// Counts the logs of a run on from what is stored: their total, and how far each log was counted.

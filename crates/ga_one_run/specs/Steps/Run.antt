@@ -7,10 +7,11 @@ use Rattle.ga_base.specs.declared.entry.Entry.{Entry}
 use Rattle.ga_disk.specs.Disk.{DiskView}
 use Rattle.ga_disk.specs.Images.{Images}
 use Rattle.ga_disk.specs.Trace.{DiskTrace}
-use Rattle.ga_keep.specs.RunDatabase.{AreBase, FailsKeeping, Finds, IsUntouched, KeptIf, LooksAtMost, follow_of, mode_of, start_of}
+use Rattle.ga_keep.specs.RunDatabase.{AreBase, FailsKeeping, Finds, IsUntouched, IsWhole, KeptIf, LooksAtMost, follow_of, mode_of, start_of}
 use Rattle.ga_keep.specs.Faults.{Misses}
 use Rattle.ga_line.specs.declared.setup.LineSetup.{LineSetup}
-use Rattle.ga_outcomes.specs.LineOutcomes.{FillsAmong}
+use Rattle.ga_outcomes.specs.LineOutcomes.{CountsLines, FillsAmong}
+use Rattle.ga_logs.specs.Counting.{AreInTotal}
 use Rattle.ga_logs.specs.Following.{CanServe, ReadsSome}
 use Rattle.ga_logs.specs.Logs.{CountsLogs, StopsLogs}
 use Rattle.ga_logs.specs.Missing.{MissesLogs}
@@ -34,7 +35,11 @@ use Rattle.ga_store.specs.declared.db.Db.{Db}
 use Rattle.ga_store.specs.declared.fault.StoreFault.{StoreFault}
 use Rattle.ga_store.specs.declared.fault.StoreFault.TheVariants.{CounterFull as StoreFull, Damaged, DiskFault as StoreFailed, NoMemory as StoreNoMemory}
 use Rattle.ga_workers.specs.declared.workers.Workers.{Workers}
-use Rattle.ga_tallies.specs.Tallies.{TallySeen}
+use Rattle.ga_summary.specs.Outcomes.{Outcome}
+use Rattle.ga_summary.specs.Sound.{AllCountable}
+use Rattle.ga_summary.specs.SummaryRows.{SummaryValue}
+use Rattle.ga_summary.specs.Sums.{IsSumOf}
+use Rattle.ga_tallies.specs.Tallies.{IsTallyOf, TallySeen}
 use Rattle.ga_words.specs.declared.fault.WordFault.{WordFault}
 use Rattle.ga_words.specs.declared.fault.WordFault.TheVariants.{NoMemory as WordNoMemory}
 use Rattle.ga_words.specs.declared.settings.Settings.{Settings}
@@ -159,12 +164,42 @@ pub record IsTextAlone (setup : Setup) (s : Settings) (stored : DbValue) (files 
   pub has : HasCounted setup s stored files files'
   pub is_text : IsTextOf s has.whole text
 
+-- the text is the report on the sum of these
+pub record IsTextOfLines (s : Settings) (outcomes : List Outcome) (text : List ℕ) : Type 0 where
+  pub sum : SummaryValue
+  pub is_sum : IsSumOf outcomes sum
+  pub is_text : IsTextOf s sum text
+
+-- the text is the report on the sum of those that a total is of
+pub record IsTextOfTotal (s : Settings) (total : TallySeen) (text : List ℕ) : Type 0 where
+  pub of : (outcomes : List Outcome) → IsTallyOf outcomes total → AllCountable outcomes → IsTextOfLines s outcomes text
+
 -- all logs were counted on from what is stored
 pub record CountsFrom (setup : Setup) (s : Settings) (stored : DbValue) (files files' : FilesView) (total : TallySeen)
     (entries' : List Entry) : Type 0 where
   pub entries : List Entry
   pub begin : AreBase s stored entries
   pub counts : CountsLogs setup (start_of s stored) s.generate s.logs entries entries' files files' total
+
+-- the total is of lines that fit what a run counts on from
+pub record IsOfLines (s : Settings) (stored : DbValue) (total : TallySeen) : Type 0 where
+  pub setup : Setup
+  pub lines : List (List ℕ)
+  pub are : AreInTotal setup (start_of s stored).totals lines total
+
+-- the sum of the lines of a total, and the whole one
+pub record AreSums (s : Settings) (stored : DbValue) (total : TallySeen) (run whole : SummaryValue) : Type 0 where
+  pub counts : (setup : Setup) (lines : List (List ℕ)) → AreInTotal setup (start_of s stored).totals lines total
+      → CountsLines setup (start_of s stored).totals lines run
+  pub is_whole : IsWhole s stored run whole
+
+-- the logs were counted on from what is stored
+pub record CountsOn (setup : Setup) (s : Settings) (stored : DbValue) (files files' : FilesView) (run whole : SummaryValue)
+    (entries : List Entry) : Type 0 where
+  pub has : HasCounted setup s stored files files'
+  pub run_is : has.run ≡ run
+  pub whole_is : has.whole ≡ whole
+  pub entries_are : has.entries' ≡ entries
 
 -- a log wasn't read, or the lines fill a counter, or memory ran out on the way
 pub record StopsLogsAlone (setup : Setup) (s : Settings) (stored : DbValue) (files files' : FilesView) (status : Status) : Type 0 where

@@ -1,7 +1,5 @@
 use Rattle.std.proofs.Common.{refl, inr}
 use Rattle.std.proofs.lemmas.Result.{err_from_is_err_and}
-use Rattle.ga_report.specs.OfSummary.{source_value}
-use Rattle.ga_report.proofs.Alike.{report-alike}
 use Rattle.ga_store.specs.Store.{db_value}
 use Rattle.ga_one_run.proofs.Counting.{countable-total, overwrites, text-stops}
 use Rattle.ga_one_run.proofs.run.text_alone.Goals as goal
@@ -11,13 +9,8 @@ returns-in_err-total-clause-stops g c =
     let p = err_from_is_err_and c.from_residual.result c.from_residual.ensures.1 in
     rw (p.1, p.2) (text-stops c.in_err-total.ensures.stops)
 
-pub source-requires : goal.source-requires
-source-requires g c = (c.type_bounds.sync-R, countable-total _ _ _ _ c.in_ok-total.ensures.ok.counts.counts)
-
-pub returns-in_err-told-clause-stops : goal.returns-in_err-told-clause-stops
-returns-in_err-told-clause-stops g c =
-    let p = err_from_is_err_and c.from_residual-in_err-told.result c.from_residual-in_err-told.ensures.1 in
-    rw (p.1, p.2) (inr (refl, inr (record { total = c.in_ok-total.total; entries' = c.in_ok-total._entries; counted = c.in_ok-total.ensures.ok })))
+pub text_of_total-requires : goal.text_of_total-requires
+text_of_total-requires g c = (c.type_bounds.sync-R, countable-total _ _ _ _ c.in_ok-total.ensures.ok.counts.counts)
 
 pub returns-in_err-text-clause-stops : goal.returns-in_err-text-clause-stops
 returns-in_err-text-clause-stops g c =
@@ -30,8 +23,7 @@ returns-clause-ok g c =
     let stored = db_value c.args.stored.now in
     let counted = c.in_ok-total.ensures.ok in
     let counts = counted.counts in
-    let text = c.in_ok-text.ensures in
-    let tells = c.in_ok-told.ensures counts.counts.outcomes counts.counts.tally counts.counts.countable in
+    let text = c.in_ok-text.ensures.of counts.counts.outcomes counts.counts.tally counts.counts.countable in
     record {
       has = record {
         entries = counted.entries;
@@ -39,14 +31,10 @@ returns-clause-ok g c =
         entries' = c.in_ok-total._entries;
         portions = counts.portions;
         read = counts.read;
-        run = tells.sum;
-        counts = record { outcomes = counts.counts.outcomes; have_outcomes = counts.counts.have_outcomes; is_sum = tells.is_sum; fits = counts.counts.fits };
-        whole = tells.sum;
-        is_whole = overwrites s stored tells.sum c.requires;
+        run = text.sum;
+        counts = record { outcomes = counts.counts.outcomes; have_outcomes = counts.counts.have_outcomes; is_sum = text.is_sum; fits = counts.counts.fits };
+        whole = text.sum;
+        is_whole = overwrites s stored text.sum c.requires;
       };
-      is_text = record {
-        report = text.report;
-        is_report = report-alike _ (source_value tells.sum) s.panels s.max_items text.report tells.same text.is_report;
-        written = text.written;
-      };
+      is_text = text.is_text;
     }
