@@ -208,7 +208,8 @@ class Judged(Named):
     def outcome(self, outcomes):
         """The outcome that a run had, all of those in one that look alike. None where it had none of them."""
         status, report = "".join(self.statuses[:1]), "".join(self.reports[:1])
-        fitting = [one for one in outcomes if str(one.status) == status and one.report in ("", report)]
+        # (blanks at the end of a line may be lost on the way)
+        fitting = [one for one in outcomes if str(one.status) == status and one.report.rstrip() in ("", report.rstrip())]
         said = f"{status} {report if status in ('0', '4') else ''}".rstrip()
         if not self.check(self.name, said, said if fitting else " or ".join(dict.fromkeys(map(str, outcomes)))):
             return None
