@@ -1,5 +1,5 @@
 -- What a commit of prepared work says of a run.
-use Rattle.std.proofs.Common.{◌≡◌, ℕ, ◌+◌, Bool, true, false, List, refl, ap, sym, ◌∙◌, subst, Option, Some, None, IfSome, Result, Ok, Err, OnOk, IfErr, map, length}
+use Rattle.std.proofs.Common.{◌≡◌, ◌⊎◌, inl, inr, ℕ, ◌+◌, Bool, true, false, List, refl, ap, sym, ◌∙◌, subst, Option, Some, None, IfSome, Result, Ok, Err, OnOk, IfErr, map, length}
 use Rattle.std.specs.Prelude.{if◌then◌else◌}
 use Rattle.std.specs.Option.{unwrap_or}
 use Rattle.ga_base.specs.declared.entry.Entry.{Entry}
@@ -7,15 +7,18 @@ use Rattle.ga_codec.specs.Values.{entry_value}
 use Rattle.ga_disk.specs.Disk.{DiskView}
 use Rattle.ga_disk.specs.Images.{Images}
 use Rattle.ga_disk.specs.Sides.{Sides, of_side}
-use Rattle.ga_keep.specs.RunDatabase.{IsAfter, IsKept, IsNext, IsNextBy, Keeps, MayKeep, keeping_calls, keeping_calls_by, mode_of}
+use Rattle.ga_keep.specs.RunDatabase.{IsAfter, IsKept, IsNext, IsNextBy, IsUntouched, Keeps, MayKeep, keeping_calls, keeping_calls_by, mode_of}
 use Rattle.ga_keep.specs.Faults.{IsUnkept}
 use Rattle.ga_codec.specs.Values.{EntryValue}
-use Rattle.ga_store.specs.Commit.{IsWorkBy, IsWorkOf, Makes, Work, adds_record, after_run, closing_calls, commit_calls, passes_generations, tail_calls}
+use Rattle.ga_store.specs.Commit.{IsWorkBy, IsWorkOf, Makes, MergesBy, Work, adds_record, after_run, closing_calls, commit_calls, passes_generations, tail_calls}
 use Rattle.ga_store.specs.Commits.{AllHave, Commits, CommitsFrom, HasEither, Takes}
 use Rattle.ga_store.specs.Database.{DbOf, DbValue, of_snapshot}
 use Rattle.ga_store.specs.Database.Reading.{stored as reads_as}
 use Rattle.ga_store.specs.Holding.{Holds}
+use Rattle.ga_base.specs.declared.counts.Counter.TheVariants.{Generations}
+use Rattle.ga_base.specs.declared.counts.TheConstants.{LIMIT}
 use Rattle.ga_store.specs.declared.fault.StoreFault.{StoreFault}
+use Rattle.ga_store.specs.declared.fault.StoreFault.TheVariants.{CounterFull, NoMemory}
 use Rattle.ga_store.specs.declared.mode.Mode.{Mode}
 use Rattle.ga_summary.specs.SummaryRows.{SummaryValue}
 use Rattle.ga_words.specs.declared.settings.Settings.{Settings}
@@ -127,3 +130,30 @@ module _ (work : Work) (old : DbValue) (mode : Mode) (whole : SummaryValue) (ent
 pub not-full : (b : Bool) → (b ≡ true → ⊥) → b ≡ false
 not-full false none = refl
 not-full true none = absurd (none refl)
+
+-- ---- over any database that the run comes after
+
+pub merges-as : (stored run whole : SummaryValue) {mode mode' : Mode} → mode ≡ mode' → MergesBy mode stored run whole → MergesBy mode' stored run whole
+merges-as stored run whole is h = subst (λ (m : Mode). MergesBy m stored run whole) is h
+
+pub on_ok-each : {E X : Type 0} {P : X → Type 0} (Q : X → Type 0) (r : Result (Unit {0}) E) → ((x : X) → P x → OnOk r (Q x)) → OnOk r ((x : X) → P x → Q x)
+on_ok-each Q (Ok unit) h = h
+on_ok-each Q (Err fault) h = tt
+
+pub if_err-each : {E X : Type 0} {P : X → Type 0} (Q : X → E → Type 0) (r : Result (Unit {0}) E) → ((x : X) → P x → IfErr r (Q x)) → IfErr r (λ fault. (x : X) → P x → Q x fault)
+if_err-each Q (Ok unit) h = tt
+if_err-each Q (Err fault) h = h
+
+-- the disk wasn't touched, since memory ran out or the generation would be above the limit
+pub unkept-early : (s : Settings) (old : DbValue) (whole : SummaryValue) (entries : List Entry) (d : DiskView) (i : Images) (mode : Mode) → mode ≡ mode_of s → (fault : StoreFault)
+    → (fault ≡ NoMemory) ⊎ (fault ≡ CounterFull Generations (LIMIT + 1)) → (fault ≡ CounterFull Generations (LIMIT + 1) → passes_generations mode old ≡ true) → IsUnkept s old whole entries d d i i fault
+unkept-early s old whole entries d i mode is fault cause full = by cause
+  where
+    still : IsUntouched d d i i
+    still = record { view = refl; moment = refl; now = λ image h. h; since = λ t image h. h }
+
+    by : (fault ≡ NoMemory) ⊎ (fault ≡ CounterFull Generations (LIMIT + 1)) → IsUnkept s old whole entries d d i i fault
+    by (inl e) = subst (λ (f : StoreFault). IsUnkept s old whole entries d d i i f) (sym e) still
+    by (inr e) =
+        subst (λ (f : StoreFault). IsUnkept s old whole entries d d i i f) (sym e)
+        (refl, refl, subst (λ (m : Mode). passes_generations m old ≡ true) is (full e), still)

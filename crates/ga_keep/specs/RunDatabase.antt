@@ -10,7 +10,7 @@ use Rattle.ga_resume.specs.declared.follow.Follow.{Follow}
 use Rattle.ga_resume.specs.declared.follow.Follow.TheVariants.{Whole, ToEnd, ToLastLine}
 use Rattle.ga_resume.specs.declared.start.Start.{Start}
 use Rattle.ga_counters.specs.Counts.{raised}
-use Rattle.ga_store.specs.Commit.{IsLater, MergesBy, adds_record, closing_calls, other_side, passes_generations, tail_calls}
+use Rattle.ga_store.specs.Commit.{IsLater, MergesBy, adds_record, closing_calls, other_side, passes_generations, position_of, tail_calls}
 use Rattle.ga_store.specs.Commits.{AllHave, Frames, HasEither, Takes}
 use Rattle.ga_store.specs.Database.{DbOf, DbValue, empty_db}
 use Rattle.ga_store.specs.Database.Reading.{stored as reads_as}
@@ -18,8 +18,11 @@ use Rattle.ga_store.specs.Holding.{Holds}
 use Rattle.ga_store.specs.Store.{recovery_calls}
 use Rattle.ga_store.specs.declared.mode.Mode.{Mode}
 use Rattle.ga_store.specs.declared.mode.Mode.TheVariants.{Append, Overwrite}
+use Rattle.ga_store.specs.declared.position.Position.{Position}
 use Rattle.ga_summary.specs.SummaryRows.{SummaryValue}
+use Rattle.ga_summary.specs.Sums.{IsMerged}
 use Rattle.ga_words.specs.declared.settings.Settings.{Settings}
+use Rattle.ga_keep.specs.declared.base.Base.{Base}
 
 -- ---- what the settings say of it
 
@@ -45,6 +48,20 @@ AreBase s stored entries = map entry_value entries ≡ (base_of s stored).entrie
 -- what a run shows: what it counted, after what it restored
 abbrev pub IsWhole : Settings → DbValue → SummaryValue → SummaryValue → Type 0
 IsWhole s stored run whole = MergesBy (mode_of s) stored.summary run whole
+
+-- the base has what this database has
+pub record IsBaseOf (db : DbValue) (base : Base) : Type 0 where
+  pub summary : base.summary ≡ db.summary
+  pub entries : map entry_value base.entries ≡ db.entries
+
+-- how the base's summary grows by a run: it is merged with the run where that restores, and stays else
+abbrev pub GrowsBy : Bool → SummaryValue → SummaryValue → SummaryValue → Type 0
+GrowsBy true old run new = IsMerged old run new
+GrowsBy false old run new = new ≡ old
+
+-- the whole that a run shows, by what its base grew to
+abbrev pub whole_of : Settings → SummaryValue → SummaryValue → SummaryValue
+whole_of s base run = if s.restore then base else run
 
 abbrev pub start_of : Settings → DbValue → Start
 start_of s stored = record { follow = follow_of s; totals = (base_of s stored).summary.totals }
@@ -170,6 +187,12 @@ pub record MayKeep (stored new : DbValue) (disk disk' : DiskView) (images images
   pub stays : disk.steady ≡ true → IfSome disk'.seen (λ seen. DbOf seen (reads_as stored) → AllHave images' stored)
 
 -- ---- the answers of `keep`
+
+-- a run with this whole comes after this database, which stands there, and is what the disk holds
+pub record ComesAfter (s : Settings) (stored : DbValue) (position : Position) (run whole : SummaryValue) (disk : DiskView) (images : Images) : Type 0 where
+  pub stands : position_of stored ≡ position
+  pub holds : Holds disk images stored
+  pub is_whole : IsWhole s stored run whole
 
 -- the run was kept
 pub record IsKept (s : Settings) (stored : DbValue) (whole : SummaryValue) (entries : List Entry) (disk disk' : DiskView) (images images' : Images) : Type 0 where

@@ -7,9 +7,10 @@ ghost use Rattle.ga_keep.specs.Faults.{Misses};
 
 use ga_base::Text;
 use ga_disk::Disk;
-use ga_store::{Db, StoreFault, recover};
+use ga_store::{Db, StoreFault, recover_with};
 use ga_words::Settings;
 use std::alloc::Global;
+use std::thread::Threads;
 
 /// Whether a run uses the database.
 pub fn uses_database(settings: &Settings) -> bool
@@ -19,7 +20,12 @@ pub fn uses_database(settings: &Settings) -> bool
 }
 
 /// The database that a run finds. One that uses none leaves the disk alone.
-pub fn find<D: Disk>(alloc: Global, settings: &Settings, disk: &mut D) -> Result<Db, StoreFault>
+pub fn find<R: Threads + Sync, D: Disk>(
+    rt: &R,
+    alloc: Global,
+    settings: &Settings,
+    disk: &mut D,
+) -> Result<Db, StoreFault>
     ensures ok { IfOk result (λ db. Finds settings.now (D.view disk.old) (D.view disk.new) (D.images disk.old) (D.images disk.new) (db_value db)) }
     ensures misses { IfErr result (Misses settings.now (D.view disk.old) (D.view disk.new) (D.images disk.old) (D.images disk.new)) }
     ensures calls { DiskTrace (D.view disk.old) (D.view disk.new) }
@@ -28,5 +34,5 @@ pub fn find<D: Disk>(alloc: Global, settings: &Settings, disk: &mut D) -> Result
         return Ok(Db::empty(alloc));
     }
     disk.open(&settings.db_path)?;
-    recover(alloc, disk)
+    recover_with(rt, alloc, disk, settings.jobs)
 }

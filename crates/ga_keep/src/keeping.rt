@@ -1,35 +1,36 @@
 ghost use Rattle.std.specs.Prelude.{◌≡◌, OnOk, IfErr, IsTrue};
 ghost use Rattle.ga_disk.specs.Trace.{DiskTrace};
-ghost use Rattle.ga_store.specs.Holding.{Holds};
-ghost use Rattle.ga_store.specs.Store.{db_value};
-ghost use Rattle.ga_keep.specs.RunDatabase.{IsKept, IsWhole, mode_of};
+ghost use Rattle.ga_store.specs.Database.{DbValue};
+ghost use Rattle.ga_keep.specs.RunDatabase.{ComesAfter, IsKept, mode_of};
 ghost use Rattle.ga_keep.specs.Faults.{IsUnkept};
 
 use ga_base::Entries;
 use ga_disk::Disk;
-use ga_store::{Db, Mode, StoreFault, commit, prepare};
+use ga_store::{Mode, Position, StoreFault, commit, prepare_at};
 use ga_summary::Summary;
 use ga_words::Settings;
 use std::alloc::Global;
 
-/// Keeps a run: what it counted, and how far it counted each log. All memory is taken before the disk is touched.
+/// Keeps a run after the database that stands at a position: what the run counted, the whole with what it restored, and how far
+/// each log was counted. All memory is taken before the disk is touched.
 pub fn keep<D: Disk>(
     alloc: Global,
     settings: &Settings,
-    stored: &Db,
+    position: Position,
     run: &Summary,
     whole: &Summary,
     entries: &Entries,
     disk: &mut D,
 ) -> Result<(), StoreFault>
     requires open { IsTrue (D.view disk.old).is_open }
-    requires holds { Holds (D.view disk.old) (D.images disk.old) (db_value stored.now) }
-    requires whole { IsWhole settings.now (db_value stored.now) run.now whole.now }
-    ensures kept { OnOk result (IsKept settings.now (db_value stored.now) whole.now entries.now (D.view disk.old) (D.view disk.new) (D.images disk.old) (D.images disk.new)) }
-    ensures unkept { IfErr result (IsUnkept settings.now (db_value stored.now) whole.now entries.now (D.view disk.old) (D.view disk.new) (D.images disk.old) (D.images disk.new)) }
+    requires after { (stored : DbValue) × ComesAfter settings.now stored position run.now whole.now (D.view disk.old) (D.images disk.old) }
+    ensures kept { OnOk result ((stored : DbValue) → ComesAfter settings.now stored position run.now whole.now (D.view disk.old) (D.images disk.old)
+        → IsKept settings.now stored whole.now entries.now (D.view disk.old) (D.view disk.new) (D.images disk.old) (D.images disk.new)) }
+    ensures unkept { IfErr result (λ fault. (stored : DbValue) → ComesAfter settings.now stored position run.now whole.now (D.view disk.old) (D.images disk.old)
+        → IsUnkept settings.now stored whole.now entries.now (D.view disk.old) (D.view disk.new) (D.images disk.old) (D.images disk.new) fault) }
     ensures calls { DiskTrace (D.view disk.old) (D.view disk.new) }
 {
-    let work = prepare(alloc, stored, run, whole, entries, mode(settings))?;
+    let work = prepare_at(alloc, position, run, whole, entries, mode(settings))?;
     commit(disk, work)
 }
 

@@ -1,28 +1,45 @@
-ghost use Rattle.std.specs.Prelude.{◌≡◌, None, IfOk};
+ghost use Rattle.std.specs.Prelude.{◌≡◌, None, OnOk};
+ghost use Rattle.ga_base.specs.Totals.{LinesAdd, TotalsFit, totals_plus};
 ghost use Rattle.ga_summary.specs.Limits.{passes};
-ghost use Rattle.ga_base.specs.Totals.{totals_plus};
+ghost use Rattle.ga_store.specs.Commit.{position_of};
 ghost use Rattle.ga_store.specs.Store.{db_value};
-ghost use Rattle.ga_keep.specs.RunDatabase.{AreBase, IsWhole, base_of, follow_of, start_of};
+ghost use Rattle.ga_keep.specs.RunDatabase.{GrowsBy, IsBaseOf, follow_of, whole_of};
+ghost use Rattle.ga_keep.specs.RunDatabase as spec;
 
-use ga_base::{Entries, NoMemory};
+use crate::Base;
+use ga_base::NoMemory;
 use ga_resume::{Follow, Start};
-use ga_store::Db;
-use ga_summary::{MergeFault, Summary};
+use ga_store::{Db, Position};
+use ga_summary::Summary;
 use ga_words::Settings;
 use std::alloc::Global;
 
-/// From where a run counts on.
-pub fn start(alloc: Global, settings: &Settings, stored: &Db) -> Start
-    ensures { result ≡ start_of settings.now (db_value stored.now) }
+/// Where a database stands, and what a run counts on from: what is stored, where it restores, and else nothing.
+pub fn base_of(alloc: Global, settings: &Settings, stored: Db) -> (Position, Base)
+    ensures position { result.0 ≡ position_of (db_value stored) }
+    ensures base { IsBaseOf (spec.base_of settings.now (db_value stored)) result.1 }
 {
-    let totals = if settings.restore {
-        stored.summary.totals()
-    } else {
-        Summary::empty(alloc).totals()
-    };
+    let position = stored.position();
+    if !settings.restore {
+        return (position, Base::empty(alloc));
+    }
+    let Db {
+        summary,
+        entries,
+        ..
+    } = stored;
+    (position, Base { summary, entries })
+}
+
+/// From where a run counts on.
+pub fn start(settings: &Settings, base: &Base) -> Start
+    ensures start { result ≡ record { follow = follow_of settings.now; totals = base.now.summary.totals } }
+    ensures fits { TotalsFit result.totals }
+    ensures adds { LinesAdd result.totals }
+{
     Start {
         follow: follow(settings),
-        totals,
+        totals: base.summary.totals(),
     }
 }
 
@@ -39,28 +56,24 @@ fn follow(settings: &Settings) -> Follow
     }
 }
 
-/// The entries by which a run follows its logs.
-pub fn base_entries(alloc: Global, settings: &Settings, stored: &Db) -> Result<Entries, NoMemory>
-    ensures { IfOk result (AreBase settings.now (db_value stored.now)) }
+/// Adds what a run counted to what it restored, where it restores. After an `Err` the base is as it was.
+pub fn add_run(settings: &Settings, base: &mut Base, run: &Summary) -> Result<(), NoMemory>
+    requires { passes (totals_plus base.old.summary.totals run.now.totals) ≡ None }
+    ensures grown { OnOk result (GrowsBy settings.now.restore base.old.summary run.now base.new.summary) }
+    ensures entries { base.new.entries ≡ base.old.entries }
 {
-    if settings.restore {
-        Ok(stored.entries.clone()?)
-    } else {
-        Ok(Entries::new(alloc))
+    if !settings.restore {
+        return Ok(());
+    }
+    match base.summary.merge(run) {
+        Ok(()) => Ok(()),
+        Err(_) => Err(NoMemory),
     }
 }
 
-/// What a run shows and keeps: what it counted, after what it restored.
-pub fn whole_summary(settings: &Settings, stored: &Db, run: &Summary) -> Result<Summary, NoMemory>
-    requires { passes (totals_plus (base_of settings.now (db_value stored.now)).summary.totals run.now.totals) ≡ None }
-    ensures { IfOk result (IsWhole settings.now (db_value stored.now) run.now) }
+/// What a run shows and keeps: what it counted, after what it restored. The run was added to its base.
+pub fn whole<'a>(settings: &Settings, base: &'a Base, run: &'a Summary) -> &'a Summary
+    ensures { result.now ≡ whole_of settings.now base.now.summary run.now }
 {
-    if !settings.restore {
-        return run.copy();
-    }
-    let mut whole = stored.summary.copy()?;
-    match whole.merge(run) {
-        Ok(()) => Ok(whole),
-        Err(_) => Err(NoMemory),
-    }
+    if settings.restore { &base.summary } else { run }
 }

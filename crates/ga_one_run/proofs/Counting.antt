@@ -1,29 +1,33 @@
 -- How the counting of a run ended, from what its calls say.
-use Rattle.std.proofs.Common.{◌≡◌, ℕ, List, [], ◌∷◌, refl, sym, subst, inl, inr, arith, Bool, true, false, Option, Some, None}
+use Rattle.std.proofs.Common.{◌≡◌, ℕ, List, [], ◌∷◌, refl, sym, ◌∙◌, ap, subst, inl, inr, arith, Bool, true, false, Option, Some, None}
 use Rattle.std.proofs.lemmas.List.Sums.{sum_by-cons}
 use Rattle.std.specs.Prelude.{◌||◌, if◌then◌else◌}
 use Rattle.ga_base.specs.declared.counts.Totals.{Totals}
 use Rattle.ga_base.specs.declared.entry.Entry.{Entry}
 use Rattle.ga_disk.specs.Disk.{DiskView}
 use Rattle.ga_disk.specs.Images.{Images}
-use Rattle.ga_keep.specs.RunDatabase.{AreBase, Finds, base_of, start_of}
+use Rattle.ga_keep.specs.RunDatabase.{AreBase, Finds, GrowsBy, IsBaseOf, base_of, follow_of, start_of, whole_of}
+use Rattle.ga_keep.specs.declared.base.Base.{Base}
 use Rattle.ga_outcomes.specs.LineOutcomes.{CountsLines}
+use Rattle.ga_logs.specs.Following.{CanServe}
 use Rattle.ga_logs.specs.Logs.{CountsLogs, StopsLogs}
+use Rattle.ga_logs.specs.Portions.{counted_lines}
 use Rattle.ga_logs.specs.declared.fault.CountFault.{CountFault}
 use Rattle.ga_resume.specs.declared.start.Start.{Start}
 use Rattle.ga_logs.specs.declared.fault.CountFault.TheVariants.{Failed as LogFailed, Short as LogShort, Full, NoMemory as CountNoMemory}
 use Rattle.ga_outcomes.specs.declared.setup.Setup.{Setup}
 use Rattle.ga_outcomes.proofs.Limits.{all-within, no-counter}
+use Rattle.ga_panels.specs.declared.setup.PanelSetup.{PanelSetup}
 use Rattle.ga_ports.specs.Files.{FilesView}
 use Rattle.ga_resume.specs.declared.fault.PlaceFault.TheVariants.{NoMemory as PlaceNoMemory}
 use Rattle.ga_store.specs.Database.{DbValue, empty_db}
 use Rattle.ga_summary.specs.Limits.{or_else, over, passes}
-use Rattle.ga_base.specs.Totals.{LinesAdd, totals_plus, TotalsFit}
+use Rattle.ga_base.specs.Totals.{totals_plus, TotalsFit}
 use Rattle.ga_summary.specs.Outcomes.{Hit, Outcome, Counted, hits_of, totals_of}
 use Rattle.ga_summary.specs.Outcomes as outcomes
 use Rattle.ga_summary.specs.SummaryRows.{SummaryValue}
 use Rattle.ga_summary.specs.Sound.{AllCountable, IsSummary}
-use Rattle.ga_summary.specs.Sums.{IsSumOf}
+use Rattle.ga_summary.specs.Sums.{IsMerged, IsSumOf}
 use Rattle.ga_logs.specs.Counting.{AreInTotal}
 use Rattle.ga_tallies.specs.Tallies.{IsTallyOf, TallySeen}
 use Rattle.ga_totals.specs.Totals.{IsOfCountable}
@@ -33,22 +37,19 @@ use Rattle.ga_keep.specs.RunDatabase.{IsWhole, uses_database}
 use Rattle.ga_store.specs.Commit.{MergesBy}
 use Rattle.ga_store.specs.declared.mode.Mode.TheVariants.{Append, Overwrite}
 use Rattle.std.proofs.lemmas.Bool.{true≢false}
-use Rattle.ga_one_run.specs.Run.{SameFaults}
 use Rattle.ga_one_run.specs.declared.status.Status.{Status}
 use Rattle.ga_one_run.specs.declared.status.Status.TheVariants.{NoMemory}
-use Rattle.ga_one_run.specs.Steps.Run.{CountsFrom, CountsRun, EndsAlone, EndsInputs, EndsLast, EndsReport, EndsTold, EndsUntold, StopsAlone, StopsCounting, StopsFrom, StopsHungry, WalksLogs, status_of_count}
+use Rattle.ga_one_run.specs.Steps.Run.{AreSums, CountsFrom, CountsOn, CountsRun, EndsAlone, EndsInputs, EndsLast, EndsReport, EndsTold, EndsUntold, HasPanels, IsOfLines, IsReady, IsSetUp, NoFileFailed, StopsAlone, StopsCounting, StopsFrom, StopsHungry, StopsPanels, WalksLogs, status_of_count, whole_in}
 use Rattle.ga_one_run.proofs.Asking.{miss-counts, same-all, same-none, same-some, walks-all, walks-miss, walks-some}
-use Rattle.ga_one_run.proofs.InputsEnds.{ends-count, ends-last, looked-at, untouched}
+use Rattle.ga_one_run.proofs.InputsEnds.{ends-count, ends-hungry, ends-last, ends-rules, looked-at, untouched}
 use Rattle.ga_one_run.proofs.Moments.{OnlyNow}
-use Rattle.ga_agents.specs.declared.row.Rule.{Rule}
 use Rattle.ga_line.specs.declared.setup.LineSetup.{LineSetup}
-use Rattle.ga_one_run.specs.Course.{HasRules}
 use Rattle.ga_one_run.specs.Setups.{setup_of}
 use Rattle.ga_one_run.specs.Outside.{outside_of as outside}
-use Rattle.ga_store.specs.Store.{db_value}
 use Rattle.std.specs.Prelude.{◌⊎◌}
 use Rattle.ga_one_run.proofs.Finishing.{reports-last}
 use Rattle.ga_one_run.proofs.Telling.{found-there, there-in}
+use Rattle.ga_disk.specs.Trace.{DiskTrace}
 use Rattle.ga_disk.specs.Trace.DiskTrace.{no_disk_call}
 use Rattle.ga_ports.specs.Outs.{OutsView}
 use Rattle.ga_ports.specs.Trace.{FilesStay, FilesTrace, OutsTrace, files_then}
@@ -81,30 +82,14 @@ fits-on t (o ∷ os) fit e = by o (fits-on more os (all-within more parts.0) par
       micros = omega (arith, h.micros, sum_by-cons (λ (x : Hit). x.micros) hit (hits_of os), sum_by-cons (λ (x : Hit). x.micros) hit []);
     }
 
--- what a run counts on from fits, and its lines add up
-pub base-fits : (s : Settings) (stored : DbValue) → IsSummary stored.summary → TotalsFit (base_of s stored).summary.totals
-base-fits s stored sound = by s.restore
-  where
-    by : (b : Bool) → TotalsFit (if b then stored else empty_db).summary.totals
-    by true = sound.sound.totals.fit
-    by false = record { lines = omega arith; bytes = omega arith; micros = omega arith }
-
-pub base-adds : (s : Settings) (stored : DbValue) → IsSummary stored.summary → LinesAdd (base_of s stored).summary.totals
-base-adds s stored sound = by s.restore
-  where
-    by : (b : Bool) → LinesAdd (if b then stored else empty_db).summary.totals
-    by true = sound.sound.totals.lines
-    by false = refl
-
 -- so the whole passes no limit
-pub whole-fits : (setup : Setup) (s : Settings) (stored : DbValue) (all : List (List ℕ)) (sum : SummaryValue) → IsSummary stored.summary → CountsLines setup (start_of s stored).totals all sum
-    → passes (totals_plus (base_of s stored).summary.totals sum.totals) ≡ None
-whole-fits setup s stored all sum sound h =
-    let base : Totals = (base_of s stored).summary.totals in
-    let fits : TotalsFit (totals_plus base (totals_of h.outcomes)) = fits-on base h.outcomes (base-fits s stored sound) h.fits in
+pub whole-fits : (setup : Setup) (base : SummaryValue) (all : List (List ℕ)) (sum : SummaryValue) → IsSummary base → CountsLines setup base.totals all sum
+    → passes (totals_plus base.totals sum.totals) ≡ None
+whole-fits setup base all sum sound h =
+    let fits : TotalsFit (totals_plus base.totals (totals_of h.outcomes)) = fits-on base.totals h.outcomes sound.sound.totals.fit h.fits in
     let same : totals_of h.outcomes ≡ sum.totals = sym h.is_sum.totals in
-    subst (λ (u : Totals). passes (totals_plus base u) ≡ None) same
-    (no-counter (totals_plus base (totals_of h.outcomes)) fits.lines fits.bytes fits.micros)
+    subst (λ (u : Totals). passes (totals_plus base.totals u) ≡ None) same
+    (no-counter (totals_plus base.totals (totals_of h.outcomes)) fits.lines fits.bytes fits.micros)
 
 -- ---- the total of all lines
 
@@ -116,26 +101,91 @@ sum-lines setup start all total sum h is = record { outcomes = h.outcomes; have_
 pub countable-total : (setup : Setup) (start : Totals) (all : List (List ℕ)) (total : TallySeen) → AreInTotal setup start all total → IsOfCountable total
 countable-total setup start all total h = record { outcomes = h.outcomes; tally = h.tally; countable = h.countable }
 
--- ---- what the calls say, the start being that of the settings
+-- ---- what the calls say, the names being those of the settings
 
-module _ (s : Settings) (stored : DbValue) (start : Start) (is : start ≡ start_of s stored) where
-  pub start-fits : IsSummary stored.summary → TotalsFit start.totals
-  start-fits sound = subst (λ (x : Start). TotalsFit x.totals) (sym is) (base-fits s stored sound)
+module _ (s : Settings) (setup : Setup) (start : Start) (names : List (List ℕ)) (same : names ≡ s.logs) (entries : List Entry) (files files' : FilesView) where
+  pub counts-said : (entries' : List Entry) (total : TallySeen) → CountsLogs setup start s.generate names entries entries' files files' total
+      → CountsLogs setup start s.generate s.logs entries entries' files files' total
+  counts-said entries' total h = subst (λ (ns : List (List ℕ)). CountsLogs setup start s.generate ns entries entries' files files' total) same h
 
-  pub start-adds : IsSummary stored.summary → LinesAdd start.totals
-  start-adds sound = subst (λ (x : Start). LinesAdd x.totals) (sym is) (base-adds s stored sound)
+  pub stops-said : (fault : CountFault) → StopsLogs setup start s.generate names entries files files' fault → StopsLogs setup start s.generate s.logs entries files files' fault
+  stops-said fault h = subst (λ (ns : List (List ℕ)). StopsLogs setup start s.generate ns entries files files' fault) same h
 
-  module _ (setup : Setup) (names : List (List ℕ)) (same : names ≡ s.logs) (entries : List Entry) (files files' : FilesView) where
-    pub counts-said : (entries' : List Entry) (total : TallySeen) → CountsLogs setup start s.generate names entries entries' files files' total
-        → CountsLogs setup (start_of s stored) s.generate s.logs entries entries' files files' total
-    counts-said entries' total h =
-        subst (λ (x : Start). CountsLogs setup x s.generate s.logs entries entries' files files' total) is
-        (subst (λ (ns : List (List ℕ)). CountsLogs setup start s.generate ns entries entries' files files' total) same h)
+-- ---- a base that is what the settings say of a database
 
-    pub stops-said : (fault : CountFault) → StopsLogs setup start s.generate names entries files files' fault → StopsLogs setup (start_of s stored) s.generate s.logs entries files files' fault
-    stops-said fault h =
-        subst (λ (x : Start). StopsLogs setup x s.generate s.logs entries files files' fault) is
-        (subst (λ (ns : List (List ℕ)). StopsLogs setup start s.generate ns entries files files' fault) same h)
+abbrev pub begins : Settings → SummaryValue → Start
+begins s base = record { follow = follow_of s; totals = base.totals }
+
+-- the lines of a total fit behind it
+pub of-lines : (setup : Setup) (s : Settings) (base : SummaryValue) (start : Start) (lines : List (List ℕ)) (total : TallySeen) → start ≡ begins s base → AreInTotal setup start.totals lines total
+    → IsOfLines base.totals total
+of-lines setup s base start lines total is h = record { setup = setup; lines = lines; are = subst (λ (x : Start). AreInTotal setup x.totals lines total) is h }
+
+-- the whole is what the base grew to, where the run restores
+whole-is : (s : Settings) (stored : DbValue) (base run grown : SummaryValue) → base ≡ (base_of s stored).summary → GrowsBy s.restore base run grown → IsWhole s stored run (whole_of s grown run)
+whole-is s stored base run grown = by s.restore
+  where
+    by : (b : Bool) → base ≡ (if b then stored else empty_db).summary → GrowsBy b base run grown
+        → MergesBy (if b then Append else Overwrite) stored.summary run (if b then grown else run)
+    by true same h = subst (λ (v : SummaryValue). IsMerged v run grown) same h
+    by false same h = refl
+
+module _ (setup : Setup) (s : Settings) (files files' : FilesView) (stored : DbValue) (base : Base) (is : IsBaseOf (base_of s stored) base) (start : Start) (start-is : start ≡ begins s base.summary) where
+  here : start ≡ start_of s stored
+  here = start-is ∙ ap (λ (v : SummaryValue). begins s v) is.summary
+
+  counts-here : (entries' : List Entry) (total : TallySeen) → CountsLogs setup start s.generate s.logs base.entries entries' files files' total
+      → CountsLogs setup (start_of s stored) s.generate s.logs base.entries entries' files files' total
+  counts-here entries' total h = subst (λ (x : Start). CountsLogs setup x s.generate s.logs base.entries entries' files files' total) here h
+
+  pub stops-here : (status : Status) → StopsFrom setup s start base.entries files files' status → StopsAlone setup s stored files files' status
+  stops-here status h = inl (record {
+    entries = base.entries;
+    begin = is.entries;
+    fault = h.fault;
+    status_is = h.status_is;
+    stops = subst (λ (x : Start). StopsLogs setup x s.generate s.logs base.entries files files' h.fault) here h.stops;
+  })
+
+  pub counted-here : (entries' : List Entry) (total : TallySeen) → CountsLogs setup start s.generate s.logs base.entries entries' files files' total → CountsFrom setup s stored files files' total entries'
+  counted-here entries' total h = record { entries = base.entries; begin = is.entries; counts = counts-here entries' total h }
+
+  pub hungry-here : (entries' : List Entry) (total : TallySeen) → CountsLogs setup start s.generate s.logs base.entries entries' files files' total → StopsAlone setup s stored files files' NoMemory
+  hungry-here entries' total h = inr (refl, record { total = total; entries' = entries'; counted = counted-here entries' total h })
+
+  lines-here : (lines : List (List ℕ)) (total : TallySeen) (run grown : SummaryValue) → AreSums s base.summary grown total run → AreInTotal setup (start_of s stored).totals lines total
+      → CountsLines setup (start_of s stored).totals lines run
+  lines-here lines total run grown sums in-total =
+      subst (λ (v : SummaryValue). AreInTotal setup v.totals lines total → CountsLines setup v.totals lines run) is.summary (sums.counts setup lines) in-total
+
+  pub counts-on : (entries' : List Entry) (total : TallySeen) (run : SummaryValue) (base' : Base) → CountsLogs setup start s.generate s.logs base.entries entries' files files' total
+      → AreSums s base.summary base'.summary total run → base'.entries ≡ entries' → CountsOn setup s stored files files' run base'
+  counts-on entries' total run base' h sums same =
+      let counted = counts-here entries' total h in
+      record {
+        has = record {
+          entries = base.entries;
+          begin = is.entries;
+          entries' = entries';
+          portions = counted.portions;
+          read = counted.read;
+          run = run;
+          counts = lines-here (counted_lines s.generate (start_of s stored).follow counted.portions) total run base'.summary sums counted.counts;
+          whole = whole_of s base'.summary run;
+          is_whole = whole-is s stored base.summary run base'.summary is.summary sums.grown;
+        };
+        run_is = refl;
+        whole_is = refl;
+        entries_are = sym same;
+      }
+
+-- an empty base is that of an empty database, whatever the settings say
+pub empty-base : (s : Settings) (base : Base) → IsBaseOf empty_db base → IsBaseOf (base_of s empty_db) base
+empty-base s base is = by s.restore
+  where
+    by : (b : Bool) → IsBaseOf (if b then empty_db else empty_db) base
+    by true = is
+    by false = is
 
 -- ---- the calls
 
@@ -164,27 +214,10 @@ module _ (setup : Setup) (s : Settings) (files files' : FilesView) (d d' : DiskV
   abbrev Stops : Status → Type 0
   Stops status = StopsCounting setup s files files' d d' i i' status
 
-  nothing : files' ≡ files → SameFaults files.counts files'.counts
-  nothing same = subst (λ (v : FilesView). SameFaults files.counts v.counts) (sym same) same-none
-
-  -- the logs weren't all counted
-  pub stops-from : (status : Status) → StopsFrom setup s stored files files' status → StopsCounting setup s files files' d d' i i' status
-  stops-from status (inl h) = subst Stops (sym h.status_is) (stops-as setup s files files' d d' i i' stored finds h.entries h.begin h.fault h.stops)
-  stops-from status (inr (is, same)) = subst Stops (sym is) (record { looks = looked-at s d d' i i' stored finds; asks = inl same; faults = nothing same })
-
-  -- they were, and memory ran out then
-  pub hungry-from : (entries' : List Entry) (total : TallySeen) → CountsFrom setup s stored files files' total entries' → StopsCounting setup s files files' d d' i i' NoMemory
-  hungry-from entries' total h = hungry-last setup s files files' d d' i i' stored finds h.entries h.begin entries' total h.counts
-
+  -- the logs weren't all counted, or they were, and memory ran out then
   pub stops-on : (status : Status) → StopsAlone setup s stored files files' status → StopsCounting setup s files files' d d' i i' status
-  stops-on status (inl h) = stops-from status (inl h)
-  stops-on status (inr (is, inl same)) = stops-from status (inr (is, same))
-  stops-on status (inr (is, inr h)) = subst Stops (sym is) (hungry-from h.entries' h.total h.counted)
-
--- logs that weren't all counted leave no text
-pub text-stops : {setup : Setup} {s : Settings} {stored : DbValue} {files files' : FilesView} {status : Status} → StopsFrom setup s stored files files' status → StopsAlone setup s stored files files' status
-text-stops (inl h) = inl h
-text-stops (inr (is, same)) = inr (is, inl same)
+  stops-on status (inl h) = subst Stops (sym h.status_is) (stops-as setup s files files' d d' i i' stored finds h.entries h.begin h.fault h.stops)
+  stops-on status (inr (is, h)) = subst Stops (sym is) (hungry-last setup s files files' d d' i i' stored finds h.counted.entries h.counted.begin h.entries' h.total h.counted.counts)
 
 -- ---- a run that uses no database
 
@@ -209,39 +242,96 @@ persists-not s alone = by s.persist s.restore alone
     by true restore h = absurd (true≢false h)
     by false restore h = refl
 
-pub alone-last : (s : Settings) (counted : TheCounted) (d : DiskView) (i : Images) (o o' : OutsView) → uses_database s ≡ false → (text : List ℕ) → IsTextOf s counted.whole text → (status : Status)
-    → EndsReport s text o o' status → o'.stderr ≡ o.stderr → OutsTrace o o' → EndsLast s counted d d i i o o' status
-alone-last s counted d i o o' alone text is status ends errors wrote =
-    reports-last s counted d d i i o o' text is (inr (persists-not s alone, untouched)) status ends errors no_disk_call wrote
-
-module _ (setup : Setup) (s : Settings) (files files' : FilesView) (d : DiskView) (i : Images) (stored : DbValue) (alone : uses_database s ≡ false) (empty : stored ≡ empty_db) where
-  finds : Finds s d d i i stored
-  finds = finds-none s d i stored alone empty
-
-  pub stops-alone : (status : Status) → StopsAlone setup s stored files files' status → StopsCounting setup s files files' d d i i status
-  stops-alone status (inl h) = stops-from setup s files files' d d i i stored finds status (inl h)
-  stops-alone status (inr (is, inl same)) = stops-from setup s files files' d d i i stored finds status (inr (is, same))
-  stops-alone status (inr (is, inr h)) = subst (λ (status : Status). StopsCounting setup s files files' d d i i status) (sym is) (hungry-from setup s files files' d d i i stored finds h.entries' h.total h.counted)
+pub alone-last : (s : Settings) (stored : DbValue) (whole : SummaryValue) (entries : List Entry) (d : DiskView) (i : Images) (o o' : OutsView) → uses_database s ≡ false → (text : List ℕ)
+    → IsTextOf s whole text → (status : Status) → EndsReport s text o o' status → o'.stderr ≡ o.stderr → OutsTrace o o' → EndsLast s stored whole entries d d i i o o' status
+alone-last s stored whole entries d i o o' alone text is status ends errors wrote =
+    reports-last s stored whole entries d d i i o o' text is (inr (persists-not s alone, untouched)) status ends errors no_disk_call wrote
 
 -- how it ended after its setup says how it ended
-pub ends-alone : (line : LineSetup) (s : Settings) (files : FilesView) (d : DiskView) (i : Images) (o o' : OutsView) (mid files' : FilesView) (rules : List Rule) → HasRules s.browsers_file files mid rules → OnlyNow i
-    → FilesTrace files mid → FilesStay files mid → uses_database s ≡ false → (status : Status) → EndsAlone (setup_of line s rules) s mid files' o o' status
-    → EndsInputs line s (outside files d i o) (outside files' d i o') status
-ends-alone line s files d i o o' mid files' rules has only went stay alone status h = by h.ends
+pub ends-alone : {line : LineSetup} {s : Settings} {start files files' : FilesView} {setup : Setup} {d : DiskView} {i : Images} {o o' : OutsView} {status : Status} → IsSetUp line s start files setup → OnlyNow i
+    → uses_database s ≡ false → EndsAlone setup s files files' o o' status → EndsInputs line s (outside start d i o) (outside files' d i o') status
+ends-alone {line} {s} {start} {files} {files'} {setup} {d} {i} {o} {o'} {status} is only alone h =
+    by (subst (λ (x : Setup). EndsTold x s files files' o o' status ⊎ EndsUntold x s files files' o o' status) is.is h.ends)
   where
-    setup : Setup
-    setup = setup_of line s rules
+    went : FilesTrace start files'
+    went = files_then is.files_trace h.files_trace
 
-    went' : FilesTrace files files'
-    went' = files_then went h.files_trace
+    finding : Finds s d d i i empty_db
+    finding = finds-none s d i empty_db alone refl
 
-    by : EndsTold setup s (db_value h.stored) mid files' o o' status ⊎ EndsUntold setup s (db_value h.stored) mid files' o o' status → EndsInputs line s (outside files d i o) (outside files' d i o') status
+    by : EndsTold (setup_of line s is.rules) s files files' o o' status ⊎ EndsUntold (setup_of line s is.rules) s files files' o o' status → EndsInputs line s (outside start d i o) (outside files' d i o') status
     by (inl t) =
-        let counted : TheCounted = record { stored = h.stored; run = t.is_text.has.run; whole = t.is_text.has.whole; entries = t.is_text.has.entries' } in
-        let value : CountsRun setup s counted mid files' d d i i =
-        record { finds = finds-none s d i (db_value h.stored) alone h.empty; has = t.is_text.has; run = refl; whole = refl; entries = refl } in
-        ends-last line s files d i o mid files' rules has counted d i value only d i o' went' no_disk_call status
-        (alone-last s counted d i o o' alone t.text t.is_text.is_text status t.ends t.errors t.outs_trace)
+        let counted = t.is_text.has in
+        ends-last line s start d i o files files' is.rules is.has_rules empty_db d i finding counted only d i o' went no_disk_call status
+        (alone-last s empty_db counted.whole counted.entries' d i o o' alone t.text t.is_text.is_text status t.ends t.errors t.outs_trace)
     by (inr u) =
-        subst (λ (outs : OutsView). EndsInputs line s (outside files d i o) (outside files' d i outs) status) (sym u.quiet)
-        (ends-count line s files d i o mid files' rules has d i went' no_disk_call stay status (stops-alone setup s mid files' d i (db_value h.stored) alone h.empty status u.stops) u.sure)
+        subst (λ (outs : OutsView). EndsInputs line s (outside start d i o) (outside files' d i outs) status) (sym u.quiet)
+        (ends-count line s start d i o files files' is.rules is.has_rules d i went no_disk_call is.stay status (stops-on (setup_of line s is.rules) s files files' d d i i empty_db finding status u.stops) u.sure)
+
+-- ---- a run that uses the database
+
+-- one that persists does
+pub using : (s : Settings) → s.persist ≡ true → uses_database s ≡ true
+using s persists = ap (λ (b : Bool). b || s.restore) persists
+
+-- where it persists, it can be kept after what was found
+pub ready : {setup : Setup} {s : Settings} {counted : TheCounted} {files files' : FilesView} {d d' : DiskView} {i i' : Images} (h : CountsRun setup s counted files files' d d' i i')
+    → uses_database s ≡ true → IsReady s h.stored counted d' i'
+ready {setup} {s} {counted} {files} {files'} {d} {d'} {i} {i'} h uses = by h.finds
+  where
+    by : Finds s d d' i i' h.stored → IsReady s h.stored counted d' i'
+    by (inl (still, r)) = record {
+      is_open = r.is_open;
+      after = record {
+        stands = h.stands;
+        holds = r.holds;
+        is_whole = subst (λ (run : SummaryValue). IsWhole s h.stored run (whole_in s counted)) h.run_is (subst (λ (whole : SummaryValue). IsWhole s h.stored h.has.run whole) h.whole_is h.has.is_whole);
+      };
+    }
+    by (inr (none, left, empty)) = absurd (true≢false (sym uses ∙ none))
+
+-- how it ended after its counting says how it ended
+module _ {line : LineSetup} {s : Settings} {start files : FilesView} {setup : Setup} (is : IsSetUp line s start files setup) (counted : TheCounted) (files' : FilesView) (d d' d'' : DiskView) (i i' i'' : Images)
+    (only : OnlyNow i) (o o' : OutsView) (status : Status) where
+  EndsSo : Setup → Type 0
+  EndsSo x = (h : CountsRun x s counted files files' d d' i i') → FilesTrace files files' → DiskTrace d d' → EndsLast s h.stored (whole_in s counted) counted.base.entries d' d'' i' i'' o o' status
+      → EndsInputs line s (outside start d i o) (outside files' d'' i'' o') status
+
+  ends-so : EndsSo (setup_of line s is.rules)
+  unfolding EndsSo
+  ends-so h went dwent ends =
+      ends-last line s start d i o files files' is.rules is.has_rules h.stored d' i' h.finds h.has only d'' i'' o' (files_then is.files_trace went) dwent status
+      (subst (λ (whole : SummaryValue). EndsLast s h.stored whole h.has.entries' d' d'' i' i'' o o' status) (sym h.whole_is)
+      (subst (λ (entries : List Entry). EndsLast s h.stored (whole_in s counted) entries d' d'' i' i'' o o' status) (sym h.entries_are) ends))
+
+  pub ends-counted : (h : CountsRun setup s counted files files' d d' i i') → FilesTrace files files' → DiskTrace d d' → EndsLast s h.stored (whole_in s counted) counted.base.entries d' d'' i' i'' o o' status
+      → EndsInputs line s (outside start d i o) (outside files' d'' i'' o') status
+  unfolding EndsSo
+  ends-counted = subst EndsSo (sym is.is) ends-so
+
+-- one that wasn't counted
+pub ends-uncounted : {line : LineSetup} {s : Settings} {start files files' : FilesView} {setup : Setup} {d d' : DiskView} {i i' : Images} {o : OutsView} {status : Status}
+    → IsSetUp line s start files setup → StopsCounting setup s files files' d d' i i' status → (CanServe s.logs files → NoFileFailed status) → FilesTrace files files' → DiskTrace d d'
+    → EndsInputs line s (outside start d i o) (outside files' d' i' o) status
+ends-uncounted {line} {s} {start} {files} {files'} {setup} {d} {d'} {i} {i'} {o} {status} is stops sure went dwent =
+    ends-count line s start d i o files files' is.rules is.has_rules d' i' (files_then is.files_trace went) dwent is.stay status
+    (subst (λ (x : Setup). StopsCounting x s files files' d d' i i' status) is.is stops) sure
+
+-- ---- its setup
+
+-- it had one
+abbrev setup_with : LineSetup → PanelSetup → Setup
+setup_with line panels = record { line = line; panels = panels }
+
+pub set-up : (line : LineSetup) (s : Settings) (start files : FilesView) (panels : PanelSetup) → HasPanels s start files panels → FilesTrace start files → FilesStay start files
+    → IsSetUp line s start files (record { line = line; panels = panels })
+set-up line s start files panels has went stay = record { rules = has.rules; has_rules = has.has_rules; is = ap (λ (p : PanelSetup). setup_with line p) has.is; files_trace = went; stay = stay }
+
+-- it had none
+pub ends-panels : (line : LineSetup) (s : Settings) (files : FilesView) (d : DiskView) (i : Images) (o : OutsView) (files' : FilesView) → FilesTrace files files' → (status : Status) → StopsPanels s files files' status
+    → EndsInputs line s (outside files d i o) (outside files' d i o) status
+ends-panels line s files d i o files' went status (inl h) =
+    subst (λ (status : Status). EndsInputs line s (outside files d i o) (outside files' d i o) status) (sym h.status_is)
+    (ends-rules line s files d i o files' went s.browsers_file refl h.fault h.stops h.sure)
+ends-panels line s files d i o files' went status (inr h) =
+    subst (λ (status : Status). EndsInputs line s (outside files d i o) (outside files' d i o) status) (sym h.0) (ends-hungry line s files d i o files' went h.1 h.2)

@@ -24,24 +24,21 @@ use Rattle.ga_store.specs.Commits.{AllHave, HasEither, Takes}
 use Rattle.ga_store.specs.Database.{DbOf, DbValue}
 use Rattle.ga_store.specs.Database.Reading.{stored as reads_as}
 use Rattle.ga_store.specs.Holding.{Holds}
-use Rattle.ga_store.specs.Store.{db_value}
 use Rattle.ga_summary.specs.SummaryRows.{SummaryValue}
 use Rattle.ga_words.specs.declared.settings.Settings.{Settings}
-use Rattle.ga_one_run.specs.Course.{ReachesReport, HasRules}
+use Rattle.ga_one_run.specs.Course.{HasCounted, HasRules, ReachesReport}
 use Rattle.ga_one_run.specs.Ends.{AreFollowed, Ends, HasBegun, HasReport}
 use Rattle.ga_one_run.specs.Inputs.{IsStored, Walks, rules_file}
 use Rattle.ga_one_run.specs.Inputs.WalksInputs.{asks_rules}
 use Rattle.ga_one_run.specs.Keeping.{FailsSince, FindsThere, KeepsSince, KeptSince, MayKeepSince}
 use Rattle.ga_one_run.specs.Printing.{but_errors}
-use Rattle.ga_one_run.specs.Reports.{IsTextOf}
 use Rattle.ga_one_run.specs.Run.{SameFaults, faults_after}
 use Rattle.ga_one_run.specs.Setups.{setup_of}
 use Rattle.ga_one_run.specs.Steps.Rules.{StopsNamed}
-use Rattle.ga_one_run.specs.Steps.Run.{CountsRun, Delivers, EndsInputs, EndsKeeping, EndsLast, HasFound, NoFileFailed, StopsCounting, WalksLogs, status_of_rules}
+use Rattle.ga_one_run.specs.Steps.Run.{Delivers, EndsInputs, EndsKeeping, EndsLast, HasFound, NoFileFailed, StopsCounting, WalksLogs, status_of_rules}
 use Rattle.ga_one_run.specs.Outside.{outside_of as outside}
 use Rattle.ga_one_run.specs.declared.rules.RulesFault.{RulesFault}
 use Rattle.ga_one_run.specs.declared.rules.RulesFault.TheVariants.{Unread, Bad}
-use Rattle.ga_one_run.specs.declared.run.RunCounts.{RunCounts}
 use Rattle.ga_one_run.specs.declared.status.Input.TheVariants.{Rules, Log}
 use Rattle.ga_one_run.specs.declared.status.Status.{Status}
 use Rattle.ga_one_run.specs.declared.status.Status.TheVariants.{Done, BadWords, BadFormat, BadRules, FileFault, FileShort, DiskFault, DbDamaged, OutFault, CounterFull, NoMemory}
@@ -278,43 +275,33 @@ module _ (line : LineSetup) (s : Settings) (files : FilesView) (d : DiskView) (i
 
     -- ---- after the counting
 
-    module _ (counted : RunCounts) (d' : DiskView) (i' : Images) (value : CountsRun (setup_of line s rules) s counted mid files' d d' i i') where
-      abbrev stored : DbValue
-      stored = db_value counted.stored
-
-      all-asked : {Followed : List Entry → Type 0} → Followed value.has.entries → Asked s Followed files files'
-      all-asked followed = asks-logs value.has.entries followed (walks-all value.has.read)
+    module _ (stored : DbValue) (d' : DiskView) (i' : Images) (finding : Finds s d d' i i' stored) (counted : HasCounted (setup_of line s rules) s stored mid files') where
+      all-asked : {Followed : List Entry → Type 0} → Followed counted.entries → Asked s Followed files files'
+      all-asked followed = asks-logs counted.entries followed (walks-all counted.read)
 
       all-same : SameFaults files.counts files'.counts
-      all-same = same-then same-before (same-all value.has.read)
+      all-same = same-then same-before (same-all counted.read)
 
       abbrev come : (d'' : DiskView) → FindsThere s d d'' stored → ReachesReport line s files files' d d''
-      come d'' finds = record { rules = rules; mid = mid; has_rules = has; stored = stored; finds = finds; counted = value.has }
+      come d'' finds = record { rules = rules; mid = mid; has_rules = has; stored = stored; finds = finds; counted = counted }
 
       there : FindsThere s d d' stored
-      there = found-there s d d' i i' stored value.finds
+      there = found-there s d d' i i' stored finding
 
       module _ (only : OnlyNow i) (d'' : DiskView) (i'' : Images) (o' : OutsView) where
-        -- what the value says of the whole and of the entries, `counted` says
-        kept-as : KeptIf s stored counted.whole counted.entries d' d'' i' i'' → KeptIf s stored value.has.whole value.has.entries' d' d'' i' i''
-        kept-as h = subst (λ (w : SummaryValue). KeptIf s stored w value.has.entries' d' d'' i' i'') (sym value.whole) (subst (λ (es : List Entry). KeptIf s stored counted.whole es d' d'' i' i'') (sym value.entries) h)
-
-        fails-as : FailsKeeping stored counted.whole counted.entries d' d'' i' i'' → FailsKeeping stored value.has.whole value.has.entries' d' d'' i' i''
-        fails-as h = subst (λ (w : SummaryValue). FailsKeeping stored w value.has.entries' d' d'' i' i'') (sym value.whole) (subst (λ (es : List Entry). FailsKeeping stored counted.whole es d' d'' i' i'') (sym value.entries) h)
-
-        abbrev has-report : {status : Status} → Delivers s counted d' d'' i' i'' o o' status → HasReport line s (outside files d i o) (outside files' d'' i'' o')
+        abbrev has-report : {status : Status} → Delivers s stored counted.whole counted.entries' d' d'' i' i'' o o' status → HasReport line s (outside files d i o) (outside files' d'' i'' o')
         has-report h = record {
           found = d';
           come = come d' there;
           text = h.text;
-          report = subst (λ (w : SummaryValue). IsTextOf s w h.text) (sym value.whole) h.is_text;
-          kept = kept-since s d d' i i' only stored value.finds value.has.whole value.has.entries' d'' i'' (kept-as h.kept);
+          report = h.is_text;
+          kept = kept-since s d d' i i' only stored finding counted.whole counted.entries' d'' i'' h.kept;
         }
 
         lacks-of : s.persist ≡ true → passes_generations (mode_of s) stored ≡ true → lacks_generation s stored ≡ true
         lacks-of persists passes = ap (λ (b : Bool). b && passes_generations (mode_of s) stored) persists ∙ passes
 
-        ends-as : (status : Status) → EndsKeeping s counted d' d'' i' i'' o o' status
+        ends-as : (status : Status) → EndsKeeping s stored counted.whole counted.entries' d' d'' i' i'' o o' status
             → (ends : Ends line s (outside files d i o) (outside files' d'' i'' o') status) × Asked s (AreFollowed line s (outside files d i o) (outside files' d'' i'' o') status ends) files files'
             × SameFaults (faults_after status files.counts) files'.counts
         ends-as Done h = (record { has = has-report h; printed = h.report }, all-asked refl, all-same)
@@ -329,7 +316,7 @@ module _ (line : LineSetup) (s : Settings) (files : FilesView) (d : DiskView) (i
               found = d';
               come = come d' there;
               persists = persists;
-              fails = fails-since s d d' i i' only stored value.finds value.has.whole value.has.entries' d'' i'' (fails-as fails);
+              fails = fails-since s d d' i i' only stored finding counted.whole counted.entries' d'' i'' fails;
             }),
             quiet-as o o' quiet,
           ),
@@ -339,7 +326,7 @@ module _ (line : LineSetup) (s : Settings) (files : FilesView) (d : DiskView) (i
         ends-as (DbDamaged side at) h = absurd h
         ends-as (OutFault to at) h = (record { target_is = h.report.target_is; has = has-report h; stops = h.report.stops; unsure = h.report.unsure }, all-asked refl, all-same)
         ends-as (CounterFull which total) (persists, counter, value-is, passes, left, quiet) =
-            let finds = finds-still s d i stored d' d'' i' i'' left value.finds in (
+            let finds = finds-still s d i stored d' d'' i' i'' left finding in (
               (
                 inr (record {
                   come = come d'' (found-there s d d'' i i'' stored finds);
@@ -353,9 +340,9 @@ module _ (line : LineSetup) (s : Settings) (files : FilesView) (d : DiskView) (i
               all-asked refl,
               all-same,
             )
-        ends-as NoMemory (left, quiet) = ((looked-at s d d'' i i'' stored (finds-still s d i stored d' d'' i' i'' left value.finds), quiet-as o o' quiet), all-asked (stored, there-in s d d' stored there, value.has.begin), all-same)
+        ends-as NoMemory (left, quiet) = ((looked-at s d d'' i i'' stored (finds-still s d i stored d' d'' i' i'' left finding), quiet-as o o' quiet), all-asked (stored, there-in s d d' stored there, counted.begin), all-same)
 
-        pub ends-last : FilesTrace files files' → DiskTrace d d' → (status : Status) → EndsLast s counted d' d'' i' i'' o o' status
+        pub ends-last : FilesTrace files files' → DiskTrace d d' → (status : Status) → EndsLast s stored counted.whole counted.entries' d' d'' i' i'' o o' status
             → EndsInputs line s (outside files d i o) (outside files' d'' i'' o') status
         ends-last went dwent status h =
             let all = ends-as status h.ends in

@@ -4,11 +4,15 @@ ghost use Rattle.ga_disk.specs.Trace.{DiskTrace};
 ghost use Rattle.ga_ports.specs.Trace.{FilesTrace, OutsTrace};
 ghost use Rattle.ga_generate.specs.Summary.{summary_text};
 ghost use Rattle.ga_keep.specs.RunDatabase as database;
-ghost use Rattle.ga_keep.specs.RunDatabase.{IsWhole};
+ghost use Rattle.ga_keep.specs.RunDatabase.{IsBaseOf};
+ghost use Rattle.ga_base.specs.Totals.{LinesAdd, TotalsFit};
+ghost use Rattle.ga_line.specs.declared.setup.LineSetup.{LineSetup};
 ghost use Rattle.ga_logs.specs.Following.{CanServe};
+ghost use Rattle.ga_logs.specs.Logs.{CountsLogs};
+ghost use Rattle.ga_ports.specs.Files.{FilesView};
 ghost use Rattle.ga_print.specs.Json.{json_text};
 ghost use Rattle.ga_report.specs.Printable.{IsPrintable};
-ghost use Rattle.ga_store.specs.Store.{db_value};
+ghost use Rattle.ga_store.specs.Database.{DbValue, empty_db};
 ghost use Rattle.ga_workers.specs.Workers.{AreWorkers};
 ghost use Rattle.ga_summary.specs.Sound.{IsSummary};
 ghost use Rattle.ga_one_run.specs.Printing.{report_file, target_of};
@@ -17,7 +21,7 @@ ghost use Rattle.ga_one_run.specs.Run.{IsRun};
 ghost use Rattle.ga_one_run.specs.Statuses.{target_name};
 ghost use Rattle.ga_one_run.specs.Outside.{outside_of};
 ghost use Rattle.ga_totals.specs.Totals.{IsOfCountable};
-ghost use Rattle.ga_one_run.specs.Steps.Run.{AreSums, CountsFrom, CountsOn, CountsRun, EndsAlone, EndsInputs, EndsLast, EndsReport, EndsRun, IsOfLines, IsReady, IsTextAlone, IsTextOfTotal, NoFileFailed, StopsAlone, StopsCounting, StopsFrom, failed_name, input_name, workers_said};
+ghost use Rattle.ga_one_run.specs.Steps.Run.{AreSums, CountsOn, CountsRun, EndsAlone, EndsInputs, EndsLast, EndsReport, EndsRun, HasPanels, IsOfLines, IsReady, IsSetUp, IsTextAlone, IsTextOfTotal, NoFileFailed, StopsAlone, StopsCounting, StopsFrom, StopsPanels, failed_name, input_name, whole_in, workers_said};
 
 use crate::faults::tell;
 use crate::printing::deliver;
@@ -27,16 +31,18 @@ use crate::{Input, Status, laws};
 use ga_base::{Bytes, Entries, NoMemory, Text};
 use ga_disk::Disk;
 use ga_generate::summary;
-use ga_keep::{base_entries, find, keep, start, uses_database, whole_summary};
+use ga_keep::{Base, add_run, base_of, find, keep, start, uses_database, whole};
 use ga_line::LineSetup;
 use ga_logs::count_logs;
 use ga_logs::laws::read_as_told;
 use ga_outcomes::Setup;
+use ga_panels::PanelSetup;
 use ga_ports::laws::files_stay;
 use ga_ports::{Files, Gate, Outs, To};
 use ga_print::{csv, json_with};
 use ga_report::{Report, RowSource, rows_from};
-use ga_store::Db;
+use ga_resume::Start;
+use ga_store::Position;
 use ga_summary::Summary;
 use ga_totals::Total;
 use ga_words::laws::one_reading;
@@ -58,14 +64,12 @@ struct RunContext<'a, R, G> {
 /// What a run counted, and what it began with.
 #[derive(Debug, Drop)]
 struct RunCounts {
-    /// The database that was found.
-    stored: Db,
-    /// The sum of the run's own lines.
+    /// Where the database stands that was found.
+    position: Position,
+    /// What the run counted on from, grown by what it counted.
+    base: Base,
+    /// The sum of its own lines.
     run: Summary,
-    /// What is shown and kept of it.
-    whole: Summary,
-    /// How far each log was counted.
-    entries: Entries,
 }
 
 /// Runs goaccess over the words of a command line, without the program's name.
@@ -190,19 +194,43 @@ fn run_inputs<R: Threads + Sync, G: Gate, F: Files, D: Disk, O: Outs>(
 {
     // What is known of calls of the files, for the proof alone: the call does nothing.
     files_stay();
-    let settings = context.settings;
-    let rules = match rules_of(context.alloc, settings.browsers_file.as_ref(), files) {
-        Ok(rules) => rules,
-        Err(fault) => return Status::from(fault),
-    };
-    let Ok(panels) = panel_setup(context.alloc, settings, rules) else {
-        return Status::NoMemory;
-    };
-    let setup = Setup { line, panels };
-    if !uses_database(settings) {
-        return run_alone(context, &setup, files, outs);
+    match read_panels(context.alloc, context.settings, files) {
+        Ok(panels) => run_setup(context, &Setup { line, panels }, files, disk, outs),
+        Err(status) => status,
     }
-    match count(context, &setup, files, disk) {
+}
+
+/// How lines are counted: the rules of the browsers file are read for it.
+fn read_panels<F: Files>(
+    alloc: Global,
+    settings: &Settings,
+    files: &mut F,
+) -> Result<PanelSetup, Status>
+    ensures ok { IfOk result (HasPanels settings.now (F.view files.old) (F.view files.new)) }
+    ensures stops { IfErr result (StopsPanels settings.now (F.view files.old) (F.view files.new)) }
+    ensures calls { FilesTrace (F.view files.old) (F.view files.new) }
+{
+    let rules = rules_of(alloc, settings.browsers_file.as_ref(), files)?;
+    let panels = panel_setup(alloc, settings, rules)?;
+    Ok(panels)
+}
+
+/// Counts the logs, keeps the run and delivers the report.
+fn run_setup<R: Threads + Sync, G: Gate, F: Files, D: Disk, O: Outs>(
+    context: &RunContext<'_, R, G>,
+    setup: &Setup,
+    files: &mut F,
+    disk: &mut D,
+    outs: &mut O,
+) -> Status
+    ensures { (line : LineSetup) (start : FilesView) → IsSetUp line context.now.settings.now start (F.view files.old) setup.now → EndsInputs line context.now.settings.now
+        (outside_of start (D.view disk.old) (D.images disk.old) (O.view outs.old))
+        (outside_of (F.view files.new) (D.view disk.new) (D.images disk.new) (O.view outs.new)) result }
+{
+    if !uses_database(context.settings) {
+        return run_alone(context, setup, files, outs);
+    }
+    match count(context, setup, files, disk) {
         Ok(counted) => finish(context, &counted, disk, outs),
         Err(status) => status,
     }
@@ -218,8 +246,8 @@ fn run_alone<R: Threads + Sync, G: Gate, F: Files, O: Outs>(
     requires { database.uses_database context.now.settings.now ≡ false }
     ensures { EndsAlone setup.now context.now.settings.now (F.view files.old) (F.view files.new) (O.view outs.old) (O.view outs.new) result }
 {
-    let stored = Db::empty(context.alloc);
-    match text_alone(context, setup, &stored, files) {
+    let mut base = Base::empty(context.alloc);
+    match text_alone(context, setup, &mut base, files) {
         Ok(text) => report(context.settings, text.bytes(), outs),
         Err(status) => status,
     }
@@ -229,16 +257,18 @@ fn run_alone<R: Threads + Sync, G: Gate, F: Files, O: Outs>(
 fn text_alone<R: Threads + Sync, G: Gate, F: Files>(
     context: &RunContext<'_, R, G>,
     setup: &Setup,
-    stored: &Db,
+    base: &mut Base,
     files: &mut F,
 ) -> Result<Bytes, Status>
-    requires { database.uses_database context.now.settings.now ≡ false }
-    ensures ok { IfOk result (IsTextAlone setup.now context.now.settings.now (db_value stored.now) (F.view files.old) (F.view files.new)) }
-    ensures stops { IfErr result (StopsAlone setup.now context.now.settings.now (db_value stored.now) (F.view files.old) (F.view files.new)) }
+    requires alone { database.uses_database context.now.settings.now ≡ false }
+    requires empty { IsBaseOf empty_db base.old }
+    ensures ok { IfOk result (IsTextAlone setup.now context.now.settings.now (F.view files.old) (F.view files.new)) }
+    ensures stops { IfErr result (StopsAlone setup.now context.now.settings.now empty_db (F.view files.old) (F.view files.new)) }
     ensures sure { CanServe context.now.settings.now.logs (F.view files.old) → IfErr result NoFileFailed }
     ensures files_trace { FilesTrace (F.view files.old) (F.view files.new) }
 {
-    let (total, _entries) = count_stored(context, setup, stored, files)?;
+    let start = start(context.settings, base);
+    let total = count_from(context, setup, start, &mut base.entries, files)?;
     let text = text_of_total(context.rt, context.alloc, context.settings, &total)?;
     // After the report the program ends, and the system takes the total's memory back at once: piece by piece it takes long.
     mem::forget(total);
@@ -261,7 +291,7 @@ fn text_of_total<R: Threads + Sync>(
     Ok(text)
 }
 
-/// Finds the database, where it is used, and counts the logs from there on.
+/// Finds the database, and counts the logs from there on.
 fn count<R: Threads + Sync, G: Gate, F: Files, D: Disk>(
     context: &RunContext<'_, R, G>,
     setup: &Setup,
@@ -274,66 +304,69 @@ fn count<R: Threads + Sync, G: Gate, F: Files, D: Disk>(
     ensures files_trace { FilesTrace (F.view files.old) (F.view files.new) }
     ensures disk_trace { DiskTrace (D.view disk.old) (D.view disk.new) }
 {
-    let stored = find(context.alloc, context.settings, disk)?;
-    let (run, whole, entries) = count_on(context, setup, &stored, files)?;
+    let stored = find(context.rt, context.alloc, context.settings, disk)?;
+    let (position, mut base) = base_of(context.alloc, context.settings, stored);
+    let run = count_on(context, setup, &mut base, files)?;
     Ok(RunCounts {
-        stored,
+        position,
+        base,
         run,
-        whole,
-        entries,
     })
 }
 
-/// Counts the logs from what is stored on: the sum of the run and the whole one, and how far each log was counted.
+/// Counts the logs from a base on, which grows by them: the sum of the run's own lines.
 fn count_on<R: Threads + Sync, G: Gate, F: Files>(
     context: &RunContext<'_, R, G>,
     setup: &Setup,
-    stored: &Db,
+    base: &mut Base,
     files: &mut F,
-) -> Result<(Summary, Summary, Entries), Status>
-    ensures ok { IfOk result (λ counted. CountsOn setup.now context.now.settings.now (db_value stored.now) (F.view files.old) (F.view files.new) counted.0 counted.1 counted.2) }
-    ensures stops { IfErr result (StopsAlone setup.now context.now.settings.now (db_value stored.now) (F.view files.old) (F.view files.new)) }
+) -> Result<Summary, Status>
+    ensures ok { IfOk result (λ run. (stored : DbValue) → IsBaseOf (database.base_of context.now.settings.now stored) base.old
+        → CountsOn setup.now context.now.settings.now stored (F.view files.old) (F.view files.new) run base.new) }
+    ensures stops { IfErr result (λ status. (stored : DbValue) → IsBaseOf (database.base_of context.now.settings.now stored) base.old
+        → StopsAlone setup.now context.now.settings.now stored (F.view files.old) (F.view files.new) status) }
     ensures sure { CanServe context.now.settings.now.logs (F.view files.old) → IfErr result NoFileFailed }
     ensures files_trace { FilesTrace (F.view files.old) (F.view files.new) }
 {
-    let (total, entries) = count_stored(context, setup, stored, files)?;
-    let (run, whole) = sums_of(context.alloc, context.settings, stored, &total)?;
-    Ok((run, whole, entries))
+    let start = start(context.settings, base);
+    let total = count_from(context, setup, start, &mut base.entries, files)?;
+    let run = sum_run(context.alloc, context.settings, base, &total)?;
+    Ok(run)
 }
 
-/// The sum of a run by its total, and the whole one with what is stored.
-fn sums_of(
+/// The sum of a run by its total, by which its base grows.
+fn sum_run(
     alloc: Global,
     settings: &Settings,
-    stored: &Db,
+    base: &mut Base,
     total: &Total,
-) -> Result<(Summary, Summary), NoMemory>
-    requires { IsOfLines settings.now (db_value stored.now) total.now }
-    ensures { IfOk result (λ sums. AreSums settings.now (db_value stored.now) total.now sums.0 sums.1) }
+) -> Result<Summary, NoMemory>
+    requires { IsOfLines base.old.summary.totals total.now }
+    ensures sums { IfOk result (AreSums settings.now base.old.summary base.new.summary total.now) }
+    ensures entries { base.new.entries ≡ base.old.entries }
 {
-    summary_is_sound(&stored.summary);
+    summary_is_sound(&base.summary);
     let run = total.summary(alloc)?;
-    let whole = whole_summary(settings, stored, &run)?;
-    Ok((run, whole))
+    add_run(settings, base, &run)?;
+    Ok(run)
 }
 
-/// Counts the logs of a run on from what is stored: their total, and how far each log was counted.
-fn count_stored<R: Threads + Sync, G: Gate, F: Files>(
+/// Counts the logs of a run: the total of their lines. The entries go with them.
+fn count_from<R: Threads + Sync, G: Gate, F: Files>(
     context: &RunContext<'_, R, G>,
     setup: &Setup,
-    stored: &Db,
+    start: Start,
+    entries: &mut Entries,
     files: &mut F,
-) -> Result<(Total, Entries), Status>
-    ensures ok { IfOk result (λ counted. CountsFrom setup.now context.now.settings.now (db_value stored.now) (F.view files.old) (F.view files.new) counted.0 counted.1) }
-    ensures stops { IfErr result (StopsFrom setup.now context.now.settings.now (db_value stored.now) (F.view files.old) (F.view files.new)) }
+) -> Result<Total, Status>
+    requires fit { TotalsFit start.totals }
+    requires lines { LinesAdd start.totals }
+    ensures ok { IfOk result (CountsLogs setup.now start context.now.settings.now.generate context.now.settings.now.logs entries.old entries.new (F.view files.old) (F.view files.new)) }
+    ensures stops { IfErr result (StopsFrom setup.now context.now.settings.now start entries.old (F.view files.old) (F.view files.new)) }
     ensures sure { CanServe context.now.settings.now.logs (F.view files.old) → IfErr result NoFileFailed }
     ensures files_trace { FilesTrace (F.view files.old) (F.view files.new) }
 {
     let settings = context.settings;
-    let mut entries = base_entries(context.alloc, settings, stored)?;
-    let start = start(context.alloc, settings, stored);
-    summary_is_sound(&stored.summary);
-    let names = settings.logs.items();
     let crew = Crew {
         rt: context.rt,
         gate: context.gate,
@@ -341,8 +374,9 @@ fn count_stored<R: Threads + Sync, G: Gate, F: Files>(
         setup,
         workers: workers_of(settings),
     };
-    let total = count_logs(&crew, start, settings.generate, names, &mut entries, files)?;
-    Ok((total, entries))
+    let names = settings.logs.items();
+    let total = count_logs(&crew, start, settings.generate, names, entries, files)?;
+    Ok(total)
 }
 
 /// Who counts lines, as the settings say. The words of a command line give no others than there may be.
@@ -370,22 +404,32 @@ fn finish<R: Threads + Sync, G, D: Disk, O: Outs>(
     disk: &mut D,
     outs: &mut O,
 ) -> Status
-    requires ready { IsTrue context.now.settings.now.persist → IsReady (D.view disk.old) (D.images disk.old) counted.now.stored }
-    requires whole { IsWhole context.now.settings.now (db_value counted.now.stored) counted.now.run counted.now.whole }
-    ensures { EndsLast context.now.settings.now counted.now (D.view disk.old) (D.view disk.new) (D.images disk.old) (D.images disk.new) (O.view outs.old) (O.view outs.new) result }
+    requires { IsTrue context.now.settings.now.persist → (stored : DbValue) × IsReady context.now.settings.now stored counted.now (D.view disk.old) (D.images disk.old) }
+    ensures { (stored : DbValue) → (IsTrue context.now.settings.now.persist → IsReady context.now.settings.now stored counted.now (D.view disk.old) (D.images disk.old))
+        → EndsLast context.now.settings.now stored (whole_in context.now.settings.now counted.now) counted.now.base.entries
+        (D.view disk.old) (D.view disk.new) (D.images disk.old) (D.images disk.new) (O.view outs.old) (O.view outs.new) result }
 {
     let settings = context.settings;
-    let Ok(text) = text_of(context.rt, context.alloc, settings, &counted.whole) else {
+    let RunCounts {
+        position,
+        base,
+        run,
+    } = counted;
+    let whole = whole(settings, base, run);
+    let Ok(text) = text_of(context.rt, context.alloc, settings, whole) else {
         return Status::NoMemory;
     };
     if settings.persist {
-        let RunCounts {
-            stored,
+        let entries = &base.entries;
+        if let Err(fault) = keep(
+            context.alloc,
+            settings,
+            *position,
             run,
             whole,
             entries,
-        } = counted;
-        if let Err(fault) = keep(context.alloc, settings, stored, run, whole, entries, disk) {
+            disk,
+        ) {
             return Status::from(fault);
         }
     }

@@ -11,6 +11,7 @@ use Rattle.ga_store.specs.SideParts.{closed_gate, open_gate, part_bytes}
 use Rattle.ga_store.specs.Database.{DbValue, of_snapshot}
 use Rattle.ga_store.specs.declared.mode.Mode.{Mode}
 use Rattle.ga_store.specs.declared.mode.Mode.TheVariants.{Append, Overwrite}
+use Rattle.ga_store.specs.declared.position.Position.{Position}
 
 -- a side has room for this many run records after its snapshot
 abbrev pub most_records : ℕ
@@ -63,6 +64,10 @@ other_side None = 0
 other_side (Some side) = 1 - side
 
 -- ---- what is prepared
+
+-- where a database stands on its sides
+abbrev pub position_of : DbValue → Position
+position_of db = record { generation = db.generation; side = db.side; records = db.records; slot = db.slot }
 
 -- a run is added as a record where a side is there that has room for one
 abbrev pub adds_record : Mode → DbValue → Bool

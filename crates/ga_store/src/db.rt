@@ -8,6 +8,7 @@ ghost use Rattle.ga_summary.specs.declared.fault.MergeFault.{MergeFault};
 ghost use Rattle.ga_codec.specs.Values.{delta_value, snapshot_value};
 ghost use Rattle.ga_store.specs.Database.{empty_db, of_snapshot};
 
+use crate::Position;
 use crate::found::{FirstPart, RecordPart};
 use ga_base::Entries;
 use ga_summary::laws::one_sum;
@@ -33,6 +34,7 @@ pub struct Db {
 }
 
 impl Db {
+    ghost use Rattle.ga_store.specs.Commit.{position_of};
     ghost use Rattle.ga_store.specs.Store.{db_value};
 
     /// The database where nothing is stored.
@@ -48,6 +50,18 @@ impl Db {
             side: None,
             records: 0,
             slot: 0,
+        }
+    }
+
+    /// Where it stands on the sides.
+    pub fn position(&self) -> Position
+        ensures { result ≡ position_of (db_value self.now) }
+    {
+        Position {
+            generation: self.generation,
+            side: self.side,
+            records: self.records,
+            slot: self.slot,
         }
     }
 

@@ -3,12 +3,14 @@ ghost use Rattle.ga_base.specs.declared.counts.TheConstants.{LIMIT};
 ghost use Rattle.ga_base.specs.declared.counts.Counter.TheVariants.{Generations};
 ghost use Rattle.ga_summary.specs.Sound.{IsSummary};
 ghost use Rattle.ga_codec.specs.Values.{entry_value};
-ghost use Rattle.ga_store.specs.Commit.{IsGenerationOf, IsRecordOf, IsWorkOf, Makes, MergesBy, after_run, closed_part, other_side, passes_generations};
+ghost use Rattle.ga_store.specs.Commit.{IsGenerationOf, IsRecordOf, IsWorkOf, Makes, MergesBy, after_run, closed_part, other_side, passes_generations, position_of};
+ghost use Rattle.ga_store.specs.Database.{DbValue};
+ghost use Rattle.ga_store.specs.Steps.Committing.{db_at};
 ghost use Rattle.ga_store.specs.Store.{db_value};
 ghost use Rattle.ga_store.specs.declared.side_parts.TheConstants.{LENGTH};
 
 use crate::side_parts::{FRAME, LENGTH};
-use crate::{Db, Mode, StoreFault};
+use crate::{Db, Mode, Position, StoreFault};
 use ga_base::{Bytes, Counter, Entries, LIMIT, NoMemory};
 use ga_codec::{delta_size, push_delta, push_snapshot, snapshot_size};
 use ga_summary::Summary;
@@ -60,29 +62,48 @@ pub fn prepare(
         ↔ (passes_generations mode (db_value db.now) ≡ true) }
     ensures causes { IfErr result (λ fault. (fault ≡ StoreFault.NoMemory) ⊎ (fault ≡ StoreFault.CounterFull Generations (LIMIT + 1))) }
 {
-    summary_is_sound(merged);
-    work_of(alloc, db, run, merged, entries, mode)
+    prepare_at(alloc, db.position(), run, merged, entries, mode)
 }
 
-/// A record where there is room for one, else a new generation.
-fn work_of(
+/// The same over any database that stands at this position, whatever was counted in it.
+pub fn prepare_at(
     alloc: Global,
-    db: &Db,
+    position: Position,
     run: &Summary,
     merged: &Summary,
     entries: &Entries,
     mode: Mode,
 ) -> Result<Prepared, StoreFault>
-    ensures work { IfOk result (IsWorkOf mode (db_value db.now) run.now merged.now (map entry_value entries.now)) }
-    ensures full { IsErrOf result (StoreFault.CounterFull Generations (LIMIT + 1))
-        ↔ (passes_generations mode (db_value db.now) ≡ true) }
+    ensures work { IfOk result (λ work. (db : DbValue) → position_of db ≡ position → IsWorkOf mode db run.now merged.now (map entry_value entries.now) work) }
+    ensures makes { IfOk result (λ work. (db : DbValue) → position_of db ≡ position → MergesBy mode db.summary run.now merged.now
+        → Makes work db (after_run mode db merged.now (map entry_value entries.now) work)) }
+    ensures full { (db : DbValue) → position_of db ≡ position → IsErrOf result (StoreFault.CounterFull Generations (LIMIT + 1))
+        ↔ (passes_generations mode db ≡ true) }
     ensures causes { IfErr result (λ fault. (fault ≡ StoreFault.NoMemory) ⊎ (fault ≡ StoreFault.CounterFull Generations (LIMIT + 1))) }
 {
-    match (mode, db.side) {
-        (Mode::Append, Some(side)) if db.records < MOST_RECORDS => {
-            Ok(record(alloc, db, side, run, entries)?)
+    summary_is_sound(merged);
+    work_of(alloc, position, run, merged, entries, mode)
+}
+
+/// A record where there is room for one, else a new generation.
+fn work_of(
+    alloc: Global,
+    position: Position,
+    run: &Summary,
+    merged: &Summary,
+    entries: &Entries,
+    mode: Mode,
+) -> Result<Prepared, StoreFault>
+    ensures work { IfOk result (IsWorkOf mode (db_at position) run.now merged.now (map entry_value entries.now)) }
+    ensures full { IsErrOf result (StoreFault.CounterFull Generations (LIMIT + 1))
+        ↔ (passes_generations mode (db_at position) ≡ true) }
+    ensures causes { IfErr result (λ fault. (fault ≡ StoreFault.NoMemory) ⊎ (fault ≡ StoreFault.CounterFull Generations (LIMIT + 1))) }
+{
+    match (mode, position.side) {
+        (Mode::Append, Some(side)) if position.records < MOST_RECORDS => {
+            Ok(record(alloc, position, side, run, entries)?)
         }
-        _ => generation(alloc, db, merged, entries),
+        _ => generation(alloc, position, merged, entries),
     }
 }
 
@@ -96,20 +117,20 @@ fn summary_is_sound(summary: &Summary)
 /// A run record after the last one.
 fn record(
     alloc: Global,
-    db: &Db,
+    position: Position,
     side: u32,
     run: &Summary,
     entries: &Entries,
 ) -> Result<Prepared, NoMemory>
-    requires { db.now.side ≡ Some side }
-    ensures { IfOk result (IsRecordOf (db_value db.now) run.now (map entry_value entries.now)) }
+    requires { position.side ≡ Some side }
+    ensures { IfOk result (IsRecordOf (db_at position) run.now (map entry_value entries.now)) }
 {
     let entries = entries.items();
     let mut part = begin_part(alloc, delta_size(run, entries))?;
     push_delta(&mut part, run, entries)?;
     Ok(Prepared {
         side,
-        gate: db.slot,
+        gate: position.slot,
         tail: end_part(part)?,
         is_new: false,
     })
@@ -118,38 +139,38 @@ fn record(
 /// A new generation on the other side.
 fn generation(
     alloc: Global,
-    db: &Db,
+    position: Position,
     merged: &Summary,
     entries: &Entries,
 ) -> Result<Prepared, StoreFault>
-    ensures work { IfOk result (IsGenerationOf (db_value db.now) merged.now (map entry_value entries.now)) }
-    ensures full { IsErrOf result (StoreFault.CounterFull Generations (LIMIT + 1)) ↔ (LIMIT ≤ db.now.generation) }
+    ensures work { IfOk result (IsGenerationOf (db_at position) merged.now (map entry_value entries.now)) }
+    ensures full { IsErrOf result (StoreFault.CounterFull Generations (LIMIT + 1)) ↔ (LIMIT ≤ position.generation) }
     ensures causes { IfErr result (λ fault. (fault ≡ StoreFault.NoMemory) ⊎ (fault ≡ StoreFault.CounterFull Generations (LIMIT + 1))) }
 {
-    if db.generation >= LIMIT {
+    if position.generation >= LIMIT {
         return Err(StoreFault::CounterFull {
             which: Counter::Generations,
             total: LIMIT as u128 + 1,
         });
     }
-    Ok(next_generation(alloc, db, merged, entries)?)
+    Ok(next_generation(alloc, position, merged, entries)?)
 }
 
 /// A new generation, where its number isn't above `LIMIT`.
 fn next_generation(
     alloc: Global,
-    db: &Db,
+    position: Position,
     merged: &Summary,
     entries: &Entries,
 ) -> Result<Prepared, NoMemory>
-    requires { db.now.generation < LIMIT }
-    ensures { IfOk result (IsGenerationOf (db_value db.now) merged.now (map entry_value entries.now)) }
+    requires { position.generation < LIMIT }
+    ensures { IfOk result (IsGenerationOf (db_at position) merged.now (map entry_value entries.now)) }
 {
     let entries = entries.items();
     let mut part = begin_part(alloc, snapshot_size(merged, entries))?;
-    push_snapshot(&mut part, db.generation + 1, merged, entries)?;
+    push_snapshot(&mut part, position.generation + 1, merged, entries)?;
     Ok(Prepared {
-        side: other_side(db.side),
+        side: other_side(position.side),
         gate: 0,
         tail: end_part(part)?,
         is_new: true,

@@ -1,14 +1,17 @@
 -- How the parts of a run ended, before its fault line is written.
-use Rattle.std.specs.Prelude.{◌≡◌, ℕ, ◌+◌, ◌⊎◌, true, List, [], length, unwrap_or, slice_get, IsTrue}
+use Rattle.std.specs.Prelude.{◌≡◌, ◌≢◌, ℕ, ◌+◌, ◌⊎◌, true, List, [], length, unwrap_or, slice_get, IsTrue}
+use Rattle.ga_agents.specs.declared.row.Rule.{Rule}
 use Rattle.ga_base.specs.declared.counts.Counter.{Counter}
 use Rattle.ga_base.specs.declared.counts.Counter.TheVariants.{Generations}
 use Rattle.ga_base.specs.declared.counts.TheConstants.{LIMIT}
+use Rattle.ga_base.specs.declared.counts.Totals.{Totals}
 use Rattle.ga_base.specs.declared.entry.Entry.{Entry}
 use Rattle.ga_disk.specs.Disk.{DiskView}
 use Rattle.ga_disk.specs.Images.{Images}
 use Rattle.ga_disk.specs.Trace.{DiskTrace}
-use Rattle.ga_keep.specs.RunDatabase.{AreBase, FailsKeeping, Finds, IsUntouched, IsWhole, KeptIf, LooksAtMost, follow_of, mode_of, start_of}
+use Rattle.ga_keep.specs.RunDatabase.{AreBase, ComesAfter, FailsKeeping, Finds, GrowsBy, IsUntouched, KeptIf, LooksAtMost, follow_of, mode_of, start_of, whole_of}
 use Rattle.ga_keep.specs.Faults.{Misses}
+use Rattle.ga_keep.specs.declared.base.Base.{Base}
 use Rattle.ga_line.specs.declared.setup.LineSetup.{LineSetup}
 use Rattle.ga_outcomes.specs.LineOutcomes.{CountsLines, FillsAmong}
 use Rattle.ga_logs.specs.Counting.{AreInTotal}
@@ -20,18 +23,17 @@ use Rattle.ga_logs.specs.declared.fault.CountFault.{CountFault}
 use Rattle.ga_logs.specs.declared.fault.CountFault.TheVariants.{Failed as LogFailed, Short as LogShort, Full, NoMemory as CountNoMemory}
 use Rattle.ga_logs.specs.declared.portion.Portion.{Portion}
 use Rattle.ga_outcomes.specs.declared.setup.Setup.{Setup}
+use Rattle.ga_panels.specs.declared.setup.PanelSetup.{PanelSetup}
 use Rattle.ga_counters.specs.Counts.{Rose}
 use Rattle.ga_ports.specs.Files.{FilesView}
 use Rattle.ga_ports.specs.Outs.{OutsView}
-use Rattle.ga_ports.specs.Trace.{FilesTrace, OutsTrace}
+use Rattle.ga_ports.specs.Trace.{FilesStay, FilesTrace, OutsTrace}
 use Rattle.ga_ports.specs.declared.outs.To.{To}
 use Rattle.ga_resume.specs.declared.fault.PlaceFault.{PlaceFault}
 use Rattle.ga_resume.specs.declared.fault.PlaceFault.TheVariants.{FileFault as PlaceFailed, FileShort as PlaceShort, NoMemory as PlaceNoMemory}
-use Rattle.ga_store.specs.Commit.{passes_generations}
+use Rattle.ga_store.specs.Commit.{passes_generations, position_of}
 use Rattle.ga_store.specs.Database.{DbValue, empty_db}
-use Rattle.ga_store.specs.Holding.{Holds}
-use Rattle.ga_store.specs.Store.{db_value}
-use Rattle.ga_store.specs.declared.db.Db.{Db}
+use Rattle.ga_resume.specs.declared.start.Start.{Start}
 use Rattle.ga_store.specs.declared.fault.StoreFault.{StoreFault}
 use Rattle.ga_store.specs.declared.fault.StoreFault.TheVariants.{CounterFull as StoreFull, Damaged, DiskFault as StoreFailed, NoMemory as StoreNoMemory}
 use Rattle.ga_workers.specs.declared.workers.Workers.{Workers}
@@ -43,13 +45,14 @@ use Rattle.ga_tallies.specs.Tallies.{IsTallyOf, TallySeen}
 use Rattle.ga_words.specs.declared.fault.WordFault.{WordFault}
 use Rattle.ga_words.specs.declared.fault.WordFault.TheVariants.{NoMemory as WordNoMemory}
 use Rattle.ga_words.specs.declared.settings.Settings.{Settings}
-use Rattle.ga_one_run.specs.Course.{HasCounted}
+use Rattle.ga_one_run.specs.Course.{HasCounted, HasRules}
 use Rattle.ga_one_run.specs.Ends.{AreFollowed, Ends}
-use Rattle.ga_one_run.specs.Inputs.{IsStored, Walks, WalksInputs}
+use Rattle.ga_one_run.specs.Inputs.{IsStored, Walks, WalksInputs, rules_file}
 use Rattle.ga_one_run.specs.Printing.{FailsWriting, OutputCanTake, but_errors, delivered, report_file, target_of}
 use Rattle.ga_one_run.specs.Reports.{IsTextOf}
 use Rattle.ga_one_run.specs.Run.{NothingWasRead, SameFaults, faults_after}
-use Rattle.ga_one_run.specs.Setups.{IsLineSetup, IsRefused}
+use Rattle.ga_one_run.specs.Setups.{IsLineSetup, IsRefused, panels_of, setup_of}
+use Rattle.ga_one_run.specs.Steps.Rules.{StopsNamed}
 use Rattle.ga_one_run.specs.Statuses.{target_name}
 use Rattle.ga_one_run.specs.Outside.{Outside}
 use Rattle.ga_one_run.specs.declared.rules.RulesFault.{RulesFault}
@@ -110,14 +113,20 @@ pub record HasFound (s : Settings) (disk disk' : DiskView) (images images' : Ima
   pub entries : List Entry
   pub begin : AreBase s stored entries
 
+-- the whole that a run shows, by what it counted
+abbrev pub whole_in : Settings → RunCounts → SummaryValue
+whole_in s counted = whole_of s counted.base.summary counted.run
+
 -- what was counted, and what the run began with
 pub record CountsRun (setup : Setup) (s : Settings) (counted : RunCounts) (files files' : FilesView) (disk disk' : DiskView)
     (images images' : Images) : Type 0 where
-  pub finds : Finds s disk disk' images images' (db_value counted.stored)
-  pub has : HasCounted setup s (db_value counted.stored) files files'
-  pub run : has.run ≡ counted.run
-  pub whole : has.whole ≡ counted.whole
-  pub entries : has.entries' ≡ counted.entries
+  pub stored : DbValue
+  pub stands : position_of stored ≡ counted.position
+  pub finds : Finds s disk disk' images images' stored
+  pub has : HasCounted setup s stored files files'
+  pub run_is : has.run ≡ counted.run
+  pub whole_is : has.whole ≡ whole_in s counted
+  pub entries_are : has.entries' ≡ counted.base.entries
 
 -- a log wasn't read, and no counter was full
 pub record StopsAtLog (setup : Setup) (s : Settings) (files files' : FilesView) (disk disk' : DiskView) (images images' : Images)
@@ -157,11 +166,68 @@ StopsCounting setup s files files' disk disk' images images' (CounterFull which 
 StopsCounting setup s files files' disk disk' images images' NoMemory = StopsHungry s files files' disk disk' images images'
 StopsCounting setup s files files' disk disk' images images' _ = ⊥
 
+-- ---- counting by a base
+
+-- all logs were counted on from what is stored
+pub record CountsFrom (setup : Setup) (s : Settings) (stored : DbValue) (files files' : FilesView) (total : TallySeen)
+    (entries' : List Entry) : Type 0 where
+  pub entries : List Entry
+  pub begin : AreBase s stored entries
+  pub counts : CountsLogs setup (start_of s stored) s.generate s.logs entries entries' files files' total
+
+-- the logs weren't all counted from this start on
+pub record StopsFrom (setup : Setup) (s : Settings) (start : Start) (entries : List Entry) (files files' : FilesView) (status : Status) : Type 0 where
+  pub fault : CountFault
+  pub status_is : status ≡ status_of_count fault
+  pub stops : StopsLogs setup start s.generate s.logs entries files files' fault
+
+-- the total is of lines that fit behind these totals
+pub record IsOfLines (totals : Totals) (total : TallySeen) : Type 0 where
+  pub setup : Setup
+  pub lines : List (List ℕ)
+  pub are : AreInTotal setup totals lines total
+
+-- the sum of the lines of a total, by which the summary of a base grew
+pub record AreSums (s : Settings) (base base' : SummaryValue) (total : TallySeen) (run : SummaryValue) : Type 0 where
+  pub counts : (setup : Setup) (lines : List (List ℕ)) → AreInTotal setup base.totals lines total → CountsLines setup base.totals lines run
+  pub grown : GrowsBy s.restore base run base'
+
+-- the logs were counted on from what is stored, and this is what the base grew to
+pub record CountsOn (setup : Setup) (s : Settings) (stored : DbValue) (files files' : FilesView) (run : SummaryValue) (base : Base) : Type 0 where
+  pub has : HasCounted setup s stored files files'
+  pub run_is : has.run ≡ run
+  pub whole_is : has.whole ≡ whole_of s base.summary run
+  pub entries_are : has.entries' ≡ base.entries
+
+-- a log wasn't read, or the lines fill a counter, or memory ran out on the way
+pub record StopsLogsAlone (setup : Setup) (s : Settings) (stored : DbValue) (files files' : FilesView) (status : Status) : Type 0 where
+  pub entries : List Entry
+  pub begin : AreBase s stored entries
+  pub fault : CountFault
+  pub status_is : status ≡ status_of_count fault
+  pub stops : StopsLogs setup (start_of s stored) s.generate s.logs entries files files' fault
+
+-- memory ran out after all logs
+pub record HungryAlone (setup : Setup) (s : Settings) (stored : DbValue) (files files' : FilesView) : Type 0 where
+  pub total : TallySeen
+  pub entries' : List Entry
+  pub counted : CountsFrom setup s stored files files' total entries'
+
+-- why there is no sum, or no text of it: the second is lack of memory
+abbrev pub StopsAlone : Setup → Settings → DbValue → FilesView → FilesView → Status → Type 0
+StopsAlone setup s stored files files' status =
+    StopsLogsAlone setup s stored files files' status ⊎ ((status ≡ NoMemory) × HungryAlone setup s stored files files')
+
+-- no call on a file failed
+abbrev pub NoFileFailed : Status → Type 0
+NoFileFailed (FileFault file) = ⊥
+NoFileFailed _ = Unit {0}
+
 -- ---- a run that uses no database
 
 -- its logs were counted, and the text is the report on their sum
-pub record IsTextAlone (setup : Setup) (s : Settings) (stored : DbValue) (files files' : FilesView) (text : List ℕ) : Type 0 where
-  pub has : HasCounted setup s stored files files'
+pub record IsTextAlone (setup : Setup) (s : Settings) (files files' : FilesView) (text : List ℕ) : Type 0 where
+  pub has : HasCounted setup s empty_db files files'
   pub is_text : IsTextOf s has.whole text
 
 -- the text is the report on the sum of these
@@ -173,63 +239,6 @@ pub record IsTextOfLines (s : Settings) (outcomes : List Outcome) (text : List �
 -- the text is the report on the sum of those that a total is of
 pub record IsTextOfTotal (s : Settings) (total : TallySeen) (text : List ℕ) : Type 0 where
   pub of : (outcomes : List Outcome) → IsTallyOf outcomes total → AllCountable outcomes → IsTextOfLines s outcomes text
-
--- all logs were counted on from what is stored
-pub record CountsFrom (setup : Setup) (s : Settings) (stored : DbValue) (files files' : FilesView) (total : TallySeen)
-    (entries' : List Entry) : Type 0 where
-  pub entries : List Entry
-  pub begin : AreBase s stored entries
-  pub counts : CountsLogs setup (start_of s stored) s.generate s.logs entries entries' files files' total
-
--- the total is of lines that fit what a run counts on from
-pub record IsOfLines (s : Settings) (stored : DbValue) (total : TallySeen) : Type 0 where
-  pub setup : Setup
-  pub lines : List (List ℕ)
-  pub are : AreInTotal setup (start_of s stored).totals lines total
-
--- the sum of the lines of a total, and the whole one
-pub record AreSums (s : Settings) (stored : DbValue) (total : TallySeen) (run whole : SummaryValue) : Type 0 where
-  pub counts : (setup : Setup) (lines : List (List ℕ)) → AreInTotal setup (start_of s stored).totals lines total
-      → CountsLines setup (start_of s stored).totals lines run
-  pub is_whole : IsWhole s stored run whole
-
--- the logs were counted on from what is stored
-pub record CountsOn (setup : Setup) (s : Settings) (stored : DbValue) (files files' : FilesView) (run whole : SummaryValue)
-    (entries : List Entry) : Type 0 where
-  pub has : HasCounted setup s stored files files'
-  pub run_is : has.run ≡ run
-  pub whole_is : has.whole ≡ whole
-  pub entries_are : has.entries' ≡ entries
-
--- a log wasn't read, or the lines fill a counter, or memory ran out on the way
-pub record StopsLogsAlone (setup : Setup) (s : Settings) (stored : DbValue) (files files' : FilesView) (status : Status) : Type 0 where
-  pub entries : List Entry
-  pub begin : AreBase s stored entries
-  pub fault : CountFault
-  pub status_is : status ≡ status_of_count fault
-  pub stops : StopsLogs setup (start_of s stored) s.generate s.logs entries files files' fault
-
--- the logs weren't all counted
-abbrev pub StopsFrom : Setup → Settings → DbValue → FilesView → FilesView → Status → Type 0
-StopsFrom setup s stored files files' status =
-    StopsLogsAlone setup s stored files files' status ⊎ ((status ≡ NoMemory) × (files' ≡ files))
-
--- memory ran out after all logs
-pub record HungryAlone (setup : Setup) (s : Settings) (stored : DbValue) (files files' : FilesView) : Type 0 where
-  pub total : TallySeen
-  pub entries' : List Entry
-  pub counted : CountsFrom setup s stored files files' total entries'
-
--- why there is no text: the second two are lack of memory
-abbrev pub StopsAlone : Setup → Settings → DbValue → FilesView → FilesView → Status → Type 0
-StopsAlone setup s stored files files' status =
-    StopsLogsAlone setup s stored files files' status
-    ⊎ ((status ≡ NoMemory) × ((files' ≡ files) ⊎ HungryAlone setup s stored files files'))
-
--- no call on a file failed
-abbrev pub NoFileFailed : Status → Type 0
-NoFileFailed (FileFault file) = ⊥
-NoFileFailed _ = Unit {0}
 
 -- ---- the report
 
@@ -246,32 +255,34 @@ EndsReport s text outs outs' _ = ⊥
 
 -- ---- keeping and delivering
 
--- a run that persists can be kept
-pub record IsReady (disk : DiskView) (images : Images) (stored : Db) : Type 0 where
+-- a run that persists can be kept after this database
+pub record IsReady (s : Settings) (stored : DbValue) (counted : RunCounts) (disk : DiskView) (images : Images) : Type 0 where
   pub is_open : IsTrue disk.is_open
-  pub holds : Holds disk images (db_value stored)
+  pub after : ComesAfter s stored counted.position counted.run (whole_in s counted) disk images
 
-pub record Delivers (s : Settings) (counted : RunCounts) (disk disk' : DiskView) (images images' : Images) (outs outs' : OutsView)
-    (status : Status) : Type 0 where
+pub record Delivers (s : Settings) (stored : DbValue) (whole : SummaryValue) (entries : List Entry) (disk disk' : DiskView) (images images' : Images)
+    (outs outs' : OutsView) (status : Status) : Type 0 where
   pub text : List ℕ
-  pub is_text : IsTextOf s counted.whole text
-  pub kept : KeptIf s (db_value counted.stored) counted.whole counted.entries disk disk' images images'
+  pub is_text : IsTextOf s whole text
+  pub kept : KeptIf s stored whole entries disk disk' images images'
   pub report : EndsReport s text outs outs' status
 
-abbrev pub EndsKeeping : Settings → RunCounts → DiskView → DiskView → Images → Images → OutsView → OutsView → Status → Type 0
-EndsKeeping s counted disk disk' images images' outs outs' Done = Delivers s counted disk disk' images images' outs outs' Done
-EndsKeeping s counted disk disk' images images' outs outs' (OutFault to at) = Delivers s counted disk disk' images images' outs outs' (OutFault to at)
-EndsKeeping s counted disk disk' images images' outs outs' DiskFault =
-    (s.persist ≡ true) × FailsKeeping (db_value counted.stored) counted.whole counted.entries disk disk' images images' × (outs' ≡ outs)
-EndsKeeping s counted disk disk' images images' outs outs' (CounterFull which total) =
-    (s.persist ≡ true) × (which ≡ Generations) × (total ≡ LIMIT + 1) × (passes_generations (mode_of s) (db_value counted.stored) ≡ true)
+abbrev pub EndsKeeping : Settings → DbValue → SummaryValue → List Entry → DiskView → DiskView → Images → Images → OutsView → OutsView → Status → Type 0
+EndsKeeping s stored whole entries disk disk' images images' outs outs' Done = Delivers s stored whole entries disk disk' images images' outs outs' Done
+EndsKeeping s stored whole entries disk disk' images images' outs outs' (OutFault to at) =
+    Delivers s stored whole entries disk disk' images images' outs outs' (OutFault to at)
+EndsKeeping s stored whole entries disk disk' images images' outs outs' DiskFault =
+    (s.persist ≡ true) × FailsKeeping stored whole entries disk disk' images images' × (outs' ≡ outs)
+EndsKeeping s stored whole entries disk disk' images images' outs outs' (CounterFull which total) =
+    (s.persist ≡ true) × (which ≡ Generations) × (total ≡ LIMIT + 1) × (passes_generations (mode_of s) stored ≡ true)
     × IsUntouched disk disk' images images' × (outs' ≡ outs)
-EndsKeeping s counted disk disk' images images' outs outs' NoMemory = IsUntouched disk disk' images images' × (outs' ≡ outs)
-EndsKeeping s counted disk disk' images images' outs outs' _ = ⊥
+EndsKeeping s stored whole entries disk disk' images images' outs outs' NoMemory = IsUntouched disk disk' images images' × (outs' ≡ outs)
+EndsKeeping s stored whole entries disk disk' images images' outs outs' _ = ⊥
 
-pub record EndsLast (s : Settings) (counted : RunCounts) (disk disk' : DiskView) (images images' : Images) (outs outs' : OutsView)
-    (status : Status) : Type 0 where
-  pub ends : EndsKeeping s counted disk disk' images images' outs outs' status
+-- how a run ended that counted this, from the counting on
+pub record EndsLast (s : Settings) (stored : DbValue) (whole : SummaryValue) (entries : List Entry) (disk disk' : DiskView) (images images' : Images)
+    (outs outs' : OutsView) (status : Status) : Type 0 where
+  pub ends : EndsKeeping s stored whole entries disk disk' images images' outs outs' status
   pub errors : outs'.stderr ≡ outs.stderr
   pub disk_trace : DiskTrace disk disk'
   pub outs_trace : OutsTrace outs outs'
@@ -279,24 +290,50 @@ pub record EndsLast (s : Settings) (counted : RunCounts) (disk disk' : DiskView)
 -- ---- a run that uses no database, after its setup
 
 -- its report was delivered, or not
-pub record EndsTold (setup : Setup) (s : Settings) (stored : DbValue) (files files' : FilesView) (outs outs' : OutsView) (status : Status) : Type 0 where
+pub record EndsTold (setup : Setup) (s : Settings) (files files' : FilesView) (outs outs' : OutsView) (status : Status) : Type 0 where
   pub text : List ℕ
-  pub is_text : IsTextAlone setup s stored files files' text
+  pub is_text : IsTextAlone setup s files files' text
   pub ends : EndsReport s text outs outs' status
   pub errors : outs'.stderr ≡ outs.stderr
   pub outs_trace : OutsTrace outs outs'
 
 -- there is none
-pub record EndsUntold (setup : Setup) (s : Settings) (stored : DbValue) (files files' : FilesView) (outs outs' : OutsView) (status : Status) : Type 0 where
-  pub stops : StopsAlone setup s stored files files' status
+pub record EndsUntold (setup : Setup) (s : Settings) (files files' : FilesView) (outs outs' : OutsView) (status : Status) : Type 0 where
+  pub stops : StopsAlone setup s empty_db files files' status
   pub sure : CanServe s.logs files → NoFileFailed status
   pub quiet : outs' ≡ outs
 
 pub record EndsAlone (setup : Setup) (s : Settings) (files files' : FilesView) (outs outs' : OutsView) (status : Status) : Type 0 where
-  pub stored : Db
-  pub empty : db_value stored ≡ empty_db
-  pub ends : EndsTold setup s (db_value stored) files files' outs outs' status ⊎ EndsUntold setup s (db_value stored) files files' outs outs' status
+  pub ends : EndsTold setup s files files' outs outs' status ⊎ EndsUntold setup s files files' outs outs' status
   pub files_trace : FilesTrace files files'
+
+-- ---- how lines are counted
+
+-- by the rules of the browsers file, which was read
+pub record HasPanels (s : Settings) (files files' : FilesView) (panels : PanelSetup) : Type 0 where
+  pub rules : List Rule
+  pub has_rules : HasRules s.browsers_file files files' rules
+  pub is : panels ≡ panels_of s rules
+
+-- it wasn't read
+pub record StopsAtRules (s : Settings) (files files' : FilesView) (status : Status) : Type 0 where
+  pub fault : RulesFault
+  pub status_is : status ≡ status_of_rules fault
+  pub stops : StopsNamed s.browsers_file files files' fault
+  pub sure : CanServe (rules_file s.browsers_file) files → fault ≢ Unread PlaceFailed
+
+-- or memory ran out after it
+abbrev pub StopsPanels : Settings → FilesView → FilesView → Status → Type 0
+StopsPanels s files files' status =
+    StopsAtRules s files files' status ⊎ ((status ≡ NoMemory) × (rules : List Rule) × HasRules s.browsers_file files files' rules)
+
+-- a run whose files were these at its start is set up so, after its rules were read
+pub record IsSetUp (line : LineSetup) (s : Settings) (start files : FilesView) (setup : Setup) : Type 0 where
+  pub rules : List Rule
+  pub has_rules : HasRules s.browsers_file start files rules
+  pub is : setup ≡ setup_of line s rules
+  pub files_trace : FilesTrace start files
+  pub stay : FilesStay start files
 
 -- ---- the run over its inputs
 

@@ -7,9 +7,15 @@ use Rattle.ga_disk.specs.Sides.{Sides, of_side, with_side}
 use Rattle.ga_disk.specs.Trace.{DiskTrace}
 use Rattle.ga_store.specs.Commit.{Work, closing_calls, look_calls, must_close, tail_calls}
 use Rattle.ga_store.specs.Commits.{Frames, Takes}
+use Rattle.ga_store.specs.Database.{DbValue, no_summary}
 use Rattle.ga_store.specs.SideParts.{closed_gate}
 use Rattle.ga_store.specs.declared.fault.StoreFault.{StoreFault}
 use Rattle.ga_store.specs.declared.fault.StoreFault.TheVariants.{DiskFault}
+use Rattle.ga_store.specs.declared.position.Position.{Position}
+
+-- a database that stands at this position, in which nothing was counted
+abbrev pub db_at : Position → DbValue
+db_at p = record { summary = no_summary; entries = []; generation = p.generation; side = p.side; records = p.records; slot = p.slot }
 
 -- the bytes in front of a place are the same, and reach it
 pub record SameFront (n : ℕ) (old new : List ℕ) : Type 0 where

@@ -1,3 +1,4 @@
+use Rattle.std.proofs.Common.{sym}
 use Rattle.std.proofs.lemmas.Result.{err_from_is_err_and}
 use Rattle.ga_ports.specs.Trace.{no_files_call}
 use Rattle.ga_store.specs.Store.{db_value}
@@ -9,10 +10,12 @@ returns-in_err-stored-clause-files_trace g c = no_files_call
 
 pub returns-in_err-run-clause-stops : goal.returns-in_err-run-clause-stops
 returns-in_err-run-clause-stops g c =
+    let stored = db_value c.in_ok-stored.stored in
     let p = err_from_is_err_and c.from_residual-in_err-run.result c.from_residual-in_err-run.ensures.1 in
-    rw (p.1, p.2) (stops-on c.args.setup.now c.args.context.now.settings.now _ _ _ _ _ _ (db_value c.in_ok-stored.stored) c.in_ok-stored.ensures.ok _ c.in_err-run.ensures.stops)
+    rw (p.1, p.2) (stops-on c.args.setup.now c.args.context.now.settings.now _ _ _ _ _ _ stored c.in_ok-stored.ensures.ok _ (c.in_err-run.ensures.stops stored c.base_of-base.ensures.base))
 
 pub returns-clause-ok : goal.returns-clause-ok
 returns-clause-ok g c =
-    let on = c.in_ok-run.ensures.ok in
-    record { finds = c.in_ok-stored.ensures.ok; has = on.has; run = on.run_is; whole = on.whole_is; entries = on.entries_are }
+    let stored = db_value c.in_ok-stored.stored in
+    let on = c.in_ok-run.ensures.ok stored c.base_of-base.ensures.base in
+    record { stored = stored; stands = sym c.base_of-base.ensures.position; finds = c.in_ok-stored.ensures.ok; has = on.has; run_is = on.run_is; whole_is = on.whole_is; entries_are = on.entries_are }

@@ -1,40 +1,44 @@
-use Rattle.std.proofs.Common.{refl, inr}
 use Rattle.std.proofs.lemmas.Result.{err_from_is_err_and}
-use Rattle.ga_store.specs.Store.{db_value}
-use Rattle.ga_one_run.proofs.Counting.{countable-total, overwrites, text-stops}
+use Rattle.ga_store.specs.Database.{empty_db}
+use Rattle.ga_one_run.proofs.Counting.{countable-total, counted-here, empty-base, hungry-here, overwrites, stops-here}
 use Rattle.ga_one_run.proofs.run.text_alone.Goals as goal
 
 pub returns-in_err-total-clause-stops : goal.returns-in_err-total-clause-stops
 returns-in_err-total-clause-stops g c =
+    let s = c.args.context.now.settings.now in
     let p = err_from_is_err_and c.from_residual.result c.from_residual.ensures.1 in
-    rw (p.1, p.2) (text-stops c.in_err-total.ensures.stops)
+    rw (p.1, p.2) (stops-here c.args.setup.now s _ _ empty_db c.args.base.now (empty-base s c.args.base.now c.requires.empty) c.start-start.result c.start-start.ensures.start _ c.in_err-total.ensures.stops)
 
 pub text_of_total-requires : goal.text_of_total-requires
-text_of_total-requires g c = (c.type_bounds.sync-R, countable-total _ _ _ _ c.in_ok-total.ensures.ok.counts.counts)
+text_of_total-requires g c = (c.type_bounds.sync-R, countable-total _ _ _ _ c.in_ok-total.ensures.ok.counts)
 
 pub returns-in_err-text-clause-stops : goal.returns-in_err-text-clause-stops
 returns-in_err-text-clause-stops g c =
+    let s = c.args.context.now.settings.now in
     let p = err_from_is_err_and c.from_residual-in_err-text.result c.from_residual-in_err-text.ensures.1 in
-    rw (p.1, p.2) (inr (refl, inr (record { total = c.in_ok-total.total; entries' = c.in_ok-total._entries; counted = c.in_ok-total.ensures.ok })))
+    rw (p.1, p.2) (hungry-here c.args.setup.now s _ _ empty_db c.args.base.now (empty-base s c.args.base.now c.requires.empty) c.start-start.result c.start-start.ensures.start c.count_from.new.entries
+    c.in_ok-total.total c.in_ok-total.ensures.ok)
 
 pub returns-clause-ok : goal.returns-clause-ok
 returns-clause-ok g c =
     let s = c.args.context.now.settings.now in
-    let stored = db_value c.args.stored.now in
-    let counted = c.in_ok-total.ensures.ok in
+    let before = g.F.Files.view c.args.files.now in
+    let after = g.F.Files.view c.count_from.new.files in
+    let counted = counted-here c.args.setup.now s before after empty_db c.args.base.now (empty-base s c.args.base.now c.requires.empty) c.start-start.result c.start-start.ensures.start c.count_from.new.entries
+    c.in_ok-total.total c.in_ok-total.ensures.ok in
     let counts = counted.counts in
     let text = c.in_ok-text.ensures.of counts.counts.outcomes counts.counts.tally counts.counts.countable in
     record {
       has = record {
         entries = counted.entries;
         begin = counted.begin;
-        entries' = c.in_ok-total._entries;
+        entries' = c.count_from.new.entries;
         portions = counts.portions;
         read = counts.read;
         run = text.sum;
         counts = record { outcomes = counts.counts.outcomes; have_outcomes = counts.counts.have_outcomes; is_sum = text.is_sum; fits = counts.counts.fits };
         whole = text.sum;
-        is_whole = overwrites s stored text.sum c.requires;
+        is_whole = overwrites s empty_db text.sum c.requires.alone;
       };
       is_text = text.is_text;
     }

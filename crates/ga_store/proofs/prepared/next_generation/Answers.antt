@@ -18,5 +18,5 @@ returns c =
       body = appends.bytes;
       size = subst (λ (b : List ℕ). length b < 2 ^ 64) is c.in_ok-end_part.ensures.size;
       tail = c.in_ok-end_part.ensures.part ∙ ap closed_part is;
-      spells = subst (λ (entries : List Entry). SpellSnapshot appends.bytes (record { generation = c.args.db.now.generation + 1; summary = c.args.merged.now; entries = map entry_value entries })) c.items-entries.ensures appends.spells;
+      spells = subst (λ (entries : List Entry). SpellSnapshot appends.bytes (record { generation = c.args.position.generation + 1; summary = c.args.merged.now; entries = map entry_value entries })) c.items-entries.ensures appends.spells;
     }

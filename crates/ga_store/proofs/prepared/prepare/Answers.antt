@@ -1,10 +1,13 @@
-use Rattle.std.proofs.Common.{Result, IfOk, Ok, Err}
-use Rattle.ga_store.proofs.CommitMakes.{makes-after}
+use Rattle.std.proofs.Common.{sym}
+use Rattle.ga_store.proofs.CommitMakes.{if_ok-map}
+use Rattle.ga_store.specs.Store.{db_value}
 use Rattle.ga_store.proofs.prepared.prepare.Goals as goal
 
-if_ok-map : {A B : Type 0} {P Q : A → Type 0} (r : Result A B) → ((a : A) → P a → Q a) → IfOk r P → IfOk r Q
-if_ok-map (Ok a) f p = f a p
-if_ok-map (Err b) f p = tt
+pub returns-clause-work : goal.returns-clause-work
+returns-clause-work c = if_ok-map c.prepare_at.result (λ work is. is (db_value c.args.db.now) (sym c.position.ensures)) c.prepare_at.ensures.work
 
 pub returns-clause-makes : goal.returns-clause-makes
-returns-clause-makes c = if_ok-map c.work_of.result (λ work is. makes-after work _ _ _ _ c.summary_is_sound.ensures c.args.mode c.requires is) c.work_of.ensures.work
+returns-clause-makes c = if_ok-map c.prepare_at.result (λ work makes. makes (db_value c.args.db.now) (sym c.position.ensures) c.requires) c.prepare_at.ensures.makes
+
+pub returns-clause-full : goal.returns-clause-full
+returns-clause-full c = c.prepare_at.ensures.full (db_value c.args.db.now) (sym c.position.ensures)
