@@ -1,7 +1,8 @@
-ghost use Rattle.std.specs.Prelude.{◌≡◌, ◌+◌, ◌≤◌, ◌++◌, ◌==◌, ℕ, true, false, length, IfOk, OnOk, IsErrOf, IsTrue};
+ghost use Rattle.std.specs.Prelude.{◌≡◌, ◌+◌, ◌≤◌, ◌++◌, ◌==◌, ℕ, true, false, length, take, IfOk, OnOk, IsErrOf, IsTrue};
 ghost use Rattle.ga_codec.specs.Pieces.{BeginsNone, front_bytes, is_full};
 ghost use Rattle.ga_codec.specs.declared.fault.CodecFault.{CodecFault};
 ghost use Rattle.ga_store.specs.Steps.Bodies.{IsHashed, PieceRead, SaysDelta, SaysNext, SaysRows, SaysSnapshot};
+ghost use Rattle.ga_store.specs.Steps.SideParts.{SaysRest};
 ghost use Rattle.ga_store.specs.Steps.Stream.{IsOf, Streams, left};
 
 use crate::StoreFault;
@@ -111,7 +112,7 @@ pub(crate) fn finish_snapshot<D: Disk>(
 {
     let OpenBody {
         reader,
-        mut hasher,
+        hasher,
         left,
     } = body;
     let size = left as usize;
@@ -122,9 +123,7 @@ pub(crate) fn finish_snapshot<D: Disk>(
         Err(CodecFault::NotInGrammar { .. }) => return Ok(None),
         Err(CodecFault::NoMemory) => return Err(StoreFault::NoMemory),
     };
-    hasher.update(rest);
-    stream.take(size);
-    if take_digest(disk, stream, hasher)? {
+    if take_rest(disk, stream, hasher, size)? {
         Ok(Some(snapshot))
     } else {
         Ok(None)
@@ -149,7 +148,7 @@ pub(crate) fn finish_delta<D: Disk>(
 {
     let OpenBody {
         reader,
-        mut hasher,
+        hasher,
         left,
     } = body;
     let size = left as usize;
@@ -160,11 +159,30 @@ pub(crate) fn finish_delta<D: Disk>(
         Err(CodecFault::NotInGrammar { .. }) => return Ok(None),
         Err(CodecFault::NoMemory) => return Err(StoreFault::NoMemory),
     };
-    hasher.update(rest);
-    stream.take(size);
-    if take_digest(disk, stream, hasher)? {
+    if take_rest(disk, stream, hasher, size)? {
         Ok(Some(delta))
     } else {
         Ok(None)
     }
+}
+
+/// Takes the rest of a body, which is in the window, and its digest, and answers whether that is the digest of what was
+/// digested and the rest.
+fn take_rest<D: Disk>(
+    disk: &mut D,
+    stream: &mut SideStream,
+    hasher: Sha256,
+    size: usize,
+) -> Result<bool, StoreFault>
+    requires open { IsTrue (D.view disk.old).is_open }
+    requires told { IsOf stream.old (D.view disk.old).seen }
+    requires loaded { size ≤ length stream.old.window }
+    requires room { size + 32 ≤ left stream.old }
+    ensures { Streams (D.view disk.old) (D.view disk.new) (D.images disk.old) (D.images disk.new) stream.old stream.new
+        (SaysRest hasher (take size stream.old.window)) result }
+{
+    let mut hasher = hasher;
+    hasher.update(&stream.window()[..size]);
+    stream.take(size);
+    take_digest(disk, stream, hasher)
 }

@@ -28,3 +28,10 @@ SaysSize s (Some size) taken = HasSize s size taken
 pub record SaysDigest (hasher : Sha256) (same : Bool) (taken : List ℕ) : Type 0 where
   pub long : length taken ≡ 32
   pub says : (message : List ℕ) → Holds256 hasher message → (same ≡ true) ↔ (taken ≡ sha256 message)
+
+-- the rest of a body was taken, and a digest, and this is whether it is that of what was digested and the rest
+pub record SaysRest (hasher : Sha256) (rest : List ℕ) (same : Bool) (taken : List ℕ) : Type 0 where
+  pub digest : List ℕ
+  pub is : taken ≡ rest ++ digest
+  pub long : length digest ≡ 32
+  pub says : (message : List ℕ) → Holds256 hasher message → (same ≡ true) ↔ (digest ≡ sha256 (message ++ rest))
