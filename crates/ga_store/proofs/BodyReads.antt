@@ -4,14 +4,13 @@ use Rattle.std.proofs.Math.Seq.{take-append-add, take-append_seam}
 use Rattle.std.proofs.lemmas.Bool.{eqb-true, true≢false}
 use Rattle.std.proofs.lemmas.Bool.Decides.{nat_tests}
 use Rattle.std.proofs.lemmas.List.{append-nil, append_cancel_left, nil_from_length, take-append-drop, take-take}
-use Rattle.sha2.specs.Hashers.{Holds256}
 use Rattle.sha2.specs.Sha256.{sha256}
-use Rattle.sha2.specs.declared.Sha256.{Sha256}
 use Rattle.sha2.proofs.Facts256.{length-sha256}
 use Rattle.ga_codec.specs.Pieces.{BeginsNone, HasNone, HeadValue, front_bytes}
 use Rattle.ga_store.specs.Steps.Bodies.{HasBody, HasRead, IsHashed, LacksBody, PieceRead, size_of}
-use Rattle.ga_store.specs.Steps.SideParts.{SaysRest}
+use Rattle.ga_store.specs.Steps.SideParts.{HoldsBytes, SaysRest}
 use Rattle.ga_store.specs.Steps.Stream.{StreamView, asked, left}
+use Rattle.ga_store.specs.declared.body_digest.BodyDigest.{BodyDigest}
 use Rattle.ga_store.specs.declared.body_reading.OpenBody.{OpenBody}
 use Rattle.ga_store.proofs.RecoverParts.{long-digested}
 
@@ -158,10 +157,10 @@ other-digest kind front piece digest rest left long size other = λ body tail wh
     absurd (other (here.is_digest ∙ ap sha256 here.is_body))
 
 -- the rest of a body was taken with its digest
-pub has-rest : {A : Type 0} (Spell : List ℕ → A → Type 0) (value : A) (start : OpenBody) (hasher : Sha256) (piece rest taken : List ℕ) (same : Bool) → piece ≡ rest
-    → length rest ≡ start.left → Spell (front_bytes start.reader ++ piece) value → Holds256 hasher (front_bytes start.reader) → SaysRest hasher rest same taken
+pub has-rest : {A : Type 0} (Spell : List ℕ → A → Type 0) (value : A) (start : OpenBody) (held : BodyDigest) (piece rest taken : List ℕ) (same : Bool) → piece ≡ rest
+    → length rest ≡ start.left → Spell (front_bytes start.reader ++ piece) value → HoldsBytes held (front_bytes start.reader) → SaysRest held rest same taken
     → same ≡ true → HasBody Spell value start taken
-has-rest Spell value start hasher piece rest taken same is long spells holds says e =
+has-rest Spell value start held piece rest taken same is long spells holds says e =
     let front = front_bytes start.reader in
     let digest : says.digest ≡ sha256 (front ++ rest) = (says.says front holds).0 e in
     record {
@@ -172,10 +171,10 @@ has-rest Spell value start hasher piece rest taken same is long spells holds say
     }
 
 -- it was taken with another digest
-pub lacks-rest : (kind : Bool) (start : OpenBody) (hasher : Sha256) (rest taken more : List ℕ) (same : Bool) → length rest ≡ start.left
-    → Holds256 hasher (front_bytes start.reader) → SaysRest hasher rest same taken → same ≡ false
+pub lacks-rest : (kind : Bool) (start : OpenBody) (held : BodyDigest) (rest taken more : List ℕ) (same : Bool) → length rest ≡ start.left
+    → HoldsBytes held (front_bytes start.reader) → SaysRest held rest same taken → same ≡ false
     → LacksBody kind (size_of start) (front_bytes start.reader ++ (taken ++ more))
-lacks-rest kind start hasher rest taken more same long holds says e =
+lacks-rest kind start held rest taken more same long holds says e =
     let front = front_bytes start.reader in
     subst (λ (t : List ℕ). LacksBody kind (length front + start.left) (front ++ (t ++ more))) (sym says.is)
     (other-digest kind front rest says.digest more start.left long says.long

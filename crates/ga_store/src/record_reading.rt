@@ -5,8 +5,10 @@ ghost use Rattle.ga_store.specs.Steps.Records.{BehindGate, SaysDelta, SaysOn, Sa
 ghost use Rattle.ga_store.specs.Steps.Stream.{IsAt, IsOf, Streams};
 ghost use Rattle.ga_store.specs.Store.{db_value};
 
+use crate::body_digest::BodyDigest;
 use crate::body_reading::{OpenBody, finish_delta, read_rows};
 use crate::found::{FirstPart, RecordPart};
+use crate::hands::Hands;
 use crate::side_parts::{is_open, take_size};
 use crate::side_stream::SideStream;
 use crate::starts::Said;
@@ -15,12 +17,10 @@ use ga_codec::laws::one_delta_reading;
 use ga_codec::{BodyReader, Delta};
 use ga_disk::Disk;
 use ga_summary::MergeFault;
-use sha2::{Digest, Sha256};
-use std::alloc::Global;
 
 /// Takes the records after the snapshot of a side with this number, up to the first closed gate.
-pub(crate) fn read_on<D: Disk>(
-    alloc: Global,
+pub(crate) fn read_on<H: Hands, D: Disk>(
+    hands: &H,
     disk: &mut D,
     stream: &mut SideStream,
     number: u32,
@@ -35,7 +35,7 @@ pub(crate) fn read_on<D: Disk>(
     let mut db = Db::of_first(number, first);
     while is_open(disk, stream)? {
         let slot = db.slot;
-        if !take_record(alloc, disk, stream, &mut db)? {
+        if !take_record(hands, disk, stream, &mut db)? {
             return Ok(Said::Damaged {
                 side: number,
                 at: slot + 1,
@@ -46,8 +46,8 @@ pub(crate) fn read_on<D: Disk>(
 }
 
 /// Takes the record after the open gate that comes next, and answers whether there is one that the database can take on.
-fn take_record<D: Disk>(
-    alloc: Global,
+fn take_record<H: Hands, D: Disk>(
+    hands: &H,
     disk: &mut D,
     stream: &mut SideStream,
     db: &mut Db,
@@ -62,7 +62,7 @@ fn take_record<D: Disk>(
 {
     // That a row of bytes is one run record, for the proof alone.
     one_delta_reading();
-    let Some(delta) = read_delta(alloc, disk, stream)? else {
+    let Some(delta) = read_delta(hands, disk, stream)? else {
         return Ok(false);
     };
     let next = stream.place();
@@ -74,8 +74,8 @@ fn take_record<D: Disk>(
 }
 
 /// Takes the open gate that comes next, and the run record after it; None where no part with one is there.
-fn read_delta<D: Disk>(
-    alloc: Global,
+fn read_delta<H: Hands, D: Disk>(
+    hands: &H,
     disk: &mut D,
     stream: &mut SideStream,
 ) -> Result<Option<Delta>, StoreFault>
@@ -89,12 +89,12 @@ fn read_delta<D: Disk>(
         return Ok(None);
     };
     let mut body = OpenBody {
-        reader: BodyReader::of_delta(alloc),
-        hasher: Sha256::new(),
+        reader: BodyReader::of_delta(hands.alloc()),
+        digest: BodyDigest::new(hands.alloc()),
         left: size,
     };
-    if !read_rows(alloc, disk, stream, &mut body)? {
+    if !read_rows(hands, disk, stream, &mut body)? {
         return Ok(None);
     }
-    finish_delta(alloc, disk, stream, body)
+    finish_delta(hands, disk, stream, body)
 }

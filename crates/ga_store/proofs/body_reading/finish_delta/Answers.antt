@@ -42,7 +42,7 @@ returns-then-branch g c =
     let long : length (take of-body s.window) ≡ of-body = omega (arith, length-take of-body s.window, le) in
     let rest = c.in_ok-take_rest.ensures.took in
     let took = took-then law loaded rest.1 in
-    let has = has-rest SpellDelta (delta_value c.in-Ok.delta) c.args.body c.args.body.hasher piece (take of-body s.window) rest.0 _ is long c.in-Ok.ensures.read c.requires.hashed rest.2 c.if-branch.true in
+    let has = has-rest SpellDelta (delta_value c.in-Ok.delta) c.args.body c.args.body.digest piece (take of-body s.window) rest.0 _ is long c.in-Ok.ensures.read c.requires.hashed rest.2 c.if-branch.true in
     record {
       looks = took.looks;
       took = (rest.0, took, has);
@@ -65,7 +65,7 @@ returns-else-branch g c =
       took = (
         rest.0,
         took,
-        λ more at. lacks-rest false c.args.body c.args.body.hasher (take of-body s.window) rest.0 more _ long c.requires.hashed rest.2 c.if-branch.false,
+        λ more at. lacks-rest false c.args.body c.args.body.digest (take of-body s.window) rest.0 more _ long c.requires.hashed rest.2 c.if-branch.false,
       );
       outside = tt;
     }

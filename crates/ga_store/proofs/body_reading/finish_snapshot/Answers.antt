@@ -42,7 +42,7 @@ returns-then-branch g c =
     let long : length (take of-body s.window) ≡ of-body = omega (arith, length-take of-body s.window, le) in
     let rest = c.in_ok-take_rest.ensures.took in
     let took = took-then law loaded rest.1 in
-    let has = has-rest SpellSnapshot (snapshot_value c.in-Ok.snapshot) c.args.body c.args.body.hasher piece (take of-body s.window) rest.0 _ is long c.in-Ok.ensures.read c.requires.hashed rest.2 c.if-branch.true in
+    let has = has-rest SpellSnapshot (snapshot_value c.in-Ok.snapshot) c.args.body c.args.body.digest piece (take of-body s.window) rest.0 _ is long c.in-Ok.ensures.read c.requires.hashed rest.2 c.if-branch.true in
     record {
       looks = took.looks;
       took = (rest.0, took, record { has = has; number = own-number c.args.body.reader.head c.in-Ok.snapshot.generation c.in-Ok.ensures.generation });
@@ -65,7 +65,7 @@ returns-else-branch g c =
       took = (
         rest.0,
         took,
-        λ more at. lacks-rest true c.args.body c.args.body.hasher (take of-body s.window) rest.0 more _ long c.requires.hashed rest.2 c.if-branch.false,
+        λ more at. lacks-rest true c.args.body c.args.body.digest (take of-body s.window) rest.0 more _ long c.requires.hashed rest.2 c.if-branch.false,
       );
       outside = tt;
     }

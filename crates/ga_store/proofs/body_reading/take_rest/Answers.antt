@@ -21,5 +21,5 @@ returns g c =
       digest = digest;
       is = refl;
       long = says.long;
-      says = λ message holds. subst (λ (t : List ℕ). (same ≡ true) ↔ (digest ≡ sha256 (message ++ t))) is (says.says (message ++ piece) (c.update.ensures message holds));
+      says = λ bytes holds. subst (λ (t : List ℕ). (same ≡ true) ↔ (digest ≡ sha256 (bytes ++ t))) is (says.says (bytes ++ piece) (c.finish-hasher.ensures bytes holds));
     })
