@@ -11,6 +11,7 @@ mod committing;
 mod db;
 mod fault;
 mod found;
+mod growing;
 mod hands;
 pub mod laws;
 mod mode;
