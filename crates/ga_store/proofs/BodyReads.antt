@@ -1,14 +1,16 @@
 -- Pieces of a body that are read, and what follows from one that is refused.
-use Rattle.std.proofs.Common.{◌≡◌, ℕ, ◌+◌, ◌-◌, ◌*◌, ◌^◌, ◌<◌, ◌≤◌, ◌==◌, Bool, true, List, [], ◌++◌, length, take, drop, min, Option, Some, None, IfSome, option_map, refl, sym, ap, ◌∙◌, subst, arith, append_assoc, length-append, length-take, length-drop}
+use Rattle.std.proofs.Common.{◌≡◌, ℕ, ◌+◌, ◌-◌, ◌*◌, ◌^◌, ◌<◌, ◌≤◌, ◌==◌, Bool, true, false, List, [], ◌++◌, length, take, drop, min, Option, Some, None, IfSome, option_map, refl, sym, ap, ◌∙◌, subst, arith, append_assoc, length-append, length-take, length-drop}
 use Rattle.std.proofs.Math.Seq.{take-append-add, take-append_seam}
-use Rattle.std.proofs.lemmas.Bool.{eqb-true}
+use Rattle.std.proofs.lemmas.Bool.{eqb-true, true≢false}
 use Rattle.std.proofs.lemmas.Bool.Decides.{nat_tests}
 use Rattle.std.proofs.lemmas.List.{append-nil, append_cancel_left, nil_from_length, take-append-drop, take-take}
 use Rattle.sha2.specs.Sha256.{sha256}
 use Rattle.sha2.proofs.Facts256.{length-sha256}
 use Rattle.ga_codec.specs.Pieces.{BeginsNone, HasNone, HeadValue, front_bytes}
-use Rattle.ga_store.specs.Steps.Bodies.{HasRead, IsHashed, LacksBody, PieceRead}
+use Rattle.ga_store.specs.Steps.Bodies.{HasBody, HasRead, IsHashed, LacksBody, PieceRead, size_of}
+use Rattle.ga_store.specs.Steps.SideParts.{HoldsBytes, SaysRest}
 use Rattle.ga_store.specs.Steps.Stream.{StreamView, asked, left}
+use Rattle.ga_store.specs.declared.body_digest.BodyDigest.{BodyDigest}
 use Rattle.ga_store.specs.declared.body_reading.OpenBody.{OpenBody}
 use Rattle.ga_store.proofs.RecoverParts.{long-digested}
 
@@ -153,6 +155,30 @@ pub other-digest : (kind : Bool) (front piece digest rest : List ℕ) (left : �
 other-digest kind front piece digest rest left long size other = λ body tail whole all.
     let here = digested-here front piece digest rest body tail left long size whole all in
     absurd (other (here.is_digest ∙ ap sha256 here.is_body))
+
+-- the rest of a body was taken with its digest
+pub has-rest : {A : Type 0} (Spell : List ℕ → A → Type 0) (value : A) (start : OpenBody) (held : BodyDigest) (piece rest taken : List ℕ) (same : Bool) → piece ≡ rest
+    → length rest ≡ start.left → Spell (front_bytes start.reader ++ piece) value → HoldsBytes held (front_bytes start.reader) → SaysRest held rest same taken
+    → same ≡ true → HasBody Spell value start taken
+has-rest Spell value start held piece rest taken same is long spells holds says e =
+    let front = front_bytes start.reader in
+    let digest : says.digest ≡ sha256 (front ++ rest) = (says.says front holds).0 e in
+    record {
+      body = front ++ rest;
+      size = omega (arith, length-append front rest, long);
+      spells = subst (λ (t : List ℕ). Spell (front ++ t) value) is spells;
+      bytes = ap (λ (t : List ℕ). front ++ t) says.is ∙ sym (append_assoc front rest says.digest) ∙ ap (λ (t : List ℕ). (front ++ rest) ++ t) digest;
+    }
+
+-- it was taken with another digest
+pub lacks-rest : (kind : Bool) (start : OpenBody) (held : BodyDigest) (rest taken more : List ℕ) (same : Bool) → length rest ≡ start.left
+    → HoldsBytes held (front_bytes start.reader) → SaysRest held rest same taken → same ≡ false
+    → LacksBody kind (size_of start) (front_bytes start.reader ++ (taken ++ more))
+lacks-rest kind start held rest taken more same long holds says e =
+    let front = front_bytes start.reader in
+    subst (λ (t : List ℕ). LacksBody kind (length front + start.left) (front ++ (t ++ more))) (sym says.is)
+    (other-digest kind front rest says.digest more start.left long says.long
+    (λ digest. absurd (true≢false (sym ((says.says front holds).1 digest) ∙ e))))
 
 -- the number that was read before is that of the snapshot
 pub own-number : (head : Option HeadValue) (number : ℕ) → option_map (λ h. h.generation) head ≡ Some number → IfSome head (λ h. number ≡ h.generation)

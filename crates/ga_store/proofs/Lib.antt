@@ -5,6 +5,7 @@ pub mod Streaming
 pub mod TakenParts
 pub mod BodyReads
 pub mod StartReads
+pub mod MergedRecords
 pub mod RecordLemmas
 pub mod BothReads
 pub mod RecoverStreams

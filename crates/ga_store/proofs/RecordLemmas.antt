@@ -8,7 +8,6 @@ use Rattle.sha2.specs.Sha256.{sha256}
 use Rattle.ga_base.specs.Totals.{totals_plus}
 use Rattle.ga_summary.specs.Limits.{passes}
 use Rattle.ga_summary.specs.Sums.{IsMerged}
-use Rattle.ga_base.specs.declared.counts.Counter.{Counter}
 use Rattle.ga_codec.specs.Pieces.{BodyFront, front_bytes}
 use Rattle.ga_codec.specs.Shapes.{SpellDelta}
 use Rattle.ga_codec.specs.Spelling.{eight_bytes}
@@ -22,7 +21,7 @@ use Rattle.ga_store.specs.Database.Reading.{damaged, stored}
 use Rattle.ga_store.specs.Database.ReadsOn.{breaks, ends, goes_on}
 use Rattle.ga_store.specs.SideParts.{IsPartAt, StandsAt, is_open_at, open_gate, part_bytes}
 use Rattle.ga_store.specs.Steps.Bodies.{HasBody, HasRead, LacksBody, SaysDelta, size_of}
-use Rattle.ga_store.specs.Steps.Records.{BehindGate, HasDelta, SaysDelta as SaysRecordDelta, SaysRecord, TookRecord}
+use Rattle.ga_store.specs.Steps.Records.{BehindGate, HasDelta, SaysDelta as SaysRecordDelta, SaysRecord, TakesDelta, TookRecord}
 use Rattle.ga_store.specs.Steps.Recovery.{HasRecord, LacksRecord}
 use Rattle.ga_store.specs.Steps.SideParts.{HasSize, SaysGate, SaysSize}
 use Rattle.ga_store.specs.Steps.Stream.{IsAt, IsRest, StreamView, Took, TookOff, place}
@@ -163,13 +162,13 @@ pub record Behind (seen : Option Sides) (s s' : StreamView) (slot : ℕ) (delta 
 next-is : {seen : Option Sides} {s s' : StreamView} {slot : ℕ} {delta : Delta} {taken : List ℕ} {next : ℕ} → Behind seen s s' slot delta taken next → next ≡ slot + length taken
 next-is b = omega (arith, b.at, b.off.long, b.off.size, b.next_is)
 
-pub fills-says : {seen : Option Sides} {s s' : StreamView} {delta : Delta} {taken : List ℕ} {next : ℕ} (old new : DbValue) (x : Counter × ℕ) → OneDelta
-    → Behind seen s s' old.slot delta taken next → passes (totals_plus old.summary.totals (delta_value delta).summary.totals) ≡ Some x → SaysRecord s' old new false taken
+fills-says : {seen : Option Sides} {s s' : StreamView} {delta : Delta} {taken : List ℕ} {next : ℕ} (old new : DbValue) → OneDelta
+    → Behind seen s s' old.slot delta taken next → (passes (totals_plus old.summary.totals (delta_value delta).summary.totals) ≡ None → ⊥) → SaysRecord s' old new false taken
 unfolding next-is has-record
-fills-says {delta = delta} {taken = taken} {next = next} old new x law b full = λ before rest long is other.
-    too-much law (before ++ (taken ++ rest)) old other (delta_value delta) next x (has-record before rest old.slot next long b.has (next-is b) b.fits) full
+fills-says {delta = delta} {taken = taken} {next = next} old new law b full = λ before rest long is other.
+    too-much law (before ++ (taken ++ rest)) old other (delta_value delta) next (has-record before rest old.slot next long b.has (next-is b) b.fits) full
 
-pub took-says : {seen : Option Sides} {s s' : StreamView} {delta : Delta} {taken : List ℕ} {next : ℕ} (old new : DbValue) → old.records ≤ old.slot
+took-says : {seen : Option Sides} {s s' : StreamView} {delta : Delta} {taken : List ℕ} {next : ℕ} (old new : DbValue) → old.records ≤ old.slot
     → Behind seen s s' old.slot delta taken next → passes (totals_plus old.summary.totals (delta_value delta).summary.totals) ≡ None
     → IsMerged old.summary (delta_value delta).summary new.summary
     → new ≡ record old { summary = new.summary; entries = (delta_value delta).entries; records = old.records + 1; slot = next } → TookRecord s' old new taken
@@ -188,6 +187,12 @@ took-says {s' = s'} {delta = delta} {taken = taken} {next = next} old new few b 
       few = omega (arith, few, slot, records, is_next, size);
       some = omega (arith, size);
     }
+
+-- a record that was found is taken on, or isn't
+pub takes-says : {seen : Option Sides} {s s' : StreamView} {delta : Delta} {taken : List ℕ} {next : ℕ} (old new : DbValue) (is_taken : Bool) → OneDelta → old.records ≤ old.slot
+    → Behind seen s s' old.slot delta taken next → TakesDelta old new (delta_value delta) next is_taken → SaysRecord s' old new is_taken taken
+takes-says old new true law few b took = took-says old new few b took.limits took.merged took.others
+takes-says old new false law few b full = fills-says old new law b full
 
 -- no part is there at all
 pub size-none : (s : StreamView) (size : Option ℕ) (taken : List ℕ) → size ≡ None → SaysSize s size taken → SaysRecordDelta s None taken

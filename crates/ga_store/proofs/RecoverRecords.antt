@@ -1,6 +1,5 @@
 -- A run record after a gate that is taken on, and one that isn't.
-use Rattle.std.proofs.Common.{◌≡◌, ℕ, ◌+◌, true, List, Option, Some, None, refl, ap, ◌∙◌, subst}
-use Rattle.ga_base.specs.declared.counts.Counter.{Counter}
+use Rattle.std.proofs.Common.{◌≡◌, ℕ, ◌+◌, true, List, None, ap, ◌∙◌, subst}
 use Rattle.ga_summary.specs.Limits.{passes}
 use Rattle.ga_base.specs.Totals.{totals_plus}
 use Rattle.ga_summary.specs.Sums.{IsMerged}
@@ -14,10 +13,6 @@ use Rattle.ga_store.proofs.RecoverParts.{one-part}
 -- a row of bytes spells one run record
 abbrev pub OneDelta : Type 0
 OneDelta = (bytes : List ℕ) (a b : DeltaValue) → SpellDelta bytes a → SpellDelta bytes b → a ≡ b
-
-pub no-total : (o : Option (Counter × ℕ)) → ((which : Counter) (total : ℕ) → o ≡ Some (which, total) → ⊥) → o ≡ None
-no-total None none = refl
-no-total (Some (which, total)) none = absurd (none which total refl)
 
 pub taken-on : (side : List ℕ) (old new : DbValue) (delta : DeltaValue) (next : ℕ) → is_open_at side old.slot ≡ true → HasRecord side old.slot delta next
     → passes (totals_plus old.summary.totals delta.summary.totals) ≡ None → IsMerged old.summary delta.summary new.summary
@@ -42,12 +37,11 @@ one-record law side old next delta end h t =
     let same = one-part side h.body t.body (old.slot + 1) h.part t.part in
     law t.body delta t.delta (subst (λ (b : List ℕ). SpellDelta b delta) same h.spells) t.spells
 
-pub too-much : OneDelta → (side : List ℕ) (old next : DbValue) (delta : DeltaValue) (end : ℕ) (x : Counter × ℕ) → HasRecord side old.slot delta end
-    → passes (totals_plus old.summary.totals delta.summary.totals) ≡ Some x → TakesOn side old next → ⊥
-too-much law side old next delta end x h full t =
+pub too-much : OneDelta → (side : List ℕ) (old next : DbValue) (delta : DeltaValue) (end : ℕ) → HasRecord side old.slot delta end
+    → (passes (totals_plus old.summary.totals delta.summary.totals) ≡ None → ⊥) → TakesOn side old next → ⊥
+too-much law side old next delta end h full t =
     let same = ap (λ (d : DeltaValue). passes (totals_plus old.summary.totals d.summary.totals)) (one-record law side old next delta end h t) in
-    let limits = t.limits in
-    cc
+    full (same ∙ t.limits)
 
 -- no part there has a run record
 pub no-part : (side : List ℕ) (slot : ℕ) → ((body : List ℕ) → IsPartAt side (slot + 1) body → ⊥) → LacksRecord side slot

@@ -1,18 +1,13 @@
-ghost use Rattle.std.specs.Prelude.{◌≡◌, ◌↔◌, ◌+◌, ◌<◌, ◌≤◌, ℕ, Some, IsErrOf, OnErr, OnOk};
-ghost use Rattle.ga_base.specs.declared.counts.Counter.{Counter};
+ghost use Rattle.std.specs.Prelude.{◌≡◌, ◌≤◌, Some};
 ghost use Rattle.ga_base.specs.declared.counts.TheConstants.{LIMIT};
-ghost use Rattle.ga_summary.specs.Limits.{passes};
-ghost use Rattle.ga_base.specs.Totals.{totals_plus};
-ghost use Rattle.ga_summary.specs.Sums.{IsMerged};
-ghost use Rattle.ga_summary.specs.declared.fault.MergeFault.{MergeFault};
-ghost use Rattle.ga_codec.specs.Values.{delta_value, snapshot_value};
+ghost use Rattle.ga_codec.specs.Values.{snapshot_value};
 ghost use Rattle.ga_store.specs.Database.{empty_db, of_snapshot};
 
 use crate::Position;
-use crate::found::{FirstPart, RecordPart};
+use crate::found::FirstPart;
 use ga_base::Entries;
+use ga_summary::Summary;
 use ga_summary::laws::one_sum;
-use ga_summary::{MergeFault, Summary};
 use std::alloc::Global;
 
 /// A database as it was recovered.
@@ -78,27 +73,5 @@ impl Db {
             records: 0,
             slot: next,
         }
-    }
-
-    /// Takes on a run record. After an `Err` the database is as it was.
-    pub(crate) fn take_on(&mut self, found: RecordPart) -> Result<(), MergeFault>
-        requires few { self.old.records < found.next }
-        ensures merged { OnOk result (IsMerged self.old.summary found.delta.summary self.new.summary) }
-        ensures others { OnOk result (db_value self.new ≡ record (db_value self.old) {
-          summary = self.new.summary;
-          entries = (delta_value found.delta).entries;
-          records = self.old.records + 1;
-          slot = found.next;
-        }) }
-        ensures full { (which : Counter) (total : ℕ) → IsErrOf result (MergeFault.CounterFull which total)
-            ↔ (passes (totals_plus self.old.summary.totals found.delta.summary.totals) ≡ Some (which, total)) }
-        ensures unchanged { OnErr result (db_value self.new ≡ db_value self.old) }
-    {
-        let RecordPart { delta, next } = found;
-        self.summary.merge(&delta.summary)?;
-        self.entries = delta.entries;
-        self.records += 1;
-        self.slot = next;
-        Ok(())
     }
 }

@@ -3,10 +3,12 @@ ghost use Rattle.ga_codec.specs.Values.{snapshot_value};
 ghost use Rattle.ga_store.specs.Database.{of_snapshot};
 ghost use Rattle.ga_store.specs.Steps.Records.{BehindGate, SaysDelta, SaysOn, SaysRecord};
 ghost use Rattle.ga_store.specs.Steps.Stream.{IsAt, IsOf, Streams};
-ghost use Rattle.ga_store.specs.Store.{db_value};
 
+use crate::body_digest::BodyDigest;
 use crate::body_reading::{OpenBody, finish_delta, read_rows};
 use crate::found::{FirstPart, RecordPart};
+use crate::growing::Growing;
+use crate::hands::Hands;
 use crate::side_parts::{is_open, take_size};
 use crate::side_stream::SideStream;
 use crate::starts::Said;
@@ -14,13 +16,10 @@ use crate::{Db, StoreFault};
 use ga_codec::laws::one_delta_reading;
 use ga_codec::{BodyReader, Delta};
 use ga_disk::Disk;
-use ga_summary::MergeFault;
-use sha2::{Digest, Sha256};
-use std::alloc::Global;
 
 /// Takes the records after the snapshot of a side with this number, up to the first closed gate.
-pub(crate) fn read_on<D: Disk>(
-    alloc: Global,
+pub(crate) fn read_on<H: Hands, D: Disk>(
+    hands: &H,
     disk: &mut D,
     stream: &mut SideStream,
     number: u32,
@@ -32,50 +31,46 @@ pub(crate) fn read_on<D: Disk>(
     ensures { Streams (D.view disk.old) (D.view disk.new) (D.images disk.old) (D.images disk.new) stream.old stream.new
         (SaysOn stream.new number (of_snapshot number first.next (snapshot_value first.snapshot))) result }
 {
-    let mut db = Db::of_first(number, first);
+    let mut growing = Growing::of(hands.alloc(), Db::of_first(number, first));
     while is_open(disk, stream)? {
-        let slot = db.slot;
-        if !take_record(alloc, disk, stream, &mut db)? {
+        let slot = growing.slot();
+        if !take_record(hands, disk, stream, &mut growing)? {
             return Ok(Said::Damaged {
                 side: number,
                 at: slot + 1,
             });
         }
     }
-    Ok(Said::Database(db))
+    Ok(Said::Database(growing.into_db()?))
 }
 
 /// Takes the record after the open gate that comes next, and answers whether there is one that the database can take on.
-fn take_record<D: Disk>(
-    alloc: Global,
+fn take_record<H: Hands, D: Disk>(
+    hands: &H,
     disk: &mut D,
     stream: &mut SideStream,
-    db: &mut Db,
+    growing: &mut Growing,
 ) -> Result<bool, StoreFault>
     requires open { IsTrue (D.view disk.old).is_open }
     requires told { IsOf stream.old (D.view disk.old).seen }
     requires gate { BehindGate stream.old }
-    requires place { IsAt stream.old db.old.slot }
-    requires few { db.old.records ≤ db.old.slot }
+    requires place { IsAt stream.old growing.old.slot }
+    requires few { growing.old.records ≤ growing.old.slot }
     ensures { Streams (D.view disk.old) (D.view disk.new) (D.images disk.old) (D.images disk.new) stream.old stream.new
-        (SaysRecord stream.new (db_value db.old) (db_value db.new)) result }
+        (SaysRecord stream.new growing.old growing.new) result }
 {
     // That a row of bytes is one run record, for the proof alone.
     one_delta_reading();
-    let Some(delta) = read_delta(alloc, disk, stream)? else {
+    let Some(delta) = read_delta(hands, disk, stream)? else {
         return Ok(false);
     };
     let next = stream.place();
-    match db.take_on(RecordPart { delta, next }) {
-        Ok(()) => Ok(true),
-        Err(MergeFault::CounterFull { .. }) => Ok(false),
-        Err(MergeFault::NoMemory) => Err(StoreFault::NoMemory),
-    }
+    Ok(growing.take_on(hands.alloc(), RecordPart { delta, next })?)
 }
 
 /// Takes the open gate that comes next, and the run record after it; None where no part with one is there.
-fn read_delta<D: Disk>(
-    alloc: Global,
+fn read_delta<H: Hands, D: Disk>(
+    hands: &H,
     disk: &mut D,
     stream: &mut SideStream,
 ) -> Result<Option<Delta>, StoreFault>
@@ -89,12 +84,12 @@ fn read_delta<D: Disk>(
         return Ok(None);
     };
     let mut body = OpenBody {
-        reader: BodyReader::of_delta(alloc),
-        hasher: Sha256::new(),
+        reader: BodyReader::of_delta(hands.alloc()),
+        digest: BodyDigest::new(hands.alloc()),
         left: size,
     };
-    if !read_rows(alloc, disk, stream, &mut body)? {
+    if !read_rows(hands, disk, stream, &mut body)? {
         return Ok(None);
     }
-    finish_delta(alloc, disk, stream, body)
+    finish_delta(hands, disk, stream, body)
 }

@@ -4,11 +4,13 @@ ghost use Rattle.ga_disk.specs.Images.{OnlyImage};
 ghost use Rattle.ga_store.specs.Store.{Looks, Recovers, SyncsBoth, is_disk_fault};
 ghost use Rattle.ga_store.specs.declared.fault.StoreFault.TheVariants.{DiskFault};
 
+use crate::hands::{AtOnce, Hands, InTurn};
 use crate::side_reading::read_sides;
 use crate::side_stream::SideStream;
 use crate::{Db, StoreFault};
 use ga_disk::Disk;
 use std::alloc::Global;
+use std::thread::Threads;
 
 /// Recovers the database of an open disk: it syncs side 0, then side 1, and then reads them, slice by slice.
 ///
@@ -18,10 +20,34 @@ pub fn recover<D: Disk>(alloc: Global, disk: &mut D) -> Result<Db, StoreFault>
     requires { IsTrue (D.view disk.old).is_open }
     ensures { Recovers D.view D.images disk.old disk.new result }
 {
+    recover_by(&InTurn { alloc }, disk)
+}
+
+/// As `recover`, with a thread beside it where `jobs` is more than one: it digests a slice while the next one is decoded.
+pub fn recover_with<R: Threads + Sync, D: Disk>(
+    rt: &R,
+    alloc: Global,
+    disk: &mut D,
+    jobs: u32,
+) -> Result<Db, StoreFault>
+    requires { IsTrue (D.view disk.old).is_open }
+    ensures { Recovers D.view D.images disk.old disk.new result }
+{
+    if jobs > 1 {
+        return recover_by(&AtOnce { rt, alloc }, disk);
+    }
+    recover_by(&InTurn { alloc }, disk)
+}
+
+/// As `recover`, where bodies are read and digested by these hands.
+fn recover_by<H: Hands, D: Disk>(hands: &H, disk: &mut D) -> Result<Db, StoreFault>
+    requires { IsTrue (D.view disk.old).is_open }
+    ensures { Recovers D.view D.images disk.old disk.new result }
+{
     settle(disk)?;
-    let mut stream0 = SideStream::open(alloc, disk, 0)?;
-    let mut stream1 = SideStream::open(alloc, disk, 1)?;
-    let said = read_sides(alloc, disk, &mut stream0, &mut stream1)?;
+    let mut stream0 = SideStream::open(hands.alloc(), disk, 0)?;
+    let mut stream1 = SideStream::open(hands.alloc(), disk, 1)?;
+    let said = read_sides(hands, disk, &mut stream0, &mut stream1)?;
     stream0.drain(disk)?;
     stream1.drain(disk)?;
     said.answer()

@@ -5,17 +5,17 @@ ghost use Rattle.ga_store.specs.Steps.Stream.{IsAt, IsOf, Streams};
 ghost use Rattle.ga_store.specs.declared.starts.Start.{Start};
 
 use crate::found::FirstPart;
+use crate::hands::Hands;
 use crate::record_reading::read_on;
 use crate::side_stream::SideStream;
 use crate::start_reading::{begin, finish};
 use crate::starts::{Begun, Said, Start};
 use crate::{Db, StoreFault};
 use ga_disk::Disk;
-use std::alloc::Global;
 
 /// What two sides say, of which nothing was taken.
-pub(crate) fn read_sides<D: Disk>(
-    alloc: Global,
+pub(crate) fn read_sides<H: Hands, D: Disk>(
+    hands: &H,
     disk: &mut D,
     stream0: &mut SideStream,
     stream1: &mut SideStream,
@@ -29,16 +29,16 @@ pub(crate) fn read_sides<D: Disk>(
         (record { s0 = stream0.old; s1 = stream1.old }) (record { s0 = stream0.new; s1 = stream1.new })
         (AllSay (record { s0 = stream0.new; s1 = stream1.new })) result }
 {
-    let begun0 = begin(alloc, disk, stream0)?;
-    let begun1 = begin(alloc, disk, stream1)?;
-    let (start0, start1) = finish_both(alloc, disk, stream0, stream1, begun0, begun1)?;
-    choose(alloc, disk, stream0, stream1, start0, start1)
+    let begun0 = begin(hands, disk, stream0)?;
+    let begun1 = begin(hands, disk, stream1)?;
+    let (start0, start1) = finish_both(hands, disk, stream0, stream1, begun0, begun1)?;
+    choose(hands, disk, stream0, stream1, start0, start1)
 }
 
 /// Reads two starts to their ends, first that with the earlier number, so that its snapshot is dropped before the other is
 /// made.
-fn finish_both<D: Disk>(
-    alloc: Global,
+fn finish_both<H: Hands, D: Disk>(
+    hands: &H,
     disk: &mut D,
     stream0: &mut SideStream,
     stream1: &mut SideStream,
@@ -56,18 +56,18 @@ fn finish_both<D: Disk>(
 {
     let (number0, number1) = (begun0.number(), begun1.number());
     if number1 < number0 {
-        let start1 = finish(alloc, disk, stream1, begun1, number0)?;
-        let start0 = finish(alloc, disk, stream0, begun0, number1)?;
+        let start1 = finish(hands, disk, stream1, begun1, number0)?;
+        let start0 = finish(hands, disk, stream0, begun0, number1)?;
         return Ok((start0, start1));
     }
-    let start0 = finish(alloc, disk, stream0, begun0, number1)?;
-    let start1 = finish(alloc, disk, stream1, begun1, number0)?;
+    let start0 = finish(hands, disk, stream0, begun0, number1)?;
+    let start1 = finish(hands, disk, stream1, begun1, number0)?;
     Ok((start0, start1))
 }
 
 /// Reads on the side that has the later snapshot; damage of side 0 comes first.
-fn choose<D: Disk>(
-    alloc: Global,
+fn choose<H: Hands, D: Disk>(
+    hands: &H,
     disk: &mut D,
     stream0: &mut SideStream,
     stream1: &mut SideStream,
@@ -85,15 +85,15 @@ fn choose<D: Disk>(
 {
     match start0 {
         Start::Damaged => Ok(Said::Damaged { side: 0, at: 1 }),
-        Start::Snapshot(first) => choose_first(alloc, disk, stream0, stream1, first, start1),
-        Start::Unused => choose_second(alloc, disk, stream1, start1),
-        Start::Older => choose_second(alloc, disk, stream1, start1),
+        Start::Snapshot(first) => choose_first(hands, disk, stream0, stream1, first, start1),
+        Start::Unused => choose_second(hands, disk, stream1, start1),
+        Start::Older => choose_second(hands, disk, stream1, start1),
     }
 }
 
 /// The same where side 0 has this snapshot.
-fn choose_first<D: Disk>(
-    alloc: Global,
+fn choose_first<H: Hands, D: Disk>(
+    hands: &H,
     disk: &mut D,
     stream0: &mut SideStream,
     stream1: &mut SideStream,
@@ -111,15 +111,15 @@ fn choose_first<D: Disk>(
 {
     match start1 {
         Start::Damaged => Ok(Said::Damaged { side: 1, at: 1 }),
-        Start::Snapshot(second) => read_later(alloc, disk, stream0, stream1, first, second),
-        Start::Unused => read_on(alloc, disk, stream0, 0, first),
-        Start::Older => read_on(alloc, disk, stream0, 0, first),
+        Start::Snapshot(second) => read_later(hands, disk, stream0, stream1, first, second),
+        Start::Unused => read_on(hands, disk, stream0, 0, first),
+        Start::Older => read_on(hands, disk, stream0, 0, first),
     }
 }
 
 /// The same where side 0 is unused or has an older snapshot.
-fn choose_second<D: Disk>(
-    alloc: Global,
+fn choose_second<H: Hands, D: Disk>(
+    hands: &H,
     disk: &mut D,
     stream1: &mut SideStream,
     start1: Start,
@@ -132,15 +132,15 @@ fn choose_second<D: Disk>(
 {
     match start1 {
         Start::Damaged => Ok(Said::Damaged { side: 1, at: 1 }),
-        Start::Snapshot(second) => read_on(alloc, disk, stream1, 1, second),
-        Start::Unused => Ok(Said::Database(Db::empty(alloc))),
-        Start::Older => Ok(Said::Database(Db::empty(alloc))),
+        Start::Snapshot(second) => read_on(hands, disk, stream1, 1, second),
+        Start::Unused => Ok(Said::Database(Db::empty(hands.alloc()))),
+        Start::Older => Ok(Said::Database(Db::empty(hands.alloc()))),
     }
 }
 
 /// Reads on the side that has the later of two snapshots. Two of one generation are damage of side 1.
-fn read_later<D: Disk>(
-    alloc: Global,
+fn read_later<H: Hands, D: Disk>(
+    hands: &H,
     disk: &mut D,
     stream0: &mut SideStream,
     stream1: &mut SideStream,
@@ -157,10 +157,10 @@ fn read_later<D: Disk>(
         (SidesSay (record { s0 = stream0.new; s1 = stream1.new }) (Start.Snapshot first) (Start.Snapshot second)) result }
 {
     if first.snapshot.generation < second.snapshot.generation {
-        return read_on(alloc, disk, stream1, 1, second);
+        return read_on(hands, disk, stream1, 1, second);
     }
     if first.snapshot.generation == second.snapshot.generation {
         return Ok(Said::Damaged { side: 1, at: 1 });
     }
-    read_on(alloc, disk, stream0, 0, first)
+    read_on(hands, disk, stream0, 0, first)
 }

@@ -4,19 +4,19 @@ ghost use Rattle.ga_store.specs.Steps.Starts.{BegunGoesOn, BodyGoesOn, CanGoOn, 
 ghost use Rattle.ga_store.specs.Steps.Stream.{IsOf, Streams};
 
 use crate::StoreFault;
+use crate::body_digest::BodyDigest;
 use crate::body_reading::{OpenBody, finish_snapshot, read_next, read_rows};
 use crate::found::FirstPart;
+use crate::hands::Hands;
 use crate::side_parts::{is_open, take_size};
 use crate::side_stream::SideStream;
 use crate::starts::{Begun, Start};
 use ga_codec::BodyReader;
 use ga_disk::Disk;
-use sha2::{Digest, Sha256};
-use std::alloc::Global;
 
 /// Reads the first slices of a side, in which the number of its snapshot stands.
-pub(crate) fn begin<D: Disk>(
-    alloc: Global,
+pub(crate) fn begin<H: Hands, D: Disk>(
+    hands: &H,
     disk: &mut D,
     stream: &mut SideStream,
 ) -> Result<Begun, StoreFault>
@@ -32,11 +32,11 @@ pub(crate) fn begin<D: Disk>(
         return Ok(Begun::Damaged);
     };
     let mut body = OpenBody {
-        reader: BodyReader::of_snapshot(alloc),
-        hasher: Sha256::new(),
+        reader: BodyReader::of_snapshot(hands.alloc()),
+        digest: BodyDigest::new(hands.alloc()),
         left: size,
     };
-    if read_next(alloc, disk, stream, &mut body)? {
+    if read_next(hands, disk, stream, &mut body)? {
         Ok(Begun::Body(body))
     } else {
         Ok(Begun::Damaged)
@@ -44,8 +44,8 @@ pub(crate) fn begin<D: Disk>(
 }
 
 /// Reads a start to its end. The snapshot is dropped where the other side has a later number.
-pub(crate) fn finish<D: Disk>(
-    alloc: Global,
+pub(crate) fn finish<H: Hands, D: Disk>(
+    hands: &H,
     disk: &mut D,
     stream: &mut SideStream,
     begun: Begun,
@@ -60,13 +60,13 @@ pub(crate) fn finish<D: Disk>(
     match begun {
         Begun::Unused => Ok(Start::Unused),
         Begun::Damaged => Ok(Start::Damaged),
-        Begun::Body(body) => finish_body(alloc, disk, stream, body, other),
+        Begun::Body(body) => finish_body(hands, disk, stream, body, other),
     }
 }
 
 /// The same of a part that was begun.
-fn finish_body<D: Disk>(
-    alloc: Global,
+fn finish_body<H: Hands, D: Disk>(
+    hands: &H,
     disk: &mut D,
     stream: &mut SideStream,
     body: OpenBody,
@@ -79,10 +79,10 @@ fn finish_body<D: Disk>(
         (BodyGoesOn stream.new body other) result }
 {
     let mut body = body;
-    if !read_rows(alloc, disk, stream, &mut body)? {
+    if !read_rows(hands, disk, stream, &mut body)? {
         return Ok(Start::Damaged);
     }
-    let Some(snapshot) = finish_snapshot(alloc, disk, stream, body)? else {
+    let Some(snapshot) = finish_snapshot(hands, disk, stream, body)? else {
         return Ok(Start::Damaged);
     };
     if is_later(other, snapshot.generation) {

@@ -10,9 +10,10 @@ use ga_codec::{
     CodecFault, Delta, Snapshot, read_delta, read_snapshot, write_delta, write_snapshot,
 };
 use ga_ports::Disk;
-use ga_store::{Db, Mode, Prepared, StoreFault, commit, prepare, recover};
+use ga_store::{Db, Mode, Prepared, StoreFault, commit, prepare, recover, recover_with};
 use ga_summary::Summary;
 use std::alloc::Global;
+use std::thread::Threads;
 
 /// The faults of bytes.
 pub const CODEC_FAULTS: [CodecFault; 2] = [
@@ -75,6 +76,18 @@ pub fn database<D: Disk>(alloc: Global, disk: &mut D) -> Result<Db, StoreFault>
     requires { IsTrue (D.view disk.old).is_open }
 {
     recover(alloc, disk)
+}
+
+/// The database of a disk, by two threads where there are more jobs than one.
+pub fn database_by<R: Threads + Sync, D: Disk>(
+    rt: &R,
+    alloc: Global,
+    disk: &mut D,
+    jobs: u32,
+) -> Result<Db, StoreFault>
+    requires { IsTrue (D.view disk.old).is_open }
+{
+    recover_with(rt, alloc, disk, jobs)
 }
 
 /// The place of the next record of a database, of which each field is named.

@@ -1,22 +1,30 @@
 -- Bodies that are read and digested as they come.
-use Rattle.std.specs.Prelude.{◌≡◌, ℕ, ◌+◌, ◌-◌, ◌<◌, Bool, true, false, List, ◌++◌, length, Option, Some, None, IfSome}
-use Rattle.sha2.specs.Hashers.{Holds256}
+use Rattle.std.specs.Prelude.{◌≡◌, ℕ, ◌+◌, ◌-◌, ◌<◌, Bool, true, false, List, ◌++◌, length, Option, Some, None, Result, IfOk, IfSome, IsErrOf, OnOk}
 use Rattle.sha2.specs.Sha256.{sha256}
-use Rattle.ga_codec.specs.Pieces.{GoesOn, HasNone, front_bytes, is_full}
+use Rattle.ga_codec.specs.Pieces.{BeginsNone, BodyFront, GoesOn, HasNone, front_bytes, is_full}
 use Rattle.ga_codec.specs.Shapes.{SpellDelta, SpellSnapshot}
 use Rattle.ga_codec.specs.Values.{delta_value, snapshot_value}
+use Rattle.ga_codec.specs.declared.fault.CodecFault.{CodecFault}
+use Rattle.ga_codec.specs.declared.fault.CodecFault.TheVariants.{NotInGrammar}
 use Rattle.ga_codec.specs.declared.snapshot.Delta.{Delta}
 use Rattle.ga_codec.specs.declared.snapshot.Snapshot.{Snapshot}
+use Rattle.ga_store.specs.Steps.SideParts.{HoldsBytes}
 use Rattle.ga_store.specs.Steps.Stream.{IsRest, StreamView, asked}
 use Rattle.ga_store.specs.declared.body_reading.OpenBody.{OpenBody}
 
--- what was read was digested
+-- what was read was digested, or waits for it
 abbrev pub IsHashed : OpenBody → Type 0
-IsHashed body = Holds256 body.hasher (front_bytes body.reader)
+IsHashed body = HoldsBytes body.digest (front_bytes body.reader)
 
 -- the number of a body's bytes
 abbrev pub size_of : OpenBody → ℕ
 size_of body = length (front_bytes body.reader) + body.left
+
+-- a body is read on at the front of a piece
+pub record ReadsOn (piece : List ℕ) (is_last : Bool) (old new : BodyFront) (result : Result ℕ CodecFault) : Type 0 where
+  pub read : IfOk result (λ count. GoesOn count piece old new)
+  pub last : OnOk result (is_last ≡ true → is_full new ≡ true)
+  pub refused : (at : ℕ) → IsErrOf result (NotInGrammar at) → BeginsNone old.is_snapshot is_last (front_bytes old ++ piece)
 
 -- this many bytes of a piece were read
 pub record PieceRead (count : ℕ) (piece : List ℕ) (old new : OpenBody) : Type 0 where

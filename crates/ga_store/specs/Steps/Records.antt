@@ -1,7 +1,10 @@
 -- The records after a snapshot.
-use Rattle.std.specs.Prelude.{◌≡◌, ℕ, ◌≤◌, Bool, true, false, List, ◌∷◌, ◌++◌, length, Option, Some, None}
+use Rattle.std.specs.Prelude.{◌≡◌, ℕ, ◌+◌, ◌≤◌, Bool, true, false, List, ◌∷◌, ◌++◌, length, Option, Some, None}
+use Rattle.ga_base.specs.Totals.{totals_plus}
+use Rattle.ga_summary.specs.Limits.{passes}
+use Rattle.ga_summary.specs.Sums.{IsMerged}
 use Rattle.ga_codec.specs.Shapes.{SpellDelta}
-use Rattle.ga_codec.specs.Values.{delta_value}
+use Rattle.ga_codec.specs.Values.{DeltaValue, delta_value}
 use Rattle.ga_codec.specs.declared.snapshot.Delta.{Delta}
 use Rattle.ga_store.specs.SideParts.{is_open_at, part_bytes}
 use Rattle.ga_store.specs.Database.{DbValue, ReadsOn, TakesOn}
@@ -25,6 +28,17 @@ pub record HasDelta (delta : Delta) (taken : List ℕ) : Type 0 where
 abbrev pub SaysDelta : StreamView → Option Delta → List ℕ → Type 0
 SaysDelta s (Some delta) taken = HasDelta delta taken
 SaysDelta s None taken = (rest : List ℕ) → IsRest s rest → LacksRecord (taken ++ rest) 0
+
+-- a run record was taken on, which the gate at this place follows
+pub record TookDelta (old new : DbValue) (delta : DeltaValue) (next : ℕ) : Type 0 where
+  pub limits : passes (totals_plus old.summary.totals delta.summary.totals) ≡ None
+  pub merged : IsMerged old.summary delta.summary new.summary
+  pub others : new ≡ record old { summary = new.summary; entries = delta.entries; records = old.records + 1; slot = next }
+
+-- whether a run record was taken on: not where its totals pass a limit
+abbrev pub TakesDelta : DbValue → DbValue → DeltaValue → ℕ → Bool → Type 0
+TakesDelta old new delta next true = TookDelta old new delta next
+TakesDelta old new delta next false = passes (totals_plus old.summary.totals delta.summary.totals) ≡ None → ⊥
 
 -- behind the bytes up to its slot the database takes on the record
 pub record TookRecord (s : StreamView) (old new : DbValue) (taken : List ℕ) : Type 0 where

@@ -6,6 +6,7 @@ use Rattle.sha2.specs.declared.Sha256.{Sha256}
 use Rattle.ga_codec.specs.Spelling.{eight_bytes}
 use Rattle.ga_store.specs.SideParts.{IsPartAt, is_open_at}
 use Rattle.ga_store.specs.Steps.Stream.{IsRest, StreamView, left}
+use Rattle.ga_store.specs.declared.body_digest.BodyDigest.{BodyDigest}
 
 -- whether the gate that comes next is open; nothing was taken
 pub record SaysGate (s : StreamView) (is_open : Bool) (taken : List ℕ) : Type 0 where
@@ -28,3 +29,20 @@ SaysSize s (Some size) taken = HasSize s size taken
 pub record SaysDigest (hasher : Sha256) (same : Bool) (taken : List ℕ) : Type 0 where
   pub long : length taken ≡ 32
   pub says : (message : List ℕ) → Holds256 hasher message → (same ≡ true) ↔ (taken ≡ sha256 message)
+
+-- these bytes were read of a body: they were digested but for the last, which wait for it
+pub record HoldsBytes (held : BodyDigest) (bytes : List ℕ) : Type 0 where
+  pub digested : List ℕ
+  pub holds : Holds256 held.hasher digested
+  pub is : bytes ≡ digested ++ held.waiting.items
+
+-- all bytes that were read are digested
+abbrev pub DigestsAll : BodyDigest → BodyDigest → Type 0
+DigestsAll old new = (bytes : List ℕ) → HoldsBytes old bytes → Holds256 new.hasher bytes
+
+-- the rest of a body was taken, and a digest, and this is whether it is that of what was read and the rest
+pub record SaysRest (held : BodyDigest) (rest : List ℕ) (same : Bool) (taken : List ℕ) : Type 0 where
+  pub digest : List ℕ
+  pub is : taken ≡ rest ++ digest
+  pub long : length digest ≡ 32
+  pub says : (bytes : List ℕ) → HoldsBytes held bytes → (same ≡ true) ↔ (digest ≡ sha256 (bytes ++ rest))

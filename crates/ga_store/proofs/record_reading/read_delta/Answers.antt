@@ -25,7 +25,7 @@ pub returns-then-not-branch : goal.returns-then-not-branch
 returns-then-not-branch g c =
     let first = c.in_ok-size.ensures.took in
     let rows = c.in_ok-read_rows.ensures.took in
-    let start : OpenBody = record { reader = c.of_delta.result; hasher = c.new.result; left = c.in-Some.size } in
+    let start : OpenBody = record { reader = c.of_delta.result; digest = c.new.result; left = c.in-Some.size } in
     let has = subst (λ (o : Option ℕ). SaysSize c.take_size.new.stream o first.0) c.in-Some.is first.2 in
     let lacks = subst (λ (b : Bool). SaysRows c.read_rows.new.stream start c.read_rows.new.body b rows.0) c.if-not-branch.true rows.2 in
     let took = took-then (g.D.Disk.counts_now c.args.disk.now) first.1 rows.1 in
@@ -40,7 +40,7 @@ returns g c =
     let law = g.D.Disk.counts_now c.args.disk.now in
     let first = c.in_ok-size.ensures.took in
     let rows = c.in_ok-read_rows.ensures.took in
-    let start : OpenBody = record { reader = c.of_delta.result; hasher = c.new.result; left = c.in-Some.size } in
+    let start : OpenBody = record { reader = c.of_delta.result; digest = c.new.result; left = c.in-Some.size } in
     let has = subst (λ (o : Option ℕ). SaysSize c.take_size.new.stream o first.0) c.in-Some.is first.2 in
     let read = subst (λ (b : Bool). SaysRows c.read_rows.new.stream start c.read_rows.new.body b rows.0) c.if-not-branch.false rows.2 in
     streams-then c.finish_delta.result law (took-then law first.1 rows.1) c.finish_delta.ensures

@@ -59,7 +59,7 @@ returns-then-branch g c =
     let size = c.in-Some.size in
     let is : sized.0 ≡ open_gate ∷ eight_bytes size = open-size (g.D.Disk.view c.is_open.new.disk).seen c.is_open.new.stream c.take_size.new.stream size opened.0 sized.0 gate sized.1.off has in
     let second = took-then law first sized.1 in
-    let old : OpenBody = record { reader = c.of_snapshot.result; hasher = c.new.result; left = size } in
+    let old : OpenBody = record { reader = c.of_snapshot.result; digest = c.new.result; left = size } in
     let next = c.in_ok-read_next.ensures.took in
     let says = subst (λ (b : Bool). SaysNext c.take_size.new.stream c.read_next.new.stream old c.read_next.new.body b next.0) c.if-branch.true next.2 in
     let third = took-then law second next.1 in
@@ -91,7 +91,7 @@ returns-else-branch g c =
     let size = c.in-Some.size in
     let is : sized.0 ≡ open_gate ∷ eight_bytes size = open-size (g.D.Disk.view c.is_open.new.disk).seen c.is_open.new.stream c.take_size.new.stream size opened.0 sized.0 gate sized.1.off has in
     let second = took-then law first sized.1 in
-    let old : OpenBody = record { reader = c.of_snapshot.result; hasher = c.new.result; left = size } in
+    let old : OpenBody = record { reader = c.of_snapshot.result; digest = c.new.result; left = size } in
     let next = c.in_ok-read_next.ensures.took in
     let says = subst (λ (b : Bool). SaysNext c.take_size.new.stream c.read_next.new.stream old c.read_next.new.body b next.0) c.if-branch.false next.2 in
     let third = took-then law second next.1 in

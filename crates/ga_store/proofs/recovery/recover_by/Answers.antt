@@ -12,7 +12,7 @@ use Rattle.ga_store.specs.declared.fault.StoreFault.{StoreFault}
 use Rattle.ga_store.proofs.RecoverDisk.{BothRead, both-told, looks-then, only-fewer, recovers, recovers-not, seen-same}
 use Rattle.ga_store.proofs.RecoverStreams.{all-long, all-reads, all-told, calls-sum, last-rest, says-answer}
 use Rattle.ga_store.proofs.Streaming.{off-then}
-use Rattle.ga_store.proofs.recovery.recover.Goals as goal
+use Rattle.ga_store.proofs.recovery.recover_by.Goals as goal
 
 pub returns-in_err-stream0 : goal.returns-in_err-stream0
 returns-in_err-stream0 g c =

@@ -1,0 +1,8 @@
+use Rattle.std.proofs.Common.{ℕ, List, ◌++◌, sym, ap, ◌∙◌, subst}
+use Rattle.sha2.specs.Hashers.{Holds256}
+use Rattle.ga_store.proofs.body_digest.BodyDigest.digest_waiting.Goals as goal
+
+pub returns : goal.returns
+returns c = λ bytes held.
+    subst (λ (t : List ℕ). Holds256 c.update.new.self t) (ap (λ (t : List ℕ). held.digested ++ t) c.as_slice.ensures.value ∙ sym held.is)
+    (c.update.ensures held.digested held.holds)
