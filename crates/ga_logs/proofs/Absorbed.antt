@@ -2,7 +2,7 @@
 use Rattle.std.proofs.Common.{◌≡◌, ◌<◌, nat_lt, get_or, remove, List, [], ◌∷◌, length, map, sym, ap, ◌∙◌, subst, arith}
 use Rattle.ga_base.specs.declared.counts.Sums.{Sums}
 use Rattle.ga_base.specs.declared.counts.Totals.{Totals}
-use Rattle.ga_base.specs.Totals.{no_totals, totals_plus, TotalsFit}
+use Rattle.ga_base.specs.Totals.{TotalsFit}
 use Rattle.ga_workers.proofs.Together.{none-plus}
 use Rattle.ga_workers.specs.Together.{AreAlike, AreCounted, totals_in}
 use Rattle.ga_logs.proofs.Counts.{no-tallies}

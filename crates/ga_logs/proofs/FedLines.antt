@@ -1,6 +1,6 @@
 -- The lines of a stream that was fed piece by piece, while batches were taken in between.
-use Rattle.std.proofs.Common.{◌≡◌, ℕ, Bool, true, false, List, [], ◌∷◌, ◌++◌, refl, sym, ap, ◌∙◌, subst, append_assoc}
-use Rattle.std.specs.List.{AllByRecursion, concat, flat_map}
+use Rattle.std.proofs.Common.{◌≡◌, ℕ, Bool, true, List, [], ◌∷◌, ◌++◌, refl, sym, ap, ◌∙◌, subst, append_assoc}
+use Rattle.std.specs.List.{AllByRecursion, concat}
 use Rattle.ga_base.specs.Lines.{IsEnded}
 use Rattle.ga_batches.specs.Batches.{BatcherSeen, held}
 use Rattle.ga_batches.specs.Fed.{AreItsBatches}

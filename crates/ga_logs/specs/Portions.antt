@@ -1,5 +1,5 @@
 -- Which part of a log a run counts, by the entries that the runs before it left, and what becomes of these.
-use Rattle.std.specs.Prelude.{◌≡◌, ℕ, ◌+◌, ◌≤◌, true, List, [], length, min, take, drop, ◌++◌, Option, Some, None}
+use Rattle.std.specs.Prelude.{◌≡◌, ℕ, ◌+◌, true, List, [], length, min, take, drop, ◌++◌, Option, Some, None}
 use Rattle.std.specs.List.{flat_map}
 use Rattle.ga_base.specs.declared.entry.Entry.{Entry}
 use Rattle.ga_generate.specs.Lines.{generated}

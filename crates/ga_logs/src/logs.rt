@@ -1,14 +1,14 @@
-ghost use Rattle.std.specs.Prelude.{◌≢◌, ◌+◌, ◌≤◌, ℕ, List, IfOk, IfErr, OnOk};
+ghost use Rattle.std.specs.Prelude.{◌≡◌, ◌≢◌, ◌+◌, ◌≤◌, [], ℕ, List, IfOk, IfErr, OnOk};
 ghost use Rattle.ga_ports.specs.Trace.{FilesTrace};
 ghost use Rattle.ga_resume.specs.declared.fault.PlaceFault.TheVariants.{FileFault};
 ghost use Rattle.ga_workers.specs.Workers.{AreWorkers};
 ghost use Rattle.ga_base.specs.Totals.{LinesAdd, TotalsFit};
-ghost use Rattle.ga_logs.specs.Counting.{IsCountedBy};
+ghost use Rattle.ga_logs.specs.Counting.{HasCounted, IsCountedBy, begun_with};
 ghost use Rattle.ga_logs.specs.Following.{CanServe, CanServeOne};
 ghost use Rattle.ga_logs.specs.Logs.{CountsLogs, NoneFailed, StopsLogs};
 ghost use Rattle.ga_logs.specs.Portions.{Begins, Follows, generated_lines};
 ghost use Rattle.ga_base.specs.Lines.{AreEnded};
-ghost use Rattle.ga_logs.specs.Steps.Logs.{CountsOneLog, StopsOneLog};
+ghost use Rattle.ga_logs.specs.Steps.Logs.{CountsOneLog, HasCountedLogs, StopsOneLog};
 ghost use Rattle.ga_logs.specs.Steps.Streaming.{Adds, HasCountedSome};
 
 use crate::CountFault;
@@ -46,21 +46,44 @@ pub fn count_logs<R: Threads + Sync, G: Gate, F: Files>(
     // It is counted by the workers of the crew, a tally for each, and in batches of this many bytes at most.
     ensures counted_by { IfOk result (IsCountedBy crew.now.workers start.totals) }
 {
-    files_stay();
     let mut counting = Counting::new(crew.alloc, start.totals, crew.workers);
-    count_generated(crew, generated, &mut counting)?;
+    count_all(crew, start, generated, names, entries, files, &mut counting)?;
+    let total = counting.into_total(crew)?;
+    Ok(total)
+}
+
+/// Counts the generator's lines, where this many are asked for, and the lines of these logs, where nothing is counted yet.
+fn count_all<R: Threads + Sync, G: Gate, F: Files>(
+    crew: &Crew<'_, R, G>,
+    start: Start,
+    generated: Option<u32>,
+    names: &[Text],
+    entries: &mut Entries,
+    files: &mut F,
+    counting: &mut Counting,
+) -> Result<(), CountFault>
+    requires workers { AreWorkers crew.now.workers }
+    requires begun { counting.old.start ≡ begun_with start.totals crew.now.workers }
+    requires none { HasCounted crew.now.setup.now [] counting.old }
+    ensures ok { OnOk result (HasCountedLogs crew.now.setup.now start generated names.now entries.old entries.new (F.view files.old) (F.view files.new) counting.new) }
+    ensures begun { OnOk result (counting.new.start ≡ begun_with start.totals crew.now.workers) }
+    ensures stops { IfErr result (StopsLogs crew.now.setup.now start generated names.now entries.old (F.view files.old) (F.view files.new)) }
+    ensures calls { FilesTrace (F.view files.old) (F.view files.new) }
+    ensures sure { CanServe names.now (F.view files.old) → IfErr result NoneFailed }
+{
+    files_stay();
+    count_generated(crew, generated, counting)?;
     for (place, name) in names.iter().enumerate() {
         // No log is read once a counter is full.
         if let Some(full) = counting.full() {
             return Err(CountFault::from(full));
         }
-        match count_one(crew, start.follow, name, entries, files, &mut counting) {
+        match count_one(crew, start.follow, name, entries, files, counting) {
             Ok(()) => {}
             Err(fault) => return Err(CountFault::of_log(place as u64, fault)),
         }
     }
-    let total = counting.into_total(crew)?;
-    Ok(total)
+    Ok(())
 }
 
 /// Counts the generator's lines, where this many are asked for.

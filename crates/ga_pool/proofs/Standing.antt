@@ -1,6 +1,6 @@
 -- The tables that all workers filled have what was counted.
 use Rattle.std.proofs.Common.{◌≡◌, ◌≢◌, ℕ, zero, suc, ◌+◌, ◌*◌, ◌<◌, ◌≤◌, Bool, true, false, cond, eqb, nat_lt, List, [], ◌∷◌, length, map, get_or, Some, refl, sym, ap, ◌∙◌, subst, arith, zero-add}
-use Rattle.std.specs.Prelude.{slice_get, slice_index, fold}
+use Rattle.std.specs.Prelude.{slice_get, slice_index}
 use Rattle.std.specs.Cmp.{both_ways}
 use Rattle.std.specs.List.{AllZip, Contains, IsDistinct, list_any}
 use Rattle.std.proofs.lemmas.Bool.{eqb-true}
@@ -26,11 +26,11 @@ use Rattle.ga_pool.specs.declared.counted.Counted.{Counted}
 use Rattle.ga_pool.specs.declared.table_inputs.TableRows.{TableRows}
 use Rattle.ga_pool.proofs.AllPairs.{claims-are, claims-have, key-counted, key-found, visitor-used}
 use Rattle.ga_pool.proofs.AllWorkers.{HaveNumbers, all-add, all-raise, keys_in, visitors_in}
-use Rattle.ga_workers.proofs.DrawnPieces.{contains-times, together-cons}
+use Rattle.ga_workers.proofs.DrawnPieces.{contains-times}
 use Rattle.ga_pool.proofs.Numbered.{AreNumbered}
 use Rattle.ga_workers.proofs.Together.{totals-together}
 use Rattle.ga_shards.specs.Numbers.{NumberingSeen}
-use Rattle.ga_summary.specs.Outcomes.{Outcome, sums_of, totals_of}
+use Rattle.ga_summary.specs.Outcomes.{Outcome, sums_of}
 use Rattle.ga_tallies.specs.Tallies.{AreTalliesOf, TallySeen, together}
 use Rattle.ga_numbers.proofs.Same.{key-laws, same-key}
 

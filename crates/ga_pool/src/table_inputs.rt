@@ -1,5 +1,6 @@
-ghost use Rattle.std.specs.Prelude.{◌≡◌, ◌<◌, ◌-◌, ◌^◌, IfOk, IsTrue, length, sum_by};
+ghost use Rattle.std.specs.Prelude.{◌≡◌, ◌<◌, ◌-◌, ◌^◌, ◌∷◌, ◌++◌, [], List, IfOk, IsTrue, OnOk, length, sum_by};
 ghost use Rattle.ga_pool.specs.Steps.TableInputs.{AreParts};
+ghost use Rattle.ga_tallies.specs.Tallies.{TallySeen};
 
 use ga_base::{Key, NoMemory, Noted, Sums, Totals, Visitor};
 use ga_shards::Dictionary;
@@ -28,34 +29,49 @@ pub(crate) struct TableInputs {
     pub(crate) rows: Vec<TableRows>,
 }
 
-/// Takes tallies apart.
-pub(crate) fn table_inputs(alloc: Global, tallies: Vec<Tally>) -> Result<TableInputs, NoMemory>
-    ensures { IfOk result (AreParts tallies.items) }
-{
-    let mut keys = Vec::with_capacity(alloc, tallies.len())?;
-    let mut visitors = Vec::with_capacity(alloc, tallies.len())?;
-    let mut rows = Vec::with_capacity(alloc, tallies.len())?;
-    for tally in tallies {
+impl TableInputs {
+    /// Nothing yet, with space for what this many tallies have.
+    fn with_capacity(alloc: Global, tallies: usize) -> Result<TableInputs, NoMemory>
+        ensures { IfOk result (AreParts []) }
+    {
+        Ok(TableInputs {
+            keys: Vec::with_capacity(alloc, tallies)?,
+            visitors: Vec::with_capacity(alloc, tallies)?,
+            rows: Vec::with_capacity(alloc, tallies)?,
+        })
+    }
+
+    /// Takes a tally apart, and adds what it has.
+    fn add(&mut self, alloc: Global, tally: Tally) -> Result<(), NoMemory>
+        ensures { OnOk result ((before : List TallySeen) → AreParts before self.old → AreParts (before ++ tally ∷ []) self.new) }
+    {
         let TallyParts {
             totals,
-            keys: its_keys,
-            visitors: its_visitors,
+            keys,
+            visitors,
             sums,
             visits,
         } = tally.into_parts();
-        keys.push(its_keys.into_dictionary(alloc)?)?;
-        visitors.push(its_visitors.into_dictionary(alloc)?)?;
-        rows.push(TableRows {
+        self.keys.push(keys.into_dictionary(alloc)?)?;
+        self.visitors.push(visitors.into_dictionary(alloc)?)?;
+        self.rows.push(TableRows {
             totals,
             sums,
             pairs: pairs_of(alloc, &visits)?,
         })?;
+        Ok(())
     }
-    Ok(TableInputs {
-        keys,
-        visitors,
-        rows,
-    })
+}
+
+/// Takes tallies apart.
+pub(crate) fn table_inputs(alloc: Global, tallies: Vec<Tally>) -> Result<TableInputs, NoMemory>
+    ensures { IfOk result (AreParts tallies.items) }
+{
+    let mut inputs = TableInputs::with_capacity(alloc, tallies.len())?;
+    for tally in tallies {
+        inputs.add(alloc, tally)?;
+    }
+    Ok(inputs)
 }
 
 /// Whether numbers of 32 bits are enough for the items of these dictionaries.

@@ -1,14 +1,13 @@
-ghost use Rattle.std.specs.Prelude.{◌≡◌, ◌++◌, ◌∷◌, [], OnOk, IfErr, slice_set};
-ghost use Rattle.ga_base.specs.Panels.{panel_number};
+ghost use Rattle.std.specs.Prelude.{◌≡◌, ◌∷◌, [], OnOk, IfErr};
 ghost use Rattle.ga_words.specs.Options.{Sets};
-ghost use Rattle.ga_words.specs.Steps.Settings.{IsValueFault, meaning, with_flag, with_format, with_name, with_number};
+ghost use Rattle.ga_words.specs.Steps.Settings.{IsValueFault, meaning, with_flag, with_format, with_number};
 ghost use Rattle.ga_words.specs.Units.{AddsLogs};
 
 use crate::options::{Flag, Format, Name, Number, Takes};
 use crate::panel_names::panel_named;
 use crate::values::{number_of, range_of, target_of};
 use crate::{Output, Settings, WordFault};
-use ga_base::{NoMemory, Panel, Text};
+use ga_base::{NoMemory, Text};
 use std::alloc::Global;
 
 /// The fewest and the most digits of a number.
@@ -31,38 +30,18 @@ pub(crate) fn set_value(
     ensures ok { OnOk result (Sets (meaning takes) value.now settings.old settings.new) }
     ensures fault { IfErr result (IsValueFault takes value.now at) }
 {
-    let bad = WordFault::BadValue { at };
     match takes {
-        Takes::Flag(_) => return Err(bad),
-        Takes::Format(format) => set_format(alloc, format, value, settings)?,
-        Takes::Name(_) if value.is_empty() => return Err(bad),
-        Takes::Name(name) => set_name(alloc, name, value, settings)?,
+        Takes::Flag(_) => Err(WordFault::BadValue { at }),
+        Takes::Format(format) => set_format(alloc, format, value, settings),
+        Takes::Name(name) => set_name(alloc, name, value, at, settings),
         Takes::Number(number, low, high) => {
-            let (shortest, longest) = NUMBER_DIGITS;
-            let n = number_of(value, shortest, longest, low, high).ok_or(bad)?;
-            set_number(number, n, settings);
+            set_number_option(number, low, high, value, at, settings)
         }
-        Takes::Status => {
-            let (low, high) = STATUS_CODES;
-            let status = number_of(value, STATUS_DIGITS, STATUS_DIGITS, low, high).ok_or(bad)?;
-            settings.ignore_status.push(status)?;
-        }
-        Takes::Target => {
-            let Some((kind, name)) = target_of(value) else {
-                return Err(bad);
-            };
-            let name = Text::of(alloc, name)?;
-            settings.output = Output { kind, name };
-        }
-        Takes::Addresses => {
-            let Some(range) = range_of(value) else {
-                return Err(bad);
-            };
-            settings.ranges.push(range)?;
-        }
-        Takes::OfPanel(on) => set_panel(panel_named(value).ok_or(bad)?, on, settings),
+        Takes::Status => add_status(value, at, settings),
+        Takes::Target => set_target(alloc, value, at, settings),
+        Takes::Addresses => add_range(value, at, settings),
+        Takes::OfPanel(on) => set_panel(on, value, at, settings),
     }
-    Ok(())
 }
 
 /// Makes the setting of a flag.
@@ -89,8 +68,9 @@ fn set_format(
     format: Format,
     text: &str,
     settings: &mut Settings,
-) -> Result<(), NoMemory>
-    ensures { OnOk result (settings.new ≡ with_format format text.now settings.old) }
+) -> Result<(), WordFault>
+    ensures ok { OnOk result (settings.new ≡ with_format format text.now settings.old) }
+    ensures fault { IfErr result (λ fault. fault ≡ WordFault.NoMemory) }
 {
     let text = Text::of(alloc, text)?;
     match format {
@@ -101,16 +81,46 @@ fn set_format(
     Ok(())
 }
 
-/// Makes the setting of a name.
-fn set_name(alloc: Global, name: Name, text: &str, settings: &mut Settings) -> Result<(), NoMemory>
-    ensures { OnOk result (settings.new ≡ with_name name text.now settings.old) }
+/// Makes the setting of a name, which isn't empty.
+fn set_name(
+    alloc: Global,
+    name: Name,
+    value: &str,
+    at: u64,
+    settings: &mut Settings,
+) -> Result<(), WordFault>
+    ensures ok { OnOk result (Sets (meaning (Takes.Name name)) value.now settings.old settings.new) }
+    ensures fault { IfErr result (IsValueFault (Takes.Name name) value.now at) }
 {
-    let text = Text::of(alloc, text)?;
+    if value.is_empty() {
+        return Err(WordFault::BadValue { at });
+    }
+    let text = Text::of(alloc, value)?;
     match name {
         Name::BrowsersFile => settings.browsers_file = Some(text),
         Name::StaticFile => settings.statics.push(text)?,
         Name::DbPath => settings.db_path = text,
     }
+    Ok(())
+}
+
+/// Makes the setting of an option that takes a number from the one to the other.
+fn set_number_option(
+    number: Number,
+    low: u32,
+    high: u32,
+    value: &str,
+    at: u64,
+    settings: &mut Settings,
+) -> Result<(), WordFault>
+    ensures ok { OnOk result (Sets (meaning (Takes.Number number low high)) value.now settings.old settings.new) }
+    ensures fault { IfErr result (IsValueFault (Takes.Number number low high) value.now at) }
+{
+    let (shortest, longest) = NUMBER_DIGITS;
+    let Some(n) = number_of(value, shortest, longest, low, high) else {
+        return Err(WordFault::BadValue { at });
+    };
+    set_number(number, n, settings);
     Ok(())
 }
 
@@ -126,13 +136,54 @@ fn set_number(number: Number, n: u32, settings: &mut Settings)
     }
 }
 
-/// Puts a panel in, or takes it out.
-fn set_panel(panel: Panel, on: bool, settings: &mut Settings)
-    ensures { settings.new ≡ record settings.old {
-      panels = slice_set settings.old.panels (panel_number panel) on;
-    } }
+/// Adds a status code.
+fn add_status(value: &str, at: u64, settings: &mut Settings) -> Result<(), WordFault>
+    ensures ok { OnOk result (Sets (meaning Takes.Status) value.now settings.old settings.new) }
+    ensures fault { IfErr result (IsValueFault Takes.Status value.now at) }
 {
+    let (low, high) = STATUS_CODES;
+    let Some(status) = number_of(value, STATUS_DIGITS, STATUS_DIGITS, low, high) else {
+        return Err(WordFault::BadValue { at });
+    };
+    settings.ignore_status.push(status)?;
+    Ok(())
+}
+
+/// Makes the setting of the report's target.
+fn set_target(alloc: Global, value: &str, at: u64, settings: &mut Settings) -> Result<(), WordFault>
+    ensures ok { OnOk result (Sets (meaning Takes.Target) value.now settings.old settings.new) }
+    ensures fault { IfErr result (IsValueFault Takes.Target value.now at) }
+{
+    let Some((kind, name)) = target_of(value) else {
+        return Err(WordFault::BadValue { at });
+    };
+    let name = Text::of(alloc, name)?;
+    settings.output = Output { kind, name };
+    Ok(())
+}
+
+/// Adds an address or a range of them.
+fn add_range(value: &str, at: u64, settings: &mut Settings) -> Result<(), WordFault>
+    ensures ok { OnOk result (Sets (meaning Takes.Addresses) value.now settings.old settings.new) }
+    ensures fault { IfErr result (IsValueFault Takes.Addresses value.now at) }
+{
+    let Some(range) = range_of(value) else {
+        return Err(WordFault::BadValue { at });
+    };
+    settings.ranges.push(range)?;
+    Ok(())
+}
+
+/// Puts a panel in, or takes it out.
+fn set_panel(on: bool, value: &str, at: u64, settings: &mut Settings) -> Result<(), WordFault>
+    ensures ok { OnOk result (Sets (meaning (Takes.OfPanel on)) value.now settings.old settings.new) }
+    ensures fault { IfErr result (IsValueFault (Takes.OfPanel on) value.now at) }
+{
+    let Some(panel) = panel_named(value) else {
+        return Err(WordFault::BadValue { at });
+    };
     settings.panels.set(panel, on);
+    Ok(())
 }
 
 /// Adds the name of a log.

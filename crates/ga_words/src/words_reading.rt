@@ -69,33 +69,48 @@ fn read_all(alloc: Global, words: &[Text]) -> Result<Reading, WordFault>
     ensures ok { IfOk result (HasReadAll words.now) }
     ensures fault { IfErr result (λ f. (f ≡ WordFault.NoMemory) ⊎ HasFault words.now f) }
 {
-    let (mut reading, rest) = read_units(alloc, words)?;
-    let Some((_, logs)) = rest.split_first() else {
-        return Ok(reading);
-    };
-    let at = (words.len() - logs.len()) as u64;
-    add_logs(logs, at, &mut reading.settings)?;
-    Ok(reading)
-}
-
-/// Reads the units up to the end, or up to the word after which every word is a log.
-fn read_units(alloc: Global, words: &[Text]) -> Result<(Reading, &[Text]), WordFault>
-    ensures ok { IfOk result (λ read. HasRead words.now read.1.now read.0 × IsTail read.1.now) }
-    ensures fault { IfErr result (λ f. (f ≡ WordFault.NoMemory) ⊎ HasFault words.now f) }
-{
     let mut reading = Reading {
         settings: default_settings(alloc)?,
         generate_at: None,
     };
+    read_into(alloc, words, &mut reading)?;
+    Ok(reading)
+}
+
+/// Reads all words into a reading of none of them.
+fn read_into(alloc: Global, words: &[Text], reading: &mut Reading) -> Result<(), WordFault>
+    requires { HasRead words.now words.now reading.old }
+    ensures ok { OnOk result (HasReadAll words.now reading.new) }
+    ensures fault { IfErr result (λ f. (f ≡ WordFault.NoMemory) ⊎ HasFault words.now f) }
+{
+    let rest = read_units(alloc, words, reading)?;
+    let Some((_, logs)) = rest.split_first() else {
+        return Ok(());
+    };
+    let at = (words.len() - logs.len()) as u64;
+    add_logs(logs, at, &mut reading.settings)?;
+    Ok(())
+}
+
+/// Reads the units up to the end, or up to the word after which every word is a log. Answers what follows them.
+fn read_units<'a>(
+    alloc: Global,
+    words: &'a [Text],
+    reading: &mut Reading,
+) -> Result<&'a [Text], WordFault>
+    requires { HasRead words.now words.now reading.old }
+    ensures ok { IfOk result (λ rest. HasRead words.now rest.now reading.new × IsTail rest.now) }
+    ensures fault { IfErr result (λ f. (f ≡ WordFault.NoMemory) ⊎ HasFault words.now f) }
+{
     let mut rest = words;
     while let Some((word, after)) = rest.split_first() {
         if word.as_str() == END {
             break;
         }
         let at = (words.len() - rest.len()) as u64;
-        rest = read_unit(alloc, word, after, at, &mut reading)?;
+        rest = read_unit(alloc, word, after, at, reading)?;
     }
-    Ok((reading, rest))
+    Ok(rest)
 }
 
 /// Reads the unit that begins with `word`, at `at`, and answers what follows it.

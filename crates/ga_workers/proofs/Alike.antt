@@ -1,5 +1,5 @@
 -- Lists of outcomes of which the same is counted, and the outcomes of lists of lines.
-use Rattle.std.proofs.Common.{◌≡◌, ◌||◌, ℕ, max, List, [], ◌∷◌, ◌++◌, Option, Some, None, refl, sym, ap, ◌∙◌, subst, arith}
+use Rattle.std.proofs.Common.{◌≡◌, ◌||◌, ℕ, max, List, [], ◌∷◌, ◌++◌, refl, sym, ap, ◌∙◌, subst, arith}
 use Rattle.std.proofs.Math.Nat.{add_comm}
 use Rattle.std.proofs.Math.Bool.{or_comm}
 use Rattle.std.specs.List.{All}
@@ -11,8 +11,6 @@ use Rattle.ga_summary.specs.SummaryRows.{sums_plus}
 use Rattle.ga_base.specs.Totals.{totals_plus}
 use Rattle.ga_summary.specs.Sound.{AllCountable, IsCountable}
 use Rattle.ga_summary.proofs.Appends.{sums_of-append, has_visit-append, totals_of-append}
-use Rattle.ga_outcomes.specs.LineOutcomes.{HaveOutcomes, listed}
-use Rattle.ga_outcomes.specs.declared.setup.Setup.{Setup}
 use Rattle.ga_workers.specs.Together.{AreAlike}
 
 pub alike-refl : (xs : List Outcome) → AreAlike xs xs

@@ -16,7 +16,7 @@ use Rattle.ga_tallies.specs.Tallies.{AreTalliesOf, IsTallyOf, TakesIn, TallySeen
 use Rattle.ga_outcomes.specs.declared.setup.Setup.{Setup}
 use Rattle.ga_draws.specs.Draws.{AreAllBelow, once_below, times}
 use Rattle.ga_workers.specs.Steps.Drawing.{AllCount, Came, IsCame, IsDone, TalliesDrawn, all_lines, of_pieces, outcomes_in}
-use Rattle.ga_workers.specs.Together.{AreAlike, CountOnApart, CountsByEach, CountsOn}
+use Rattle.ga_workers.specs.Together.{AreAlike, CountOnApart, CountsOn}
 use Rattle.ga_workers.proofs.Alike.{alike-append, alike-refl, alike-same, alike-swap, alike-trans, countable-append}
 use Rattle.ga_outcomes.proofs.Behind.{have_outcomes-append}
 

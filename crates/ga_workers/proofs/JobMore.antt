@@ -1,6 +1,6 @@
 -- Work at a list of jobs, one job more at a time.
 use denote.Param.Members.{Shared}
-use Rattle.std.proofs.Common.{◌≡◌, ℕ, zero, suc, ◌<◌, List, [], ◌∷◌, Vec, Global, Result, Ok, Err, IfOk, length, get_or, remove, refl, sym, ap, ◌∙◌, subst, arith}
+use Rattle.std.proofs.Common.{◌≡◌, zero, suc, ◌<◌, List, [], ◌∷◌, Vec, Global, Result, Ok, Err, IfOk, length, get_or, remove, refl, sym, ap, subst, arith}
 use Rattle.std.specs.Fn.{FnReturns}
 use Rattle.std.specs.Fork.{GivesJobs}
 

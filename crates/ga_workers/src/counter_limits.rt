@@ -2,7 +2,7 @@ ghost use Rattle.std.specs.Prelude.{◌≡◌, ◌+◌, ◌↔◌, ◌≤◌, �
 ghost use Rattle.std.specs.Result.{IsErrOf};
 ghost use Rattle.ga_base.specs.declared.counts.Counter.{Counter as TheCounter};
 ghost use Rattle.ga_base.specs.declared.record.Line.TheVariants.{Good as SaysRecord};
-ghost use Rattle.ga_line.specs.Bounds.{RecordBounds};
+ghost use Rattle.ga_line.specs.Bounds.{KeepsBounds, RecordBounds};
 ghost use Rattle.ga_line.specs.Lines.{lines};
 ghost use Rattle.ga_workers.specs.Steps.CounterLimits.{IsLight, WeighsLine, WeighsSaid, IsWithin, weight_plus, weighed, weight_in};
 ghost use Rattle.ga_workers.specs.Together.{totals_in};
@@ -142,14 +142,27 @@ fn check_limit(which: Counter, total: u64) -> Result<u64, PoolFault>
 fn weight_of_line(alloc: Global, setup: &Setup, line: &[u8]) -> Result<Option<Weight>, NoMemory>
     ensures { IfOk result (WeighsLine setup.now line.now) }
 {
-    match read_line(alloc, &setup.line, line)? {
+    let said = read_line(alloc, &setup.line, line)?;
+    weight_of_said(alloc, &setup.panels, &said)
+}
+
+/// The weight of what a line says, or None where it is passed over.
+fn weight_of_said(
+    alloc: Global,
+    panels: &PanelSetup,
+    said: &Line,
+) -> Result<Option<Weight>, NoMemory>
+    requires { KeepsBounds said.now }
+    ensures { IfOk result (WeighsSaid panels.now said.now) }
+{
+    match said {
         Line::Skipped => Ok(None),
         Line::Failed => Ok(Some(Weight {
             lines: 1,
             bytes: 0,
             micros: 0,
         })),
-        Line::Good(rec) => Ok(Some(weight_of_record(alloc, &setup.panels, &rec)?)),
+        Line::Good(rec) => Ok(Some(weight_of_record(alloc, panels, rec)?)),
     }
 }
 

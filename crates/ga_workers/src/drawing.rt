@@ -1,4 +1,4 @@
-ghost use Rattle.std.specs.Prelude.{◌≡◌, ◌≤◌, ◌+◌, ◌-◌, ◌*◌, ◌<◌, IfOk, IfSome, All, length, map, vec_len, flat_map, Ok, true};
+ghost use Rattle.std.specs.Prelude.{◌≡◌, ◌≤◌, ◌+◌, ◌-◌, ◌*◌, ◌<◌, [], IfOk, IfSome, OnOk, All, length, map, vec_len, flat_map, Ok, true};
 ghost use Rattle.ga_base.specs.declared.limits.TheConstants.{MAX_BATCH, MAX_JOBS};
 ghost use Rattle.ga_draws.specs.Draws.{AreAllBelow, given};
 ghost use Rattle.ga_workers.specs.Steps.Drawing.{CountsDrawn, all_lines};
@@ -88,6 +88,26 @@ fn turns_of(
     ensures seat { IfOk result (λ _. (seat.new.table ≡ draws.now.table) × (seat.new.view ≡ given 1 0)) }
 {
     let mut turns = Vec::with_capacity(alloc, tallies.len())?;
+    add_turns(draws, seat, tallies, most, &mut turns)?;
+    Ok(turns)
+}
+
+/// Adds a turn for each tally to turns of which there are none yet.
+fn add_turns(
+    draws: &Draws,
+    seat: &mut DrawSeat,
+    tallies: Vec<Tally>,
+    most: u64,
+    turns: &mut Vec<Turn>,
+) -> Result<(), NoMemory>
+    requires few { vec_len tallies ≤ MAX_JOBS }
+    requires table { seat.old.table ≡ draws.now.table }
+    requires whole { seat.old.view ≡ given (vec_len tallies + 1) (vec_len tallies * most) }
+    requires none { turns.old.items ≡ [] }
+    ensures tallies { OnOk result (map (λ turn. turn.tally) turns.new.items ≡ tallies.items) }
+    ensures each { OnOk result (All (λ turn. (turn.seat.table ≡ draws.now.table) × (turn.seat.view ≡ given 1 most)) turns.new.items) }
+    ensures seat { OnOk result ((seat.new.table ≡ draws.now.table) × (seat.new.view ≡ given 1 0)) }
+{
     for tally in tallies {
         let seat = draws.split(seat, 1, most);
         let worker = turns.len() as u32;
@@ -97,7 +117,7 @@ fn turns_of(
             tally,
         })?;
     }
-    Ok(turns)
+    Ok(())
 }
 
 /// Draws pieces and counts their lines, until a number is drawn that is no piece's.

@@ -1,87 +1,28 @@
-use Rattle.std.proofs.Common.{◌≡◌, ◌+◌, ◌∷◌, ◌++◌, ◌∙◌, [], suc, sym, ap, subst, take, drop, take_all, arith, Err, slice_index_or}
+use Rattle.std.proofs.Common.{[], sym, ap, subst, append-nil, Err}
 use Rattle.std.proofs.lemmas.Result.{err_from_is_err_and}
-use Rattle.ga_ports.specs.Trace.FilesTrace.{no_files_call, files_then}
 use Rattle.ga_logs.specs.Counting.{CountingStart, HaveTallies}
-use Rattle.ga_logs.specs.Steps.Logs.{HasCountedLogs}
-use Rattle.ga_logs.proofs.LogsSteps.{take-more, split-at, split-there, taken-length, counted-none, counted-more, counts-logs, none-failed, none-failed-log, stops-full, stops-more, stops-sum, wants-none}
-use Rattle.ga_logs.proofs.ReadSteps.{serves-one}
+use Rattle.ga_logs.proofs.LogsSteps.{counts-logs, none-failed, stops-sum}
 use Rattle.ga_logs.proofs.logs.count_logs.Goals as goal
 
-pub loop-place-init : goal.loop-place-init
-loop-place-init g c = record {
-  within = omega arith;
-  start = c.in_ok-count_generated.ensures.start ∙ c.new-counting.ensures.start;
-  counted = counted-none c.args.crew.now.setup.now c.args.start c.args.generated c.args.entries.now _ c.new-counting.result c.count_generated.new.counting (ap (λ (s : CountingStart). s.totals) c.new-counting.ensures.start)
-      (c.new-counting.ensures.none c.args.crew.now.setup.now) c.in_ok-count_generated.ensures;
-  went = no_files_call;
-}
+pub count_all-requires-clause-none : goal.count_all-requires-clause-none
+count_all-requires-clause-none g c = λ _ _. c.new-counting.ensures.none c.args.crew.now.setup.now
 
-pub returns-in_err-count_generated-clause-calls : goal.returns-in_err-count_generated-clause-calls
-returns-in_err-count_generated-clause-calls g c = no_files_call
-
-pub returns-in_err-count_generated-clause-stops : goal.returns-in_err-count_generated-clause-stops
-returns-in_err-count_generated-clause-stops g c =
+pub returns-in_err-count_all-clause-stops : goal.returns-in_err-count_all-clause-stops
+returns-in_err-count_all-clause-stops g c =
     let p = err_from_is_err_and c.from_residual.result c.from_residual.ensures.1 in
-    rw (p.1, p.2) (wants-none c.args.crew.now.setup.now c.args.start c.args.generated c.args.names.now c.args.entries.now _)
+    rw (p.1, p.2) c.in_err-count_all.ensures.stops
 
-pub returns-in-Some-clause-stops : goal.returns-in-Some-clause-stops
-returns-in-Some-clause-stops g c =
-    let names = c.args.names.now in
-    let place = c.loop-place.place in
-    rw (c.from.ensures) (stops-full c.args.crew.now.setup.now c.args.start c.args.generated names (take place names) (drop place names) (split-there names place) c.args.entries.now _ _ _ c.loop-place.counting
-    c.loop-place.invariant.counted c.in-Some.full (sym c.full.ensures ∙ c.in-Some.is))
-
-pub count_one-requires-clause-counted : goal.count_one-requires-clause-counted
-count_one-requires-clause-counted g c = λ _ _. (_, c.loop-place.invariant.counted.counted)
-
-pub returns-in-Err-clause-stops : goal.returns-in-Err-clause-stops
-returns-in-Err-clause-stops g c =
-    let names = c.args.names.now in
-    let place = c.loop-place.place in
-    let at : slice_index_or names place c.index-names-place.result ≡ c.index-names-place.result = sym c.index-names-place.is in
-    let split : names ≡ take place names ++ c.index-names-place.result ∷ drop (suc place) names =
-    split-at names place c.index-names-place.result c.loop-place-test.true ∙ ap (λ name. take place names ++ name ∷ drop (suc place) names) at in
-    rw c.of_log.ensures
-    (stops-more c.args.crew.now.setup.now c.args.start c.args.generated names (take place names) (drop (suc place) names) c.index-names-place.result split _ _ _ _ _ c.loop-place.counting c.loop-place.invariant.counted
-    (sym c.full.ensures ∙ c.in_default.is) place _ (taken-length names place c.loop-place.invariant.within) c.in-Err.ensures.stops)
-
-pub returns-in-Err-clause-sure : goal.returns-in-Err-clause-sure
-returns-in-Err-clause-sure g c =
-    let view = g.F.Files.view in
-    let names = c.args.names.now in
-    let place = c.loop-place.place in
-    let at : slice_index_or names place c.index-names-place.result ≡ c.index-names-place.result = sym c.index-names-place.is in
-    let split : names ≡ take place names ++ c.index-names-place.result ∷ drop (suc place) names =
-    split-at names place c.index-names-place.result c.loop-place-test.true ∙ ap (λ name. take place names ++ name ∷ drop (suc place) names) at in
-    λ can. rw c.of_log.ensures (none-failed-log _ _ (c.in-Err.ensures.sure (serves-one names (take place names) (drop (suc place) names) c.index-names-place.result (view c.args.files.now) (view c.loop-place.files)
-    split (c.files_stay.ensures _ _ c.loop-place.invariant.went) can)))
-
-pub returns-in-Err-clause-calls : goal.returns-in-Err-clause-calls
-returns-in-Err-clause-calls g c = files_then c.loop-place.invariant.went c.count_one.ensures.calls
-
-pub loop-place-preserved : goal.loop-place-preserved
-loop-place-preserved g c =
-    let names = c.args.names.now in
-    let place = c.loop-place.place in
-    let view = g.F.Files.view in
-    let at : slice_index_or names place c.index-names-place.result ≡ c.index-names-place.result = sym c.index-names-place.is in
-    let next : take (place + 1) names ≡ take place names ++ c.index-names-place.result ∷ [] =
-    take-more names place c.index-names-place.result c.loop-place-test.true ∙ ap (λ name. take place names ++ name ∷ []) at in
-    record {
-      within = omega arith;
-      start = c.in-Ok.ensures.ok.adds.start ∙ c.loop-place.invariant.start;
-      counted = subst (λ front. HasCountedLogs c.args.crew.now.setup.now c.args.start c.args.generated front c.args.entries.now c.count_one.new.entries (view c.args.files.now) (view c.count_one.new.files) c.count_one.new.counting) (sym next)
-          (counted-more c.args.crew.now.setup.now c.args.start c.args.generated (take place names) c.index-names-place.result c.args.entries.now c.loop-place.entries c.count_one.new.entries (view c.args.files.now) (view c.loop-place.files) (view c.count_one.new.files) c.loop-place.counting c.count_one.new.counting c.loop-place.invariant.counted c.in-Ok.ensures.ok);
-      went = files_then c.loop-place.invariant.went c.count_one.ensures.calls;
-    }
+pub returns-in_err-count_all-clause-sure : goal.returns-in_err-count_all-clause-sure
+returns-in_err-count_all-clause-sure g c =
+    let p = err_from_is_err_and c.from_residual.result c.from_residual.ensures.1 in
+    λ can. rw (p.1, p.2) (c.in_err-count_all.ensures.sure can)
 
 pub returns-in_err-total-clause-stops : goal.returns-in_err-total-clause-stops
 returns-in_err-total-clause-stops g c =
     let p = err_from_is_err_and c.from_residual-in_err-total.result c.from_residual-in_err-total.ensures.1 in
     let names = c.args.names.now in
-    let place = c.loop-place.place in
-    rw (p.1, p.2) (stops-sum c.args.crew.now.setup.now c.args.start c.args.generated names (take place names) (drop place names) (split-there names place) c.args.entries.now _ _ _ c.loop-place.counting
-    c.loop-place.invariant.counted _ (λ full e. c.in_err-total.ensures.full full (ap (λ fault. Err fault) e)))
+    rw (p.1, p.2) (stops-sum c.args.crew.now.setup.now c.args.start c.args.generated names names [] (sym (append-nil names)) c.args.entries.now _ _ _ c.count_all.new.counting
+    c.in_ok-count_all.ensures.ok _ (λ full e. c.in_err-total.ensures.full full (ap (λ fault. Err fault) e)))
 
 pub returns-in_err-total-clause-sure : goal.returns-in_err-total-clause-sure
 returns-in_err-total-clause-sure g c =
@@ -91,19 +32,15 @@ returns-in_err-total-clause-sure g c =
 pub returns-clause-ok : goal.returns-clause-ok
 returns-clause-ok g c =
     let view = g.F.Files.view in
-    let names = c.args.names.now in
-    let place = c.loop-place.place in
-    let whole : take place names ≡ names = take_all place names (omega arith) in
-    let counted = subst (λ front. HasCountedLogs c.args.crew.now.setup.now c.args.start c.args.generated front c.args.entries.now c.loop-place.entries (view c.args.files.now) (view c.loop-place.files) c.loop-place.counting) whole
-    c.loop-place.invariant.counted in
-    counts-logs c.args.crew.now.setup.now c.args.start c.args.generated names c.args.entries.now c.loop-place.entries (view c.args.files.now) (view c.loop-place.files) c.loop-place.counting c.in_ok-total.total counted c.in_ok-total.ensures.ok
+    counts-logs c.args.crew.now.setup.now c.args.start c.args.generated c.args.names.now c.args.entries.now c.count_all.new.entries (view c.args.files.now) (view c.count_all.new.files) c.count_all.new.counting
+    c.in_ok-total.total c.in_ok-count_all.ensures.ok c.in_ok-total.ensures.ok
 
 pub returns-clause-counted_by : goal.returns-clause-counted_by
 returns-clause-counted_by g c =
-    let start = c.loop-place.invariant.start in
+    let start = c.in_ok-count_all.ensures.begun in
     record {
-      counting = c.loop-place.counting;
+      counting = c.count_all.new.counting;
       start = start;
-      tallies = subst (λ (s : CountingStart). HaveTallies s.workers.jobs c.loop-place.counting.tallies) start c.into_total.ensures.tallies;
+      tallies = subst (λ (s : CountingStart). HaveTallies s.workers.jobs c.count_all.new.counting.tallies) start c.into_total.ensures.tallies;
       together = c.in_ok-total.ensures.together;
     }

@@ -1,4 +1,4 @@
-use Rattle.std.proofs.Common.{◌≡◌, ◌+◌, ◌++◌, ◌∙◌, ◌-◌, ◌≤◌, [], List, ℕ, arith, ap, length, length-append, length-take, take, drop, take_all, subst, sym}
+use Rattle.std.proofs.Common.{◌≡◌, ◌+◌, ◌++◌, ◌∙◌, ◌-◌, ◌≤◌, [], List, ℕ, arith, ap, length, length-append, take, drop, take_all, subst, sym}
 use Rattle.ga_logs.specs.Counting.{CountingStart}
 use Rattle.ga_logs.proofs.Batches.{on-ok, on-value, taken-long, taken-more, taken-of}
 use Rattle.ga_logs.proofs.StreamSteps.{Waits, after-taking, waits-none, waits-on, within-all}

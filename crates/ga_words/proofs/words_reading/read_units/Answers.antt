@@ -7,7 +7,7 @@ use Rattle.ga_words.proofs.words_reading.read_units.Goals.{in-Some+then-eq, in_d
 
 pub returns-in_err-rest-clause-fault : goal.returns-in_err-rest-clause-fault
 returns-in_err-rest-clause-fault c =
-    let p = err_from_is_err_and c.from_residual-in_err-rest.result c.from_residual-in_err-rest.ensures.1 in
+    let p = err_from_is_err_and c.from_residual.result c.from_residual.ensures.1 in
     rw (p.1, p.2)
     (read-fault c.args.words.now c.loop-word.rest.now c.in-Some.word.now c.in-Some.after.now c.loop-word.reading c.loop-word.invariant c.in-Some.ensures.cases.0
     c.in_err-rest.field-0.0 c.in_err-rest.ensures.fault)

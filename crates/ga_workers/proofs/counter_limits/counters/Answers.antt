@@ -1,10 +1,6 @@
-use Rattle.std.proofs.Common.{◌≡◌, ◌+◌, ◌∷◌, drop, sym, ap, ◌∙◌, subst}
-use Rattle.std.proofs.lemmas.List.{drop_more}
-use Rattle.ga_base.specs.declared.counts.Totals.{Totals}
-use Rattle.ga_workers.specs.Together.{totals_in}
+use Rattle.std.proofs.Common.{drop, sym, subst}
 use Rattle.ga_workers.proofs.Together.{fit-before, from-alone}
-use Rattle.ga_base.specs.Totals.{totals_plus, TotalsFit}
-use Rattle.ga_tallies.specs.Tallies.{TallySeen, totals_from}
+use Rattle.ga_base.specs.Totals.{TotalsFit}
 use Rattle.ga_workers.proofs.counter_limits.counters.Goals as goal
 
 pub loop-tally-init : goal.loop-tally-init

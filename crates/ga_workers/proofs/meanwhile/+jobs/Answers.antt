@@ -1,4 +1,4 @@
-use Rattle.std.proofs.Common.{◌≡◌, ◌∷◌, ◌∙◌, List, IfOk, ap, remove, subst, sym, arith}
+use Rattle.std.proofs.Common.{◌≡◌, ◌∷◌, ◌∙◌, List, IfOk, ap, subst, sym, arith}
 use Rattle.std.specs.Fn.{FnReturns}
 use Rattle.std.specs.Fork.{GivesJobs}
 use Rattle.ga_workers.proofs.JobMore.{done-more, first-and-rest}

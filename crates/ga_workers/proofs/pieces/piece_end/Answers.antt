@@ -1,4 +1,4 @@
-use Rattle.std.proofs.Common.{◌≡◌, ◌-◌, ◌≤◌, List, ℕ, ap, arith, drop, length, length-drop, subst, sym, take, take_all, true}
+use Rattle.std.proofs.Common.{◌≡◌, ◌-◌, ◌≤◌, List, ℕ, arith, drop, length, length-drop, subst, sym, take, take_all, true}
 use Rattle.ga_line.specs.Lines.{lines}
 use Rattle.ga_workers.proofs.PieceLines.{apart, ended-more, line-more, rest-more, within-more}
 use Rattle.ga_workers.proofs.pieces.piece_end.Goals as goal

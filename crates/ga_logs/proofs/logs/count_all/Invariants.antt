@@ -2,7 +2,7 @@ use Rattle.std.proofs.Common.{◌≡◌, ◌≤◌, length, take}
 use Rattle.ga_ports.specs.Trace.{FilesTrace}
 use Rattle.ga_logs.specs.Counting.{begun_with}
 use Rattle.ga_logs.specs.Steps.Logs.{HasCountedLogs}
-use Rattle.ga_logs.proofs.logs.count_logs.Given as goal
+use Rattle.ga_logs.proofs.logs.count_all.Given as goal
 
 abbrev pub invariant-loop-place : goal.invariant-loop-place
 invariant-loop-place g l =

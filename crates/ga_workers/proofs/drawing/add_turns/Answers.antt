@@ -8,7 +8,7 @@ use Rattle.ga_draws.specs.Draws.{SeatSeen, given, left}
 use Rattle.ga_draws.specs.declared.view.DrawView.{DrawView}
 use Rattle.ga_workers.specs.declared.drawing.Turn.{Turn}
 use Rattle.ga_tallies.specs.Tallies.{TallySeen}
-use Rattle.ga_workers.proofs.drawing.turns_of.Goals as goal
+use Rattle.ga_workers.proofs.drawing.add_turns.Goals as goal
 
 -- one worker's share less
 one-less : (jobs worker most : ℕ) → worker < jobs → (jobs - worker) * most - most ≡ (jobs - (worker + 1)) * most

@@ -2,7 +2,7 @@ use Rattle.std.proofs.Common.{◌≡◌, ◌+◌, ◌-◌, ◌*◌, ◌++◌, le
 use Rattle.std.specs.List.{All}
 use Rattle.std.specs.Vec.Iter.{into_iter_items}
 use Rattle.ga_draws.specs.Draws.{given}
-use Rattle.ga_workers.proofs.drawing.turns_of.Given as goal
+use Rattle.ga_workers.proofs.drawing.add_turns.Given as goal
 
 abbrev pub invariant-loop-tally : goal.invariant-loop-tally
 invariant-loop-tally l = record {
