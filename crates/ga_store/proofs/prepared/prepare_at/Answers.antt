@@ -2,7 +2,6 @@ use Rattle.std.proofs.Common.{◌≡◌, ◌+◌, Bool, true, subst}
 use Rattle.std.specs.Prelude.{◌↔◌, IsErrOf}
 use Rattle.ga_base.specs.declared.counts.TheConstants.{LIMIT}
 use Rattle.ga_base.specs.declared.counts.Counter.TheVariants.{Generations}
-use Rattle.ga_store.specs.declared.fault.StoreFault.{StoreFault}
 use Rattle.ga_store.specs.declared.fault.StoreFault.TheVariants.{CounterFull}
 use Rattle.ga_store.proofs.CommitMakes.{if_ok-map, makes-after, passes-at, work-at}
 use Rattle.ga_store.proofs.prepared.prepare_at.Goals as goal
