@@ -315,7 +315,8 @@ def spelt(rng, name, value, flag_with_value=False):
     return [name + b"=" + value]
 
 
-def wide_words(rng, text, date, time):
+def settings(rng, text, date, time):
+    """Formats, outputs, options and panels, each with the words that spell it."""
     units = [spelt(rng, b"--log-format", text)]
     if date != b"%d/%b/%Y":
         units.append(spelt(rng, b"--date-format", date))
@@ -329,6 +330,11 @@ def wide_words(rng, text, date, time):
     if rng.random() < 0.25:
         keep = rng.sample(oracle.PANELS, rng.randint(0, 4))
         units += [[b"--ignore-panel=" + panel] for panel in oracle.PANELS if panel not in keep]
+    return units
+
+
+def wide_words(rng, text, date, time):
+    units = settings(rng, text, date, time)
     logs = [[pick(rng, LOGS, NO_LOGS, 0.02)] for _ in range(rng.choice([1] * 12 + [2] * 5 + [3, 3, 0]))]
     behind = rng.random() < 0.1
     if rng.random() < 0.03:

@@ -10,6 +10,9 @@ import tempfile
 
 import goaccess_oracle as oracle
 
+SIDES = ("goaccess.side0", "goaccess.side1")
+# so many first bytes of a log are digested, at most
+PAGE = 4096
 TOP = os.path.dirname(os.path.dirname(os.path.abspath(__file__)))
 # a run that takes longer is taken for one that hangs
 SECONDS = 60
@@ -34,6 +37,24 @@ def first_difference(got, wanted):
     """Both from a little before the place where they begin to differ."""
     at = next((at for at, (a, b) in enumerate(zip(got, wanted)) if a != b), min(len(got), len(wanted)))
     return f"from byte {at}\n    {got[max(0, at - 60):at + 100]!r}\n  not\n    {wanted[max(0, at - 60):at + 100]!r}"
+
+
+def sides_of(folder):
+    """The bytes of both sides; None of one that isn't there."""
+    found = []
+    for name in SIDES:
+        try:
+            with open(os.path.join(folder, name), "rb") as side:
+                found.append(side.read())
+        except FileNotFoundError:
+            found.append(None)
+    return found
+
+
+def write_sides(folder, sides):
+    for name, side in zip(SIDES, sides):
+        with open(os.path.join(folder, name), "wb") as out:
+            out.write(side)
 
 
 class Lines:
@@ -118,6 +139,38 @@ class Logs:
         return 0, self.report(), b""
 
 
+def cut_place(rng, text, db):
+    """Where a log is cut: anywhere, at an end of a line, or near a place that matters to how a log is known again."""
+    near = [offset for _, _, offset in db.entries] + [lead for lead, _, _ in db.entries] + [PAGE, len(text)]
+    places = [rng.randrange(len(text) + 1), text.rfind(b"\n", 0, rng.randrange(len(text) + 1)) + 1, rng.choice(near) + rng.choice([-1, 0, 0, 1]), 0]
+    return max(0, min(len(text), rng.choice(places)))
+
+
+def change_files(rng, lines, files, db):
+    """One change to the logs, of those that no server makes among them."""
+    name = rng.choice(sorted(files))
+    text = files[name]
+    kind = rng.choice("append append append cut cut cut-append byte front copy swap anew".split())
+    if kind in ("cut", "cut-append"):
+        text = text[: cut_place(rng, text, db)]
+    if kind in ("append", "cut-append", "front"):
+        more = lines.some(rng.choice([0, 1, 3, 40]))
+        more = more[: rng.randrange(len(more) + 1)] if rng.random() < 0.4 else more
+        text = more + text if kind == "front" else text + more
+    if kind == "byte" and text:
+        at = rng.randrange(min(len(text), rng.choice([200, PAGE, len(text)])))
+        text = text[:at] + bytes([text[at] ^ 1]) + text[at + 1 :]
+    if kind == "anew":
+        text = lines.some(rng.choice([0, 1, 50]))
+    if kind == "copy":
+        text = files[rng.choice(sorted(files))]
+    if kind == "swap":
+        other = rng.choice(sorted(files))
+        files[other], text = text, files[other]
+    files[name] = text
+    return kind
+
+
 class Followed:
     """Logs that grow and change their names, and what the runs over them may have kept. Nothing is known of a database but what
     each run may have read."""
@@ -197,7 +250,6 @@ class Tries:
         if got == wanted:
             self.passed += 1
             return True
-        self.failed += 1
         if isinstance(wanted, tuple) and len(wanted) == 3 and isinstance(wanted[1], bytes):
             wrong = [] if got[0] == wanted[0] else [f"status {got[0]}, not {wanted[0]}"]
             if got[1] != wanted[1]:
@@ -206,7 +258,12 @@ class Tries:
                 wrong.append(f"standard error {got[2][:200]!r}, not {wanted[2]!r}")
         else:
             wrong = [f"{str(got)[:300]}\n  not\n    {str(wanted)[:300]}"]
-        print(f"{name}:\n  " + "\n  ".join(wrong))
+        return self.wrong(name, wrong)
+
+    def wrong(self, name, said):
+        """Counts a try that failed, says what was wrong, and leaves the files."""
+        self.failed += 1
+        print(f"{name}:\n  " + "\n  ".join(said))
         if self.kept:
             shutil.copytree(self.path, f"{self.kept}-{self.failed}", symlinks=True, ignore=pipes, dirs_exist_ok=True)
         return False

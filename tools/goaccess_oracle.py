@@ -708,7 +708,7 @@ def classify(rules, agent):
 
 # ------------------------------------------------------------------------------------------------ records
 
-SKIPPED, FAILED = "skipped", "failed"
+SKIPPED, FAILED, EXCLUDED = "skipped", "failed", "excluded"
 
 
 class Record:
@@ -842,6 +842,18 @@ def is_excluded(s, rules, rec):
             or (s.ignore_crawlers and rec.agent != b"" and classify(rules, rec.agent)[1] == CRAWLERS))
 
 
+def outcome_of(s, rules, setup, line):
+    """What a line adds to the counts: that it is skipped, failed or excluded, or its record with its visitor, if any, and its keys."""
+    rec = read_line(setup, line)
+    if rec in (SKIPPED, FAILED):
+        return rec
+    if is_excluded(s, rules, rec):
+        return EXCLUDED
+    rec.visitor = None if 400 <= rec.status <= 499 and not s.count_4xx else (rec.host, rec.date, rec.agent)
+    rec.keys = keys_of(s, rules, rec)
+    return rec
+
+
 class Sums:
     def __init__(self):
         self.hits = self.bytes = self.micros = self.top = 0
@@ -863,35 +875,30 @@ class Summary:
         self.rows = {panel: {} for panel in PANELS}  # (parent or data, method, protocol) -> (Sums, children)
 
     def count(self, s, rules, setup, line):
-        rec = read_line(setup, line)
-        if rec is SKIPPED:
+        found = outcome_of(s, rules, setup, line)
+        if found is SKIPPED:
             return
         self.lines += 1
-        good = rec is not FAILED
-        counted = good and not is_excluded(s, rules, rec)
-        if counted:
-            self.bytes += rec.bytes
-            self.micros += rec.micros or 0
+        if isinstance(found, Record):
+            self.bytes += found.bytes
+            self.micros += found.micros or 0
         for which, total in ((b"lines", self.lines), (b"bytes", self.bytes), (b"micros", self.micros)):
             if total > LIMIT:
                 raise Fault(5, b"counter full: %s %d" % (which, total))
-        if not good:
+        if found is FAILED:
             self.failed += 1
             return
-        if not counted:
+        if found is EXCLUDED:
             self.excluded += 1
             return
-        visitor = (rec.host, rec.date, rec.agent)
-        if 400 <= rec.status <= 499 and not s.count_4xx:
-            visitor = None
-        self.all.add(rec, visitor)
-        for panel, parent, data, method, protocol in keys_of(s, rules, rec):
+        self.all.add(found, found.visitor)
+        for panel, parent, data, method, protocol in found.keys:
             rows = self.rows[panel]
             if panel in WITH_PARENTS:
                 row = rows.setdefault((parent, b"", b""), (Sums(), {}))
-                row[0].add(rec, visitor)
+                row[0].add(found, found.visitor)
                 rows = row[1]
-            rows.setdefault((data, method, protocol), (Sums(), {}))[0].add(rec, visitor)
+            rows.setdefault((data, method, protocol), (Sums(), {}))[0].add(found, found.visitor)
 
 
 def hundredths(n, t):
