@@ -6,7 +6,7 @@ ghost use Rattle.ga_one_run.specs.Statuses.{counter_name, fault_line, format_nam
 
 use crate::printing::print;
 use crate::{Status, Which};
-use ga_base::Counter;
+use ga_base::{Counter, FormatFault};
 use ga_ports::{Outs, To};
 use ga_words::WordFault;
 use itoa::Buffer;
@@ -19,48 +19,71 @@ pub fn tell<O: Outs>(outs: &mut O, name: &[u8], status: &Status)
     ensures starved { (O.view outs.old).starved ≤ (O.view outs.new).starved }
     ensures calls { OutsTrace (O.view outs.old) (O.view outs.new) }
 {
-    let mut digits = Buffer::new();
     match status {
         Status::Done => say(outs, &[]),
         Status::BadWords(fault) => tell_words(outs, fault),
-        Status::BadFormat { which, fault } => {
-            let format = format_name(*which);
-            let text = fault.text().as_bytes();
-            match fault.place() {
-                None => say(outs, &[b"goaccess: ", format, b": ", text, b"\n"]),
-                Some(at) => {
-                    let at = digits.format(at).as_bytes();
-                    say(
-                        outs,
-                        &[b"goaccess: ", format, b", byte ", at, b": ", text, b"\n"],
-                    )
-                }
-            }
-        }
+        Status::BadFormat { which, fault } => tell_format(outs, *which, fault),
         Status::BadRules { line } => {
-            let line = digits.format(*line).as_bytes();
             let file = b"goaccess: browsers file, line ";
-            say(outs, &[file, line, b": not a rule\n"])
+            tell_number(outs, file, *line, b": not a rule\n")
         }
         Status::FileFault { .. } => say(outs, &[b"goaccess: ", name, b": read failed\n"]),
-        Status::FileShort { at, .. } => {
-            let at = digits.format(*at).as_bytes();
-            say(outs, &[b"goaccess: ", name, b": short at ", at, b"\n"])
-        }
+        Status::FileShort { at, .. } => tell_place(outs, name, b": short at ", *at, b"\n"),
         Status::DiskFault => say(outs, &[b"goaccess: database: device failed\n"]),
         Status::DbDamaged { side, at } => tell_damage(outs, *side, *at),
         Status::OutFault { at, .. } => {
-            let at = digits.format(*at).as_bytes();
-            let taken = b": write failed after ";
-            say(outs, &[b"goaccess: ", name, taken, at, b" bytes\n"])
+            tell_place(outs, name, b": write failed after ", *at, b" bytes\n")
         }
-        Status::CounterFull { which, total } => {
-            let total = digits.format(*total).as_bytes();
-            let counter = counter_name(*which);
-            say(outs, &[b"goaccess: counter full: ", counter, total, b"\n"])
-        }
+        Status::CounterFull { which, total } => tell_counter(outs, *which, *total),
         Status::NoMemory => say(outs, &[b"goaccess: no memory\n"]),
     }
+}
+
+/// Writes the fault line of a format.
+fn tell_format<O: Outs>(outs: &mut O, which: Which, fault: &FormatFault)
+    ensures line { TakesOrStops (fault_line [] (Status.BadFormat which fault.now)) (O.view outs.old).stderr (O.view outs.new).stderr }
+    ensures others { ChangesOnly Stderr (O.view outs.old) (O.view outs.new) }
+    ensures starved { (O.view outs.old).starved ≤ (O.view outs.new).starved }
+    ensures calls { OutsTrace (O.view outs.old) (O.view outs.new) }
+{
+    let format = format_name(which);
+    let text = fault.text().as_bytes();
+    match fault.place() {
+        None => say(outs, &[b"goaccess: ", format, b": ", text, b"\n"]),
+        Some(at) => {
+            let mut digits = Buffer::new();
+            let at = digits.format(at).as_bytes();
+            say(
+                outs,
+                &[b"goaccess: ", format, b", byte ", at, b": ", text, b"\n"],
+            )
+        }
+    }
+}
+
+/// Writes what happened to a file or a target at a place.
+fn tell_place<'a, O: Outs>(outs: &mut O, name: &'a [u8], text: &'a [u8], at: u64, back: &'a [u8])
+    ensures line { TakesOrStops (joined (codes "goaccess: " ∷ name.now ∷ text.now ∷ decimal at ∷ back.now ∷ [])) (O.view outs.old).stderr (O.view outs.new).stderr }
+    ensures others { ChangesOnly Stderr (O.view outs.old) (O.view outs.new) }
+    ensures starved { (O.view outs.old).starved ≤ (O.view outs.new).starved }
+    ensures calls { OutsTrace (O.view outs.old) (O.view outs.new) }
+{
+    let mut digits = Buffer::new();
+    let at = digits.format(at).as_bytes();
+    say(outs, &[b"goaccess: ", name, text, at, back])
+}
+
+/// Writes the fault line of a full counter.
+fn tell_counter<O: Outs>(outs: &mut O, which: Counter, total: u128)
+    ensures line { TakesOrStops (fault_line [] (Status.CounterFull which total)) (O.view outs.old).stderr (O.view outs.new).stderr }
+    ensures others { ChangesOnly Stderr (O.view outs.old) (O.view outs.new) }
+    ensures starved { (O.view outs.old).starved ≤ (O.view outs.new).starved }
+    ensures calls { OutsTrace (O.view outs.old) (O.view outs.new) }
+{
+    let mut digits = Buffer::new();
+    let total = digits.format(total).as_bytes();
+    let counter = counter_name(which);
+    say(outs, &[b"goaccess: counter full: ", counter, total, b"\n"])
 }
 
 /// Writes the fault line of a damaged database.
@@ -85,27 +108,28 @@ fn tell_words<O: Outs>(outs: &mut O, fault: &WordFault)
     ensures starved { (O.view outs.old).starved ≤ (O.view outs.new).starved }
     ensures calls { OutsTrace (O.view outs.old) (O.view outs.new) }
 {
+    let word = b"goaccess: word ";
     match fault {
-        WordFault::UnknownOption { at } => tell_word(outs, *at, b": unknown option\n"),
-        WordFault::MissingValue { at } => tell_word(outs, *at, b": value missing\n"),
-        WordFault::BadValue { at } => tell_word(outs, *at, b": bad value\n"),
-        WordFault::Conflict { at } => tell_word(outs, *at, b": conflict\n"),
+        WordFault::UnknownOption { at } => tell_number(outs, word, *at, b": unknown option\n"),
+        WordFault::MissingValue { at } => tell_number(outs, word, *at, b": value missing\n"),
+        WordFault::BadValue { at } => tell_number(outs, word, *at, b": bad value\n"),
+        WordFault::Conflict { at } => tell_number(outs, word, *at, b": conflict\n"),
         WordFault::NoFormat => say(outs, &[b"goaccess: no log format\n"]),
         WordFault::NoInput => say(outs, &[b"goaccess: no input\n"]),
         WordFault::NoMemory => say(outs, &[b"goaccess: no memory\n"]),
     }
 }
 
-/// Writes what is wrong with the word at a place.
-fn tell_word<O: Outs>(outs: &mut O, at: u64, text: &[u8])
-    ensures line { TakesOrStops (joined (codes "goaccess: word " ∷ decimal at ∷ text.now ∷ [])) (O.view outs.old).stderr (O.view outs.new).stderr }
+/// Writes a text, a number and a text.
+fn tell_number<O: Outs>(outs: &mut O, front: &[u8], number: u64, back: &[u8])
+    ensures line { TakesOrStops (joined (front.now ∷ decimal number ∷ back.now ∷ [])) (O.view outs.old).stderr (O.view outs.new).stderr }
     ensures others { ChangesOnly Stderr (O.view outs.old) (O.view outs.new) }
     ensures starved { (O.view outs.old).starved ≤ (O.view outs.new).starved }
     ensures calls { OutsTrace (O.view outs.old) (O.view outs.new) }
 {
     let mut digits = Buffer::new();
-    let at = digits.format(at).as_bytes();
-    say(outs, &[b"goaccess: word ", at, text])
+    let number = digits.format(number).as_bytes();
+    say(outs, &[front, number, back])
 }
 
 fn counter_name(which: Counter) -> &'static [u8]

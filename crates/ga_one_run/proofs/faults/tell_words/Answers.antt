@@ -1,16 +1,16 @@
 use Rattle.ga_one_run.proofs.faults.tell_words.Goals as goal
 
 pub returns-in-UnknownOption-clause-line : goal.returns-in-UnknownOption-clause-line
-returns-in-UnknownOption-clause-line g c = rw c.in-UnknownOption.is c.tell_word.ensures.line
+returns-in-UnknownOption-clause-line g c = rw c.in-UnknownOption.is c.tell_number.ensures.line
 
 pub returns-in-MissingValue-clause-line : goal.returns-in-MissingValue-clause-line
-returns-in-MissingValue-clause-line g c = rw c.in-MissingValue.is c.tell_word-in-MissingValue.ensures.line
+returns-in-MissingValue-clause-line g c = rw c.in-MissingValue.is c.tell_number-in-MissingValue.ensures.line
 
 pub returns-in-BadValue-clause-line : goal.returns-in-BadValue-clause-line
-returns-in-BadValue-clause-line g c = rw c.in-BadValue.is c.tell_word-in-BadValue.ensures.line
+returns-in-BadValue-clause-line g c = rw c.in-BadValue.is c.tell_number-in-BadValue.ensures.line
 
 pub returns-in-Conflict-clause-line : goal.returns-in-Conflict-clause-line
-returns-in-Conflict-clause-line g c = rw c.in-Conflict.is c.tell_word-in-Conflict.ensures.line
+returns-in-Conflict-clause-line g c = rw c.in-Conflict.is c.tell_number-in-Conflict.ensures.line
 
 pub returns-in-NoFormat-clause-line : goal.returns-in-NoFormat-clause-line
 returns-in-NoFormat-clause-line g c = rw c.in-NoFormat.is c.say.ensures.line
