@@ -1,17 +1,18 @@
 -- Records that are merged together before they are merged into a summary.
-use Rattle.std.proofs.Common.{◌≡◌, ℕ, ◌≤◌, ◌||◌, Bool, true, false, [], None, is_some, refl, sym, ap, ◌∙◌, subst, arith}
+use Rattle.std.proofs.Common.{◌≡◌, ℕ, ◌≤◌, ◌||◌, Bool, true, false, Option, Some, None, IfSome, is_some, refl, sym, ap, ◌∙◌, subst, arith}
 use Rattle.std.specs.Prelude.{◌↔◌, IsTrue, nat_lt}
 use Rattle.std.proofs.lemmas.Bool.Decides.{nat_tests}
 use Rattle.ga_base.specs.declared.counts.Sums.{Sums}
 use Rattle.ga_base.specs.declared.counts.TheConstants.{LIMIT}
 use Rattle.ga_base.specs.declared.counts.Totals.{Totals}
-use Rattle.ga_base.specs.Totals.{TotalsFit, no_totals, totals_plus}
+use Rattle.ga_base.specs.Totals.{TotalsFit, totals_plus}
 use Rattle.ga_summary.specs.Limits.{passes}
 use Rattle.ga_summary.specs.Steps.Joined.{merged_value}
 use Rattle.ga_summary.specs.SummaryRows.{IsInOrder, SummaryValue, has_pair, row_at, sums_at, sums_plus}
-use Rattle.ga_summary.specs.Sums.{IsMerged, IsSumOf}
-use Rattle.ga_summary.proofs.Merging.{same_sums, sums_plus-none}
+use Rattle.ga_summary.specs.Sums.{IsMerged}
+use Rattle.ga_summary.proofs.Merging.{same_sums}
 use Rattle.ga_summary.proofs.Soundness.{IsMerged-merged_value}
+use Rattle.ga_store.specs.Steps.Records.{IsTogether, with_apart}
 
 -- ---- totals and limits
 
@@ -20,9 +21,6 @@ same-totals a b l f e h y m = λ i. record { lines = l i; failed = f i; excluded
 
 pub totals-together : (a b c : Totals) → totals_plus a (totals_plus b c) ≡ totals_plus (totals_plus a b) c
 totals-together a b c = same-totals _ _ (omega arith) (omega arith) (omega arith) (omega arith) (omega arith) (omega arith)
-
-totals-none : (t : Totals) → totals_plus t no_totals ≡ t
-totals-none t = same-totals _ _ (omega arith) (omega arith) (omega arith) (omega arith) (omega arith) (omega arith)
 
 below : (n : ℕ) → n ≤ LIMIT → nat_lt LIMIT n ≡ false
 below n h = grind (arith, nat_tests)
@@ -53,10 +51,6 @@ or-together : (a b c : Bool) → (a || (b || c)) ≡ ((a || b) || c)
 or-together true b c = refl
 or-together false b c = refl
 
-or-none : (a : Bool) → (a || false) ≡ a
-or-none true = refl
-or-none false = refl
-
 three-bools : (abc ab bc a b c : Bool) → abc ≡ (a || bc) → bc ≡ (b || c) → ab ≡ (a || b) → abc ≡ (ab || c)
 three-bools abc ab bc a b c all last first =
     all ∙ ap (λ (t : Bool). a || t) last ∙ or-together a b c ∙ ap (λ (t : Bool). t || c) (sym first)
@@ -79,24 +73,24 @@ merged-together a b c ab bc abc first last all = record {
   ordered = all.ordered;
 }
 
--- the sum of no lines adds nothing
-merged-none : (a none : SummaryValue) → IsInOrder a.rows → IsSumOf [] none → IsMerged a none a
-merged-none a none ordered is = record {
-  totals = sym (ap (λ (t : Totals). totals_plus a.totals t) is.totals ∙ totals-none a.totals);
-  sums = λ key. sym (ap (λ (t : Sums). sums_plus (sums_at a.rows key) t) (is.sums key) ∙ sums_plus-none (sums_at a.rows key));
-  pairs = λ key visitor. sym (ap (λ (t : Bool). has_pair a.rows key visitor || t) (is.pairs key visitor) ∙ or-none (has_pair a.rows key visitor));
-  present = λ key. sym (ap (λ (t : Bool). is_some (row_at a.rows key) || t) (is.present key) ∙ or-none (is_some (row_at a.rows key)));
-  ordered = ordered;
-}
+-- ---- kept apart
 
--- two summaries come to one
-abbrev pub OneMerged : Type 0
-OneMerged = (a b s t : SummaryValue) → IsMerged a b s → IsMerged a b t → s ≡ t
+-- what is together is merged with the summary as each after the other
+pub kept-apart : (s : SummaryValue) (apart : Option SummaryValue) (more all : SummaryValue) → IsInOrder s.rows → IsInOrder more.rows → IsTogether apart more all
+    → IsMerged (with_apart s apart) more (merged_value s all)
+kept-apart s None more all ordered ordered-more is = subst (λ (v : SummaryValue). IsMerged s more (merged_value s v)) (sym is) (IsMerged-merged_value s more ordered ordered-more)
+kept-apart s (Some apart) more all ordered ordered-more (ordered-apart, both) =
+    merged-together s apart more (merged_value s apart) all (merged_value s all) (IsMerged-merged_value s apart ordered ordered-apart) both (IsMerged-merged_value s all ordered both.ordered)
 
--- so a summary with that sum is as it was
-pub merged-same : OneMerged → (a none : SummaryValue) → IsInOrder a.rows → IsSumOf [] none → merged_value a none ≡ a
-merged-same one a none ordered is = one a none (merged_value a none) a (IsMerged-merged_value a none ordered is.ordered) (merged-none a none ordered is)
+-- it fits
+pub fits-apart : (s : SummaryValue) (apart : Option SummaryValue) (more all : SummaryValue) → passes (totals_plus (with_apart s apart).totals more.totals) ≡ None → IsTogether apart more all
+    → TotalsFit (totals_plus s.totals all.totals)
+fits-apart s None more all room is = subst (λ (v : SummaryValue). TotalsFit (totals_plus s.totals v.totals)) (sym is) (all-within (totals_plus s.totals more.totals) room)
+fits-apart s (Some apart) more all room (ordered, both) =
+    subst (λ (t : Totals). TotalsFit (totals_plus s.totals t)) (sym both.totals)
+    (subst TotalsFit (sym (totals-together s.totals apart.totals more.totals)) (all-within (totals_plus (totals_plus s.totals apart.totals) more.totals) room))
 
-pub fit-none : (a none : SummaryValue) → TotalsFit a.totals → IsSumOf [] none → TotalsFit (totals_plus a.totals none.totals)
-fit-none a none fit is =
-    subst TotalsFit (sym (ap (λ (t : Totals). totals_plus a.totals t) is.totals ∙ totals-none a.totals)) fit
+pub room-together : (s : SummaryValue) (apart : Option SummaryValue) (more : SummaryValue) → passes (totals_plus (with_apart s apart).totals more.totals) ≡ None
+    → IfSome apart (λ one. TotalsFit (totals_plus one.totals more.totals))
+room-together s None more room = tt
+room-together s (Some apart) more room = fit-less s.totals apart.totals more.totals (all-within (totals_plus (totals_plus s.totals apart.totals) more.totals) room)

@@ -1,10 +1,11 @@
-ghost use Rattle.std.specs.Prelude.{◌≡◌, ◌↔◌, ◌<◌, None, IfOk, IsTrue, OnErr, OnOk};
-ghost use Rattle.ga_base.specs.Totals.{TotalsFit, totals_plus};
+ghost use Rattle.std.specs.Prelude.{◌≡◌, ◌↔◌, ◌<◌, None, IfOk, IfSome, IsTrue, OnErr, OnOk};
+ghost use Rattle.ga_base.specs.Totals.{LinesAdd, TotalsFit, totals_plus};
 ghost use Rattle.ga_summary.specs.Limits.{passes};
 ghost use Rattle.ga_summary.specs.Steps.Joined.{merged_value};
+ghost use Rattle.ga_summary.specs.SummaryRows.{IsInOrder};
 ghost use Rattle.ga_summary.specs.Sums.{IsMerged};
 ghost use Rattle.ga_codec.specs.Values.{delta_value};
-ghost use Rattle.ga_store.specs.Steps.Records.{TakesDelta};
+ghost use Rattle.ga_store.specs.Steps.Records.{IsTogether, TakesDelta};
 ghost use Rattle.ga_store.specs.Store.{db_value};
 
 use crate::Db;
@@ -12,7 +13,6 @@ use crate::found::RecordPart;
 use ga_base::{LIMIT, NoMemory, Totals};
 use ga_summary::laws::one_merged;
 use ga_summary::{MergeFault, Summary};
-use std::alloc::Global;
 use std::marker::Model;
 
 /// What is kept apart is merged into the summary once it has more rows than one of this many parts of the summary.
@@ -23,35 +23,30 @@ const PARTS: u64 = 4;
 pub(crate) struct Growing {
     /// The database; its summary lacks what is kept apart.
     db: Db,
-    /// What records added that isn't in the summary yet.
-    apart: Summary,
+    /// What records added that isn't in the summary yet; None where nothing is.
+    apart: Option<Summary>,
 }
 
 impl Model for Growing {
+    ghost use Rattle.std.specs.Prelude.{IfSome};
     ghost use Rattle.ga_base.specs.Totals.{TotalsFit, totals_plus};
-    ghost use Rattle.ga_summary.specs.Steps.Joined.{merged_value};
     ghost use Rattle.ga_store.specs.Database.{DbValue};
+    ghost use Rattle.ga_store.specs.Steps.Records.{with_apart};
     ghost use Rattle.ga_store.specs.Store.{db_value};
 
     ghost Value = { DbValue };
 
-    ghost view = { λ g. record (db_value g.db) { summary = merged_value g.db.summary g.apart } };
+    ghost view = { λ g. record (db_value g.db) { summary = with_apart g.db.summary g.apart } };
 
-    ghost invariant = { λ g. TotalsFit (totals_plus g.db.summary.totals g.apart.totals) };
+    ghost invariant = { λ g. IfSome g.apart (λ apart. TotalsFit (totals_plus g.db.summary.totals apart.totals)) };
 }
 
 impl Growing {
     /// The database, before it takes on records.
-    pub(crate) fn of(alloc: Global, db: Db) -> Growing
+    pub(crate) fn of(db: Db) -> Growing
         ensures { result ≡ db_value db }
     {
-        // That two summaries come to one, and that the summary is in order and fits, for the proof alone.
-        one_merged();
-        let _ = db.summary.totals();
-        Growing {
-            db,
-            apart: Summary::empty(alloc),
-        }
+        Growing { db, apart: None }
     }
 
     /// The place of the first gate after the records that were taken on.
@@ -62,7 +57,7 @@ impl Growing {
     }
 
     /// Takes on a run record, and answers whether it did: not where its totals pass a limit.
-    pub(crate) fn take_on(&mut self, alloc: Global, found: RecordPart) -> Result<bool, NoMemory>
+    pub(crate) fn take_on(&mut self, found: RecordPart) -> Result<bool, NoMemory>
         requires few { self.old.records < found.next }
         ensures { IfOk result (TakesDelta self.old self.new (delta_value found.delta) found.next) }
     {
@@ -70,7 +65,7 @@ impl Growing {
         if !self.has_room(&delta.summary) {
             return Ok(false);
         }
-        self.add(alloc, &delta.summary)?;
+        self.add(delta.summary)?;
         self.db.entries = delta.entries;
         self.db.records += 1;
         self.db.slot = next;
@@ -83,7 +78,9 @@ impl Growing {
     {
         let Growing { db, apart } = self;
         let mut db = db;
-        merge_fitting(&mut db.summary, &apart)?;
+        if let Some(apart) = apart {
+            merge_fitting(&mut db.summary, &apart)?;
+        }
         Ok(db)
     }
 
@@ -91,50 +88,81 @@ impl Growing {
     fn has_room(&self, more: &Summary) -> bool
         ensures { IsTrue result ↔ (passes (totals_plus self.now.summary.totals more.now.totals) ≡ None) }
     {
+        totals_fit(self.totals().plus(&more.totals()))
+    }
+
+    /// The totals of the database with all records.
+    fn totals(&self) -> Totals
+        ensures value { result ≡ self.now.summary.totals }
+        ensures fit { TotalsFit result }
+        ensures lines { LinesAdd result }
+    {
         let stored = self.db.summary.totals();
-        let apart = self.apart.totals();
-        let all = stored.plus(&apart);
-        totals_fit(all.plus(&more.totals()))
+        match &self.apart {
+            None => stored,
+            Some(apart) => stored.plus(&apart.totals()),
+        }
     }
 
     /// Adds what a run record counted, for which there is room.
-    fn add(&mut self, alloc: Global, more: &Summary) -> Result<(), NoMemory>
-        requires room { passes (totals_plus self.old.summary.totals more.now.totals) ≡ None }
-        ensures merged { OnOk result (IsMerged self.old.summary more.now self.new.summary) }
+    fn add(&mut self, more: Summary) -> Result<(), NoMemory>
+        requires room { passes (totals_plus self.old.summary.totals more.totals) ≡ None }
+        ensures merged { OnOk result (IsMerged self.old.summary more self.new.summary) }
         ensures others { OnOk result (self.new ≡ record self.old { summary = self.new.summary }) }
     {
         self.keep_apart(more)?;
-        self.join_large(alloc)?;
+        self.join_large()?;
         Ok(())
     }
 
-    /// Merges this with what is kept apart.
-    fn keep_apart(&mut self, more: &Summary) -> Result<(), NoMemory>
-        requires room { passes (totals_plus self.old.summary.totals more.now.totals) ≡ None }
-        ensures merged { OnOk result (IsMerged self.old.summary more.now self.new.summary) }
+    /// Puts this with what is kept apart.
+    fn keep_apart(&mut self, more: Summary) -> Result<(), NoMemory>
+        requires room { passes (totals_plus self.old.summary.totals more.totals) ≡ None }
+        ensures merged { OnOk result (IsMerged self.old.summary more self.new.summary) }
         ensures others { OnOk result (self.new ≡ record self.old { summary = self.new.summary }) }
     {
-        // That the three are in order, for the proof alone.
+        // That the two are in order, for the proof alone.
         let _ = self.db.summary.totals();
-        let _ = self.apart.totals();
         let _ = more.totals();
-        merge_fitting(&mut self.apart, more)?;
+        let apart = together(self.apart.take(), more)?;
+        self.apart = Some(apart);
         Ok(())
     }
 
     /// Merges what is kept apart into the summary, once it is large.
-    fn join_large(&mut self, alloc: Global) -> Result<(), NoMemory>
+    fn join_large(&mut self) -> Result<(), NoMemory>
         ensures { OnOk result (self.new ≡ self.old) }
     {
-        if self.apart.len() <= self.db.summary.len() / PARTS {
+        if !self.is_large() {
             return Ok(());
         }
-        // That two summaries come to one, for the proof alone.
-        one_merged();
-        merge_fitting(&mut self.db.summary, &self.apart)?;
-        let _ = self.db.summary.totals();
-        self.apart = Summary::empty(alloc);
+        if let Some(apart) = self.apart.take() {
+            merge_fitting(&mut self.db.summary, &apart)?;
+        }
         Ok(())
+    }
+
+    /// Whether what is kept apart is large beside the summary.
+    fn is_large(&self) -> bool {
+        match &self.apart {
+            None => false,
+            Some(apart) => apart.len() > self.db.summary.len() / PARTS,
+        }
+    }
+}
+
+/// What is kept apart, if anything is, with this.
+fn together(apart: Option<Summary>, more: Summary) -> Result<Summary, NoMemory>
+    requires { IfSome apart (λ one. TotalsFit (totals_plus one.totals more.totals)) }
+    ensures { IfOk result (IsTogether apart more) }
+{
+    match apart {
+        None => Ok(more),
+        Some(apart) => {
+            let mut apart = apart;
+            merge_fitting(&mut apart, &more)?;
+            Ok(apart)
+        }
     }
 }
 
@@ -149,6 +177,7 @@ fn totals_fit(totals: Totals) -> bool
 fn merge_fitting(one: &mut Summary, more: &Summary) -> Result<(), NoMemory>
     requires fit { TotalsFit (totals_plus one.old.totals more.now.totals) }
     ensures merged { OnOk result (one.new ≡ merged_value one.old more.now) }
+    ensures ordered { IsInOrder one.old.rows × IsInOrder more.now.rows }
     ensures unchanged { OnErr result (one.new ≡ one.old) }
 {
     // That two summaries come to one, and that both are in order, for the proof alone.

@@ -2,6 +2,8 @@
 use Rattle.std.specs.Prelude.{◌≡◌, ℕ, ◌+◌, ◌≤◌, Bool, true, false, List, ◌∷◌, ◌++◌, length, Option, Some, None}
 use Rattle.ga_base.specs.Totals.{totals_plus}
 use Rattle.ga_summary.specs.Limits.{passes}
+use Rattle.ga_summary.specs.Steps.Joined.{merged_value}
+use Rattle.ga_summary.specs.SummaryRows.{IsInOrder, SummaryValue}
 use Rattle.ga_summary.specs.Sums.{IsMerged}
 use Rattle.ga_codec.specs.Shapes.{SpellDelta}
 use Rattle.ga_codec.specs.Values.{DeltaValue, delta_value}
@@ -28,6 +30,16 @@ pub record HasDelta (delta : Delta) (taken : List ℕ) : Type 0 where
 abbrev pub SaysDelta : StreamView → Option Delta → List ℕ → Type 0
 SaysDelta s (Some delta) taken = HasDelta delta taken
 SaysDelta s None taken = (rest : List ℕ) → IsRest s rest → LacksRecord (taken ++ rest) 0
+
+-- a summary with what is kept apart, if anything is
+abbrev pub with_apart : SummaryValue → Option SummaryValue → SummaryValue
+with_apart s None = s
+with_apart s (Some apart) = merged_value s apart
+
+-- what is kept apart, if anything is, with a summary more
+abbrev pub IsTogether : Option SummaryValue → SummaryValue → SummaryValue → Type 0
+IsTogether None more all = all ≡ more
+IsTogether (Some apart) more all = IsInOrder apart.rows × IsMerged apart more all
 
 -- a run record was taken on, which the gate at this place follows
 pub record TookDelta (old new : DbValue) (delta : DeltaValue) (next : ℕ) : Type 0 where

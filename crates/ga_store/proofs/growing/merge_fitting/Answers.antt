@@ -12,6 +12,7 @@ returns-in-Ok c =
     record {
       merged = c.one_merged.ensures one more c.merge.new.self (merged_value one more) c.in-Ok.ensures.merged
           (IsMerged-merged_value one more c.totals.ensures.sound.ordered c.totals-2.ensures.sound.ordered);
+      ordered = (c.totals.ensures.sound.ordered, c.totals-2.ensures.sound.ordered);
       unchanged = tt;
     }
 

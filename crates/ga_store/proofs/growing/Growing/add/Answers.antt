@@ -9,6 +9,6 @@ returns c =
     let same = c.in_ok-join_large.ensures in
     let kept = c.in_ok-keep_apart.ensures in
     record {
-      merged = subst (λ (d : DbValue). IsMerged old.summary c.args.more.now d.summary) (sym same) kept.merged;
+      merged = subst (λ (d : DbValue). IsMerged old.summary c.args.more d.summary) (sym same) kept.merged;
       others = same ∙ kept.others ∙ ap (λ (d : DbValue). record old { summary = d.summary }) (sym same);
     }
