@@ -100,7 +100,7 @@ lacks-before a b xs ys rest has lacks =
 
 -- where a piece was read and rows are missing, a slice more was read of the side
 pub more-asked : (s s' : StreamView) (want left-of : ℕ) → s'.size ≡ s.size → left s ≡ left s' → min want (left s') ≤ length s'.window
-    → min (min (length s.window * 2) (2 ^ 64 - 1) + 1) (2 ^ 64 - 1) ≤ want → length s'.window < left-of → left-of + 32 ≤ left s → left s < 2 ^ 63
+    → want ≡ min (min (length s.window * 2) (2 ^ 64 - 1) + 1) (2 ^ 64 - 1) → length s'.window < left-of → left-of + 32 ≤ left s → left s < 2 ^ 63
     → s.size - asked s' < s.size - asked s
 more-asked s s' want left-of size same loaded is short room fits = omega (arith, size, same, loaded, is, short, room, fits)
 

@@ -59,7 +59,7 @@ pub(crate) fn read_next<H: Hands, D: Disk>(
         (SaysNext stream.old stream.new body.old body.new) result }
 {
     let want = stream.window().len().saturating_mul(2).saturating_add(1);
-    stream.load(disk, want.max(hands.least()))?;
+    stream.load(disk, want)?;
     let window = stream.window();
     let piece = &window[..(window.len() as u64).min(body.left) as usize];
     match read_piece(hands, body, piece) {

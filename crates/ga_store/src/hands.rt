@@ -9,17 +9,10 @@ use std::thread::{Threads, join_mut};
 /// The fewest bytes that are digested in a thread of their own.
 const FEW: usize = 1 << 16;
 
-/// How many bytes are loaded for two threads. A new thread may share its processor with another for some milliseconds, so what it
-/// digests takes longer than that.
-const MANY: usize = 1 << 23;
-
 /// How a body is read on while what was read of it before is digested.
 pub(crate) trait Hands {
     /// Where memory is taken.
     fn alloc(&self) -> Global;
-
-    /// The fewest bytes that are loaded before rows are read from them, where there are so many.
-    fn least(&self) -> usize;
 
     /// Reads on in a body as `BodyReader::read` does, and digests the bytes that wait.
     fn read_and_digest(
@@ -44,10 +37,6 @@ impl Hands for InTurn {
         self.alloc
     }
 
-    fn least(&self) -> usize {
-        1
-    }
-
     fn read_and_digest(
         &self,
         reader: &mut BodyReader,
@@ -70,10 +59,6 @@ pub(crate) struct AtOnce<'a, R> {
 impl<R: Threads> Hands for AtOnce<'_, R> {
     fn alloc(&self) -> Global {
         self.alloc
-    }
-
-    fn least(&self) -> usize {
-        MANY
     }
 
     fn read_and_digest(

@@ -35,8 +35,7 @@ returns-in-Ok g c =
             | inl short ↦
                 let want : c.saturating_add-want.result ≡ min (min (length c.args.stream.now.window * 2) (2 ^ 64 - 1) + 1) (2 ^ 64 - 1) =
                 omega (arith, c.saturating_add-want.ensures, c.saturating_mul.ensures, ap length c.window.ensures) in
-                let least : min (min (length c.args.stream.now.window * 2) (2 ^ 64 - 1) + 1) (2 ^ 64 - 1) ≤ c.max.result = omega (arith, want, c.max.ensures) in
-                let more = more-asked c.args.stream.now s c.max.result of-body loaded.off.size (omega (arith, loaded.off.long)) next.2.1 least short c.requires.room (omega (arith, c.requires.told.within, c.requires.told.fits)) in
+                let more = more-asked c.args.stream.now s c.saturating_add-want.result of-body loaded.off.size (omega (arith, loaded.off.long)) next.2.1 want short c.requires.room (omega (arith, c.requires.told.within, c.requires.told.fits)) in
                 omega (arith, more, same-asked)
             | inr all ↦
                 let whole : length piece ≡ of-body = omega (arith, long, all) in
