@@ -3,7 +3,7 @@
 _goaccess() {
     # the options with a value, and those without one
     local valued='--log-format --date-format --time-format --browsers-file --exclude-ip --ignore-status --static-file -o --output
-        --max-items --ignore-panel --enable-panel --jobs --chunk-size --generate --db-path'
+        --date-spec --hour-spec --max-items --ignore-panel --enable-panel --jobs --chunk-size --generate --db-path'
     local flags='--ignore-crawlers --no-ip-validation --no-strict-status --no-query-string --double-decode-url --all-static-files
         --4xx-to-unique-count --444-as-404 --persist --restore'
     local formats='COMMON COMBINED VCOMMON VCOMBINED'
@@ -36,6 +36,8 @@ _goaccess() {
         --browsers-file) return ;;
         --log-format) mapfile -t COMPREPLY < <(compgen -W "$formats" -- "$word") ;;
         --ignore-panel | --enable-panel) mapfile -t COMPREPLY < <(compgen -W "$panels" -- "$word") ;;
+        --date-spec) mapfile -t COMPREPLY < <(compgen -W 'date hr min' -- "$word") ;;
+        --hour-spec) mapfile -t COMPREPLY < <(compgen -W 'hr min' -- "$word") ;;
         --jobs) mapfile -t COMPREPLY < <(compgen -W '1 2 4 8 16' -- "$word") ;;
         --db-path)
             compopt -o filenames

@@ -6,8 +6,10 @@
 
 mod bytes;
 mod counts;
+mod date_spec;
 mod entry;
 mod formats;
+mod hour_spec;
 mod key;
 pub mod laws;
 mod limits;
@@ -26,8 +28,10 @@ mod text;
 
 pub use bytes::Bytes;
 pub use counts::{Amounts, BIG, Counter, LIMIT, Sums, Totals};
+pub use date_spec::DateSpec;
 pub use entry::{Entries, Entry};
 pub use formats::{FormatFault, FormatItem, Needed};
+pub use hour_spec::HourSpec;
 pub use key::{Key, Keys, Visitor};
 pub use limits::{FRONT, LINE_FEED, MAX_BATCH, MAX_CHUNK, MAX_JOBS};
 pub use listing::{Listing, Texts};

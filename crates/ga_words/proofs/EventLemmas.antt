@@ -4,7 +4,7 @@ use Rattle.ga_words.specs.declared.settings.Settings.{Settings}
 use Rattle.ga_words.specs.declared.fault.WordFault.{WordFault}
 use Rattle.ga_words.specs.declared.fault.WordFault.TheVariants.{UnknownOption, MissingValue, BadValue, NoFormat, NoInput, Conflict, NoMemory}
 use Rattle.ga_words.specs.Options.{Takes, Sets, IsOutside, TakesValue}
-use Rattle.ga_words.specs.Options.Takes.{Flag, Format, Name, Number, Status, Target, Addresses, OfPanel}
+use Rattle.ga_words.specs.Options.Takes.{Flag, Format, Name, Number, Status, Target, Addresses, OfPanel, OneOf}
 use Rattle.ga_words.specs.Units.{WordUnit, written, Makes, AreNamed}
 use Rattle.ga_words.specs.Units.WordUnit.{Alone, Joined, Separate, Log}
 use Rattle.ga_words.specs.WordsOf.{BeginsWithFault, IsBadTail}
@@ -29,6 +29,7 @@ value-no_flag (Status set) h = refl
 value-no_flag (Target set) h = refl
 value-no_flag (Addresses set) h = refl
 value-no_flag (OfPanel set) h = refl
+value-no_flag (OneOf words) h = refl
 
 sets-no_flag : (takes : Takes) (value : List ℕ) (old new : Settings) → Sets takes value old new → flag_of takes ≡ None
 sets-no_flag (Flag set) value old new h = absurd h
@@ -39,6 +40,7 @@ sets-no_flag (Status set) value old new h = refl
 sets-no_flag (Target set) value old new h = refl
 sets-no_flag (Addresses set) value old new h = refl
 sets-no_flag (OfPanel set) value old new h = refl
+sets-no_flag (OneOf words) value old new h = refl
 
 -- an option with this value: a unit, or a bad value
 abbrev pub HasValue : WordUnit → List (List ℕ) → ℕ → Takes → List ℕ → Settings → Event → Type 0

@@ -5,7 +5,7 @@ use Rattle.ga_words.specs.declared.fault.WordFault.{WordFault}
 use Rattle.ga_words.specs.declared.fault.WordFault.TheVariants.{UnknownOption, MissingValue, BadValue}
 use Rattle.ga_words.specs.declared.words_reading.Reading.{Reading}
 use Rattle.ga_words.specs.Options.{Takes, takes_of, IsLong, TakesValue}
-use Rattle.ga_words.specs.Options.Takes.{Flag, Format, Name, Number, Status, Target, Addresses, OfPanel}
+use Rattle.ga_words.specs.Options.Takes.{Flag, Format, Name, Number, Status, Target, Addresses, OfPanel, OneOf}
 use Rattle.ga_words.specs.Units.{WordUnit, written, BeginsWithDash, Makes, names_generate}
 use Rattle.ga_words.specs.Units.WordUnit.{Alone, Joined, Separate, Log}
 use Rattle.ga_words.specs.WordsOf.{BeginsWithFault}
@@ -72,6 +72,7 @@ module _ (one_address : OneAddress) where
   option-first word after at old (Target set) e = apart-first word after at old (Target set) e (λ own k. cc)
   option-first word after at old (Addresses set) e = apart-first word after at old (Addresses set) e (λ own k. cc)
   option-first word after at old (OfPanel set) e = apart-first word after at old (OfPanel set) e (λ own k. cc)
+  option-first word after at old (OneOf words) e = apart-first word after at old (OneOf words) e (λ own k. cc)
 
   dashed-first : (word : List ℕ) (after : List (List ℕ)) (at : ℕ) (old : Reading) → BeginsWithDash word → word ≢ codes "--" → Begins word after at old
   dashed-first word after at old dash no_tail = alone (takes_of word) refl

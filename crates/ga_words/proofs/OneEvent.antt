@@ -1,5 +1,7 @@
 -- A value sets one thing, and one thing is at the front of words.
 use Rattle.std.proofs.Common.{◌≡◌, ◌≢◌, ◌+◌, ◌<◌, ℕ, suc, Option, Some, None, List, [], ◌∷◌, ◌++◌, length, codes, refl, sym, ap, ◌∙◌, subst, inl, inr, arith, length-append, append_assoc}
+use Rattle.std.specs.Map.{lookup}
+use Rattle.std.specs.Str.{bytes_eq}
 use Rattle.ga_base.specs.declared.panel.Panel.{Panel}
 use Rattle.ga_hosts.specs.Ranges.{SpellsRange}
 use Rattle.ga_hosts.specs.declared.range.Range.{Range}
@@ -8,7 +10,7 @@ use Rattle.ga_words.specs.declared.settings.Output.{Output}
 use Rattle.ga_words.specs.declared.fault.WordFault.TheVariants.{BadValue}
 use Rattle.ga_words.specs.Values.{NamesOutput, panel_named}
 use Rattle.ga_words.specs.Options.{Takes, Sets}
-use Rattle.ga_words.specs.Options.Takes.{Flag, Format, Name, Number, Status, Target, Addresses, OfPanel}
+use Rattle.ga_words.specs.Options.Takes.{Flag, Format, Name, Number, Status, Target, Addresses, OfPanel, OneOf}
 use Rattle.ga_words.specs.Units.{WordUnit, AreNamed}
 use Rattle.ga_words.specs.Units.WordUnit.{Separate, Joined}
 use Rattle.ga_words.proofs.ClassLemmas.{Class, class_of}
@@ -58,6 +60,9 @@ one-output text a b (inr (inr (inr h))) (inr (inl k)) = absurd (not-short text (
 one-output text a b (inr (inr (inr h))) (inr (inr (inl k))) = absurd (not-both text k.front h.front k.spelled h.spelled)
 one-output text a b (inr (inr (inr h))) (inr (inr (inr k))) = h.is ∙ sym k.is
 
+one-setting : (found : Option (Settings → Settings)) (a b : Settings → Settings) → found ≡ Some a → found ≡ Some b → a ≡ b
+one-setting found a b e k = let same : Some a ≡ Some b = sym e ∙ k in cc
+
 one-panel : (found : Option Panel) (a b : Panel) → found ≡ Some a → found ≡ Some b → a ≡ b
 one-panel found a b e k = let same : Some a ≡ Some b = sym e ∙ k in cc
 
@@ -96,6 +101,8 @@ module _ (one_range : OneRange) where
   one-sets (Target set) value old a b h k = h.2 ∙ ap (λ (o : Output). set o old) (one-output value h.0 k.0 h.1 k.1) ∙ sym k.2
   one-sets (Addresses set) value old a b h k = h.2 ∙ ap (λ (r : Range). set r old) (one_range value h.0 k.0 h.1 k.1) ∙ sym k.2
   one-sets (OfPanel set) value old a b h k = h.2 ∙ ap (λ (p : Panel). set p old) (one-panel (panel_named value) h.0 k.0 h.1 k.1) ∙ sym k.2
+  one-sets (OneOf words) value old a b h k =
+      h.2 ∙ ap (λ (set : Settings → Settings). set old) (one-setting (lookup (λ word. bytes_eq word value) words) h.0 k.0 h.1 k.1) ∙ sym k.2
 
   one-value : (unit : WordUnit) (rest : List (List ℕ)) (at : ℕ) (takes : Takes) (value : List ℕ) (old : Settings) (a b : Event) → HasValue unit rest at takes value old a → HasValue unit rest at takes value old b → a ≡ b
   one-value unit rest at takes value old a b (inl h) (inl k) = h.2 ∙ ap (Reads unit rest) (one-sets takes value old h.0 k.0 h.1 k.1) ∙ sym k.2

@@ -1,6 +1,8 @@
 -- By each value an option makes one thing of all settings, or the value is outside its column.
 use mathlib.Core.Logic.Dec.{and, of_iff}
 use Rattle.std.proofs.Common.{◌≡◌, ◌≢◌, ℕ, ◌≤◌, ◌⊎◌, Option, Some, None, List, [], ◌++◌, length, codes, refl, ap, ◌∙◌, subst, inl, inr}
+use Rattle.std.specs.Map.{lookup}
+use Rattle.std.specs.Str.{bytes_eq}
 use Rattle.std.specs.Str.Parse.{IsNumeral, digits_value}
 use Rattle.ga_base.specs.declared.panel.Panel.{Panel}
 use Rattle.ga_words.specs.declared.settings.Settings.{Settings}
@@ -9,7 +11,7 @@ use Rattle.ga_words.specs.declared.settings.Kind.{Kind}
 use Rattle.ga_words.specs.declared.settings.Kind.TheVariants.{Json, Csv}
 use Rattle.ga_words.specs.Values.{IsNumber, NamesFile, NamesOutput, panel_named}
 use Rattle.ga_words.specs.Options.{Takes, Sets, IsOutside}
-use Rattle.ga_words.specs.Options.Takes.{Flag, Format, Name, Number, Status, Target, Addresses, OfPanel}
+use Rattle.ga_words.specs.Options.Takes.{Flag, Format, Name, Number, Status, Target, Addresses, OfPanel, OneOf}
 use Rattle.ga_words.proofs.Decided.{either, has-items, same-text, at-most, Cut, some-cut}
 use Rattle.ga_words.proofs.SomeRange.{OneAddress, is-numeral, some-range}
 
@@ -66,6 +68,10 @@ some-output text =
     (either (same-text text (codes "json")) (same-text text (codes "csv")))
     (either (ends-so (codes ".json") text) (ends-so (codes ".csv") text)))
 
+some-setting : (found : Option (Settings → Settings)) → Dec ((set : Settings → Settings) × (found ≡ Some set))
+some-setting None = no (λ h. let e = h.1 in cc)
+some-setting (Some set) = yes (set, refl)
+
 some-panel : (found : Option Panel) → Dec ((panel : Panel) × (found ≡ Some panel))
 some-panel None = no (λ h. let e = h.1 in cc)
 some-panel (Some panel) = yes (panel, refl)
@@ -88,3 +94,5 @@ judged one_address (Addresses set) value old =
     elim (some-range one_address value) [ yes h ↦ inl (set h.0 old, (h.0, h.1, refl)) | no none ↦ inr (λ before after h. none (h.0, h.1)) ]
 judged one_address (OfPanel set) value old =
     elim (some-panel (panel_named value)) [ yes h ↦ inl (set h.0 old, (h.0, h.1, refl)) | no none ↦ inr (λ before after h. none (h.0, h.1)) ]
+judged one_address (OneOf words) value old =
+    elim (some-setting (lookup (λ word. bytes_eq word value) words)) [ yes h ↦ inl (h.0 old, (h.0, h.1, refl)) | no none ↦ inr (λ before after h. none (h.0, h.1)) ]

@@ -49,6 +49,8 @@ takes-value C.Status none = λ set e. cc
 takes-value C.Target none = λ set e. cc
 takes-value C.Addresses none = λ set e. cc
 takes-value (C.OfPanel on) none = λ set e. cc
+takes-value C.DateSpec none = λ set e. cc
+takes-value C.HourSpec none = λ set e. cc
 
 module _ (word : List ℕ) (after : List (List ℕ)) (at : ℕ) where
   pub fault-apart : (takes : CodeTakes) (value : List ℕ) (more : List (List ℕ)) (fault : WordFault) → takes_of word ≡ Some (meaning takes) → ((flag : CodeFlag) → takes ≡ C.Flag flag → ⊥)

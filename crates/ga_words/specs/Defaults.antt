@@ -1,5 +1,7 @@
 -- What a run does where no word says otherwise.
 use Rattle.std.specs.Prelude.{true, false, None, [], replicate, codes}
+use Rattle.ga_base.specs.declared.date_spec.DateSpec.TheVariants.{Date}
+use Rattle.ga_base.specs.declared.hour_spec.HourSpec.TheVariants.{Hour}
 use Rattle.ga_base.specs.declared.panel.TheConstants.Panel.{COUNT}
 use Rattle.ga_words.specs.declared.settings.Settings.{Settings}
 use Rattle.ga_words.specs.declared.settings.Output.{Output}
@@ -25,6 +27,8 @@ defaults = record {
   ignore_crawlers = false;
   ignore_status = [];
   panels = replicate COUNT true;
+  date_spec = Date;
+  hour_spec = Hour;
   no_ip_validation = false;
   strict_status = true;
   count_4xx = false;

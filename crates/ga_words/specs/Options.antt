@@ -4,6 +4,8 @@ use Rattle.std.specs.Prelude.{◌≡◌, ◌≢◌, ℕ, true, false, Option, So
 use Rattle.std.specs.Map.{lookup}
 use Rattle.std.specs.Str.{bytes_eq}
 use Rattle.ga_base.specs.Panels.{panel_number}
+use Rattle.ga_base.specs.declared.date_spec.DateSpec.TheVariants as D
+use Rattle.ga_base.specs.declared.hour_spec.HourSpec.TheVariants as H
 use Rattle.ga_base.specs.declared.panel.Panel.{Panel}
 use Rattle.ga_hosts.specs.Ranges.{SpellsRange}
 use Rattle.ga_hosts.specs.declared.range.Range.{Range}
@@ -21,6 +23,22 @@ pub data Takes : Type 0 where
   Target : (Output → Settings → Settings) → Takes  -- where the report goes
   Addresses : (Range → Settings → Settings) → Takes  -- an address or a range of them
   OfPanel : (Panel → Settings → Settings) → Takes  -- the name of a panel
+  OneOf : List (List ℕ × (Settings → Settings)) → Takes  -- one of these words, byte for byte
+
+-- how finely VISITORS tells days, and what that makes of the settings
+abbrev pub date_specs : List (List ℕ × (Settings → Settings))
+date_specs =
+    (codes "date", λ s. record s { date_spec = D.Date })
+    ∷ (codes "hr", λ s. record s { date_spec = D.Hour })
+    ∷ (codes "min", λ s. record s { date_spec = D.Minute })
+    ∷ []
+
+-- how finely VISIT_TIMES tells the time of the day
+abbrev pub hour_specs : List (List ℕ × (Settings → Settings))
+hour_specs =
+    (codes "hr", λ s. record s { hour_spec = H.Hour })
+    ∷ (codes "min", λ s. record s { hour_spec = H.Tens })
+    ∷ []
 
 -- Of an option with one value the last counts, since each sets its setting anew; the values of an option that may be
 -- repeated are added; and of panels the last word on a panel decides.
@@ -40,6 +58,8 @@ options =
     ∷ (codes "--ignore-status", Status (λ status s. record s { ignore_status = s.ignore_status ++ status ∷ [] }))
     ∷ (codes "--ignore-panel", OfPanel (λ panel s. record s { panels = slice_set s.panels (panel_number panel) false }))
     ∷ (codes "--enable-panel", OfPanel (λ panel s. record s { panels = slice_set s.panels (panel_number panel) true }))
+    ∷ (codes "--date-spec", OneOf date_specs)
+    ∷ (codes "--hour-spec", OneOf hour_specs)
     ∷ (codes "--no-ip-validation", Flag (λ s. record s { no_ip_validation = true }))
     ∷ (codes "--no-strict-status", Flag (λ s. record s { strict_status = false }))
     ∷ (codes "--4xx-to-unique-count", Flag (λ s. record s { count_4xx = true }))
@@ -72,6 +92,7 @@ Sets (Status set) value old new = (n : ℕ) × IsNumber 3 3 100 599 value n × (
 Sets (Target set) value old new = (output : Output) × NamesOutput value output × (new ≡ set output old)
 Sets (Addresses set) value old new = (range : Range) × SpellsRange value range × (new ≡ set range old)
 Sets (OfPanel set) value old new = (panel : Panel) × (panel_named value ≡ Some panel) × (new ≡ set panel old)
+Sets (OneOf words) value old new = (set : Settings → Settings) × (lookup (λ word. bytes_eq word value) words ≡ Some set) × (new ≡ set old)
 
 -- the value is outside the option's column: it makes nothing of any settings
 abbrev pub IsOutside : Takes → List ℕ → Type 0

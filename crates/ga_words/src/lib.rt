@@ -13,6 +13,7 @@ mod options;
 mod panel_names;
 mod setting;
 mod settings;
+mod spec_names;
 mod table_row;
 mod values;
 mod word;

@@ -23,6 +23,10 @@ pub(crate) enum Takes {
     Addresses,
     /// The name of a panel, which is put in where this is true, and taken out else.
     OfPanel(bool),
+    /// How finely VISITORS tells days.
+    DateSpec,
+    /// How finely VISIT_TIMES tells the time of the day.
+    HourSpec,
 }
 
 /// The settings that flags make.
@@ -66,7 +70,7 @@ pub(crate) enum Number {
 }
 
 /// The options (own profile: the greatest numbers, and `--double-decode-url` and `--generate`).
-const OPTIONS: [TableRow<Takes>; 26] = [
+const OPTIONS: [TableRow<Takes>; 28] = [
     TableRow("--log-format", Takes::Format(Format::Log)),
     TableRow("--date-format", Takes::Format(Format::Date)),
     TableRow("--time-format", Takes::Format(Format::Time)),
@@ -81,6 +85,8 @@ const OPTIONS: [TableRow<Takes>; 26] = [
     TableRow("--ignore-status", Takes::Status),
     TableRow("--ignore-panel", Takes::OfPanel(false)),
     TableRow("--enable-panel", Takes::OfPanel(true)),
+    TableRow("--date-spec", Takes::DateSpec),
+    TableRow("--hour-spec", Takes::HourSpec),
     TableRow("--no-ip-validation", Takes::Flag(Flag::NoIpValidation)),
     TableRow("--no-strict-status", Takes::Flag(Flag::NoStrictStatus)),
     TableRow("--4xx-to-unique-count", Takes::Flag(Flag::Count4xx)),

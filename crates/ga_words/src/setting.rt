@@ -5,6 +5,7 @@ ghost use Rattle.ga_words.specs.Units.{AddsLogs};
 
 use crate::options::{Flag, Format, Name, Number, Takes};
 use crate::panel_names::panel_named;
+use crate::spec_names::{date_spec_named, hour_spec_named};
 use crate::values::{number_of, range_of, target_of};
 use crate::{Output, Settings, WordFault};
 use ga_base::{NoMemory, Text};
@@ -41,6 +42,8 @@ pub(crate) fn set_value(
         Takes::Target => set_target(alloc, value, at, settings),
         Takes::Addresses => add_range(value, at, settings),
         Takes::OfPanel(on) => set_panel(on, value, at, settings),
+        Takes::DateSpec => set_date_spec(value, at, settings),
+        Takes::HourSpec => set_hour_spec(value, at, settings),
     }
 }
 
@@ -183,6 +186,30 @@ fn set_panel(on: bool, value: &str, at: u64, settings: &mut Settings) -> Result<
         return Err(WordFault::BadValue { at });
     };
     settings.panels.set(panel, on);
+    Ok(())
+}
+
+/// Makes the setting of how finely VISITORS tells days.
+fn set_date_spec(value: &str, at: u64, settings: &mut Settings) -> Result<(), WordFault>
+    ensures ok { OnOk result (Sets (meaning Takes.DateSpec) value.now settings.old settings.new) }
+    ensures fault { IfErr result (IsValueFault Takes.DateSpec value.now at) }
+{
+    let Some(spec) = date_spec_named(value) else {
+        return Err(WordFault::BadValue { at });
+    };
+    settings.date_spec = spec;
+    Ok(())
+}
+
+/// Makes the setting of how finely VISIT_TIMES tells the time of the day.
+fn set_hour_spec(value: &str, at: u64, settings: &mut Settings) -> Result<(), WordFault>
+    ensures ok { OnOk result (Sets (meaning Takes.HourSpec) value.now settings.old settings.new) }
+    ensures fault { IfErr result (IsValueFault Takes.HourSpec value.now at) }
+{
+    let Some(spec) = hour_spec_named(value) else {
+        return Err(WordFault::BadValue { at });
+    };
+    settings.hour_spec = spec;
     Ok(())
 }
 

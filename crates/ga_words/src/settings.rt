@@ -1,7 +1,7 @@
 ghost use Rattle.std.specs.Prelude.{◌≡◌, IfOk};
 ghost use Rattle.ga_words.specs.Defaults.{defaults};
 
-use ga_base::{Listing, NoMemory, PanelSet, Statuses, Text, Texts};
+use ga_base::{DateSpec, HourSpec, Listing, NoMemory, PanelSet, Statuses, Text, Texts};
 use ga_hosts::Ranges;
 use std::alloc::Global;
 
@@ -68,6 +68,10 @@ pub struct Settings {
     pub ignore_status: Statuses,
     /// The panels of the report.
     pub panels: PanelSet,
+    /// How finely VISITORS tells days.
+    pub date_spec: DateSpec,
+    /// How finely VISIT_TIMES tells the time of the day.
+    pub hour_spec: HourSpec,
     /// Whether a host may be any text.
     pub no_ip_validation: bool,
     /// Whether a status code has to be one from 100 to 599.
@@ -116,6 +120,8 @@ pub(crate) fn default_settings(alloc: Global) -> Result<Settings, NoMemory>
         ignore_crawlers: false,
         ignore_status: Listing::new(alloc),
         panels: PanelSet::all(),
+        date_spec: DateSpec::Date,
+        hour_spec: HourSpec::Hour,
         no_ip_validation: false,
         strict_status: true,
         count_4xx: false,

@@ -11,9 +11,10 @@ Usage:
   goaccess --help | --version
 
 A word that doesn't begin with a dash is the name of a log; after -- each word
-is. All logs are read in their order into one report. A value follows its
-option, as --name=VALUE or in the next word; with -o in the next word only. Of
-an option given again the last value counts; of one with (+) all values count.
+is. All logs are read in their order into one report. A value stands behind
+the option, as --name=VALUE or in the next word; with -o in the next word
+only. Of an option given again the last value counts; where (+) stands all
+values count.
 
 Formats:
   --log-format F      how a line is written: COMMON, COMBINED, VCOMMON or
@@ -46,6 +47,11 @@ What is counted:
   --4xx-to-unique-count
                       counts visitors of answers 400 to 499 too; default off
   --444-as-404        counts the status 444 as not found; default off
+  --date-spec S       what VISITORS counts by: date, hr or min, which are days,
+                      hours of a day or minutes of one; a report shows what was
+                      counted by its own S; default date
+  --hour-spec S       what VISIT_TIMES counts by: hr or min, which are hours or
+                      tens of minutes; default hr
 
 Report:
   -o, --output O      json or csv on standard output, or a file whose name ends

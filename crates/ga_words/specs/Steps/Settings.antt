@@ -1,6 +1,8 @@
 -- What the code's own table of options means, and which setting each of its entries makes.
 use Rattle.std.specs.Prelude.{◌≡◌, ℕ, true, false, Some, List, [], ◌∷◌, ◌++◌, slice_set, ◌⊎◌}
 use Rattle.ga_base.specs.Panels.{panel_number}
+use Rattle.ga_base.specs.declared.date_spec.DateSpec.{DateSpec}
+use Rattle.ga_base.specs.declared.hour_spec.HourSpec.{HourSpec}
 use Rattle.ga_words.specs.declared.settings.Settings.{Settings}
 use Rattle.ga_words.specs.declared.settings.Output.{Output}
 use Rattle.ga_words.specs.declared.settings.Kind.{Kind}
@@ -17,8 +19,8 @@ use Rattle.ga_words.specs.declared.options.Name.TheVariants as N
 use Rattle.ga_words.specs.declared.options.Number.{Number as CodeNumber}
 use Rattle.ga_words.specs.declared.options.Number.TheVariants as M
 use Rattle.ga_words.specs.Options.{Takes}
-use Rattle.ga_words.specs.Options.Takes.{Flag, Format, Name, Number, Status, Target, Addresses, OfPanel}
-use Rattle.ga_words.specs.Options.{IsOutside}
+use Rattle.ga_words.specs.Options.Takes.{Flag, Format, Name, Number, Status, Target, Addresses, OfPanel, OneOf}
+use Rattle.ga_words.specs.Options.{IsOutside, date_specs, hour_specs}
 
 -- the target that a kind and a name make
 abbrev pub output_in : Kind → List ℕ → Output
@@ -52,6 +54,12 @@ with_number M.Jobs n s = record s { jobs = n }
 with_number M.Chunk n s = record s { chunk = n }
 with_number M.Generate n s = record s { generate = Some n }
 
+abbrev pub with_date_spec : DateSpec → Settings → Settings
+with_date_spec spec s = record s { date_spec = spec }
+
+abbrev pub with_hour_spec : HourSpec → Settings → Settings
+with_hour_spec spec s = record s { hour_spec = spec }
+
 -- what an entry of the code's table says
 abbrev pub meaning : CodeTakes → Takes
 meaning (C.Flag flag) = Flag (with_flag flag)
@@ -61,6 +69,8 @@ meaning (C.Number number low high) = Number low high (with_number number)
 meaning C.Status = Status (λ status s. record s { ignore_status = s.ignore_status ++ status ∷ [] })
 meaning C.Target = Target (λ output s. record s { output = output })
 meaning C.Addresses = Addresses (λ range s. record s { ranges = s.ranges ++ range ∷ [] })
+meaning C.DateSpec = OneOf date_specs
+meaning C.HourSpec = OneOf hour_specs
 meaning (C.OfPanel on) = OfPanel (λ panel s. record s { panels = slice_set s.panels (panel_number panel) on })
 
 -- the fault is lack of memory, or the value at this place is none that the option takes

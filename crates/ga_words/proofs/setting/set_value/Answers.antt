@@ -47,3 +47,15 @@ returns-in-OfPanel-clause-ok c = rw c.in-OfPanel.is c.set_panel.ensures.ok
 
 pub returns-in-OfPanel-clause-fault : goal.returns-in-OfPanel-clause-fault
 returns-in-OfPanel-clause-fault c = rw c.in-OfPanel.is c.set_panel.ensures.fault
+
+pub returns-in-DateSpec-clause-ok : goal.returns-in-DateSpec-clause-ok
+returns-in-DateSpec-clause-ok c = rw c.in-DateSpec.is c.set_date_spec.ensures.ok
+
+pub returns-in-DateSpec-clause-fault : goal.returns-in-DateSpec-clause-fault
+returns-in-DateSpec-clause-fault c = rw c.in-DateSpec.is c.set_date_spec.ensures.fault
+
+pub returns-in-HourSpec-clause-ok : goal.returns-in-HourSpec-clause-ok
+returns-in-HourSpec-clause-ok c = rw c.in-HourSpec.is c.set_hour_spec.ensures.ok
+
+pub returns-in-HourSpec-clause-fault : goal.returns-in-HourSpec-clause-fault
+returns-in-HourSpec-clause-fault c = rw c.in-HourSpec.is c.set_hour_spec.ensures.fault

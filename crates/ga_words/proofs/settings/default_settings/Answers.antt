@@ -1,4 +1,6 @@
 use Rattle.std.proofs.Common.{None, true, false}
+use Rattle.ga_base.specs.declared.date_spec.DateSpec.TheVariants.{Date}
+use Rattle.ga_base.specs.declared.hour_spec.HourSpec.TheVariants.{Hour}
 use Rattle.ga_words.specs.declared.settings.Kind.TheVariants.{Json}
 use Rattle.ga_words.proofs.settings.default_settings.Goals as goal
 
@@ -16,6 +18,8 @@ returns c = λ i. record {
   ignore_crawlers = false;
   ignore_status = c.new-4.ensures i;
   panels = c.all.ensures.flags i;
+  date_spec = Date;
+  hour_spec = Hour;
   no_ip_validation = false;
   strict_status = true;
   count_4xx = false;

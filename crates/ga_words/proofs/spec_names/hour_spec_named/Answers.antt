@@ -1,0 +1,5 @@
+use Rattle.ga_words.proofs.TableLemmas.{option_map-cond}
+use Rattle.ga_words.proofs.spec_names.hour_spec_named.Goals as goal
+
+pub returns : goal.returns
+returns c = rw c.lookup.ensures (simp option_map-cond)
