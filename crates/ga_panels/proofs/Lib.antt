@@ -1,5 +1,6 @@
 pub mod DayKeys
 mod Excluded
+mod Moments
 mod OneList
 mod PanelSteps
 mod RowForms

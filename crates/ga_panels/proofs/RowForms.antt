@@ -1,5 +1,5 @@
 -- The rows of the table are in the panels' order, and their columns have the panels' form.
-use Rattle.std.proofs.Common.{◌≡◌, ◌≢◌, ℕ, Bool, true, false, List, [], ◌∷◌, refl, sym, ap, ◌∙◌}
+use Rattle.std.proofs.Common.{◌≡◌, ◌≢◌, ℕ, ◌<◌, Bool, true, false, List, [], ◌∷◌, ◌++◌, Option, IfSome, refl, sym, ap, ◌∙◌}
 use Rattle.std.specs.Prelude.{codes, if◌then◌else◌, not}
 use Rattle.std.specs.List.{AllByRecursion}
 use Rattle.ga_agents.specs.Classes.{HasNames}
@@ -9,9 +9,10 @@ use Rattle.ga_base.specs.declared.panel.Panel.{Panel}
 use Rattle.ga_base.specs.declared.panel.Panel.TheVariants.{Visitors, Requests, RequestsStatic, NotFound, Hosts, Os, Browsers, VisitTimes, VirtualHosts, Referrers, ReferringSites, Keyphrases, StatusCodes, RemoteUser, CacheStatus, MimeType, TlsType}
 use Rattle.ga_base.specs.declared.record.Record.{Record}
 use Rattle.ga_panels.specs.Facts.{Facts}
-use Rattle.ga_panels.specs.Labels.{or_unknown, before_slash, status_group}
+use Rattle.ga_panels.specs.Labels.{or_unknown, before_slash, part_digits, part_parent, status_group}
 use Rattle.ga_panels.specs.Table.{row, table}
 use Rattle.ga_panels.specs.declared.setup.PanelSetup.{PanelSetup}
+use Rattle.ga_panels.proofs.Moments.{visit-form}
 use Rattle.ga_panels.proofs.RowKeys.{IsFormed, StandFrom}
 
 pub rows_stand : (setup : PanelSetup) (rec : Record) (facts : Facts) → StandFrom 0 (table setup rec facts)
@@ -40,23 +41,38 @@ or_unknown_some text = by_test (is_empty text) (present_some text)
 
 module _ (date : ℕ) where
   -- an entry without a group
-  single : (panel : Panel) (has_key : Bool) (label : List ℕ) (request : Bool) → has_groups panel ≡ false → (panel ≡ Visitors → label ≡ eight_digits date) → (has_requests panel ≡ false → request ≡ false)
+  single : (panel : Panel) (has_key : Bool) (label : List ℕ) (request : Bool) → has_groups panel ≡ false → panel ≢ Visitors → (has_requests panel ≡ false → request ≡ false)
       → IsFormed date (row panel has_key [] label request)
-  single panel has_key label request alone day none = record { parent = (λ _. alone, λ _. refl); label = day; request = none; some = λ some. absurd (some refl) }
+  single panel has_key label request alone other none = record {
+    visit = λ e. absurd (other e);
+    parent = λ _. (λ _. alone, λ _. refl);
+    request = none;
+    some = λ some. absurd (some refl);
+  }
+
+  -- a day, or a part of it
+  visit : (setup : PanelSetup) (minute : Option ℕ) → IfSome minute (λ m. m < 1440)
+      → let part = part_digits setup.date_spec minute in IsFormed date (row Visitors true (part_parent date part) (eight_digits date ++ part) false)
+  visit setup minute timed = record {
+    visit = λ _. visit-form date setup.date_spec minute timed;
+    parent = λ other. absurd (other refl);
+    request = λ _. refl;
+    some = λ _ e. cc;
+  }
 
   -- an entry in a group
   grouped : (panel : Panel) (has_key : Bool) (parent label : List ℕ) → has_groups panel ≡ true → parent ≢ [] → label ≢ [] → IsFormed date (row panel has_key parent label false)
   grouped panel has_key parent label has some also = record {
-    parent = (λ e. absurd (some e), λ none. let clash : true ≡ false = sym has ∙ none in cc);
-    label = λ e. let clash : true ≡ false = sym has ∙ ap has_groups e in cc;
+    visit = λ e. let clash : true ≡ false = sym has ∙ ap has_groups e in cc;
+    parent = λ _. (λ e. absurd (some e), λ none. let clash : true ≡ false = sym has ∙ none in cc);
     request = λ _. refl;
     some = λ _. also;
   }
 
-pub rows_formed : (setup : PanelSetup) (rec : Record) (facts : Facts) → HasNames facts.agent → AllByRecursion (λ row. row.has_key ≡ true → IsFormed rec.date row) (table setup rec facts)
-rows_formed setup rec facts named =
+pub rows_formed : (setup : PanelSetup) (rec : Record) (facts : Facts) → IfSome rec.minute (λ m. m < 1440) → HasNames facts.agent → AllByRecursion (λ row. row.has_key ≡ true → IsFormed rec.date row) (table setup rec facts)
+rows_formed setup rec facts timed named =
     let date = rec.date in (
-      λ _. single date Visitors _ _ false refl (λ _. refl) (λ _. refl),
+      λ _. visit date setup rec.minute timed,
       (
         λ _. single date Requests _ _ true refl (λ e. cc) (λ e. cc),
         (

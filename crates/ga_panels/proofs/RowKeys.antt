@@ -1,5 +1,5 @@
 -- Keys of rows whose panels rise rise themselves, and no layer has two of them.
-use Rattle.std.proofs.Common.{◌≡◌, ◌≢◌, ◌↔◌, ℕ, ◌+◌, ◌≤◌, ◌<◌, ◌==◌, Bool, true, false, cond, ◌&&◌, List, [], ◌∷◌, ◌++◌, Some, None, refl, sym, ap, ◌∙◌, subst, arith, ⊎_elim}
+use Rattle.std.proofs.Common.{◌≡◌, ◌≢◌, ◌↔◌, ℕ, ◌+◌, ◌≤◌, ◌<◌, ◌==◌, Bool, true, false, cond, ◌&&◌, List, [], ◌∷◌, ◌++◌, Some, None, refl, sym, ap, ◌∙◌, subst, arith, ◌⊎◌, inl, inr, ⊎_elim}
 use Rattle.std.specs.Prelude.{if◌then◌else◌, flat_map, count_by}
 use Rattle.std.specs.List.{AllByRecursion}
 use Rattle.std.specs.List.Sorted.{IsStrictlySortedBy}
@@ -7,19 +7,20 @@ use Rattle.std.specs.Ordering.{nat_cmp, ordering_then}
 use Rattle.std.specs.declared.cmp.Ordering.{Ordering}
 use Rattle.std.specs.declared.cmp.Ordering.TheVariants.{Less, Equal}
 use Rattle.std.specs.Cmp.{tied_itself}
-use Rattle.std.proofs.lemmas.Bool.{cases_eq}
+use Rattle.std.proofs.lemmas.Bool.{cases_eq, eq-eqb, eqb-true}
 use Rattle.std.proofs.lemmas.Bool.Decides.{nat_tests}
 use Rattle.std.proofs.lemmas.Cmp.{nat_cmp_total, nat_list_cmp_total}
 use Rattle.std.proofs.lemmas.List.Sums.{count_by-le-length, sum_by-append}
-use Rattle.ga_base.specs.Days.{HasEightDigits, eight_digits}
-use Rattle.ga_base.specs.Layers.{HasForm, Layer, has_groups, has_requests, in_layer, is_empty, is_flag}
+use Rattle.ga_base.specs.Days.{HasEightDigits}
+use Rattle.ga_base.specs.Layers.{HasForm, IsDayOrPart, Layer, has_groups, has_requests, in_layer, is_empty, is_flag}
 use Rattle.ga_base.specs.Orders.{key_cmp, text_cmp}
 use Rattle.ga_base.specs.Panels.{is_same_panel, panel_number}
+use Rattle.ga_base.proofs.OrderLemmas.{panel_number_exact}
 use Rattle.ga_base.specs.declared.key.Key.{Key}
 use Rattle.ga_base.specs.declared.panel.Panel.{Panel}
 use Rattle.ga_base.specs.declared.panel.Panel.TheVariants.{Visitors}
 use Rattle.ga_base.specs.declared.record.Record.{Record}
-use Rattle.ga_panels.specs.Table.{PanelRow, counted_key, with_group}
+use Rattle.ga_panels.specs.Table.{PanelRow, counted_key, key_above, with_group}
 
 -- a key of this panel and day, in its form
 pub record IsOwn (date : ℕ) (panel : Panel) (key : Key) : Type 0 where
@@ -60,6 +61,14 @@ sorted-append [] ys up more below = more
 sorted-append (x ∷ xs) ys up more below =
     (all-append (λ y. key_cmp x y ≡ Less) xs ys up.0 below.0, sorted-append xs ys up.1 more below.1)
 
+same_panel : (a b : Panel) → is_same_panel a b ≡ true → a ≡ b
+unfolding is_same_panel
+same_panel a b e = panel_number_exact a b (eqb-true (panel_number a) (panel_number b) e)
+
+same_itself : (panel : Panel) → is_same_panel panel panel ≡ true
+unfolding is_same_panel
+same_itself panel = eq-eqb (panel_number panel) (panel_number panel) refl
+
 nat_less : (a b : ℕ) → a < b → nat_cmp a b ≡ Less
 nat_less a b below = grind (arith, nat_tests)
 
@@ -83,7 +92,7 @@ other_panel : (layer : Layer) (key : Key) → panel_number key.panel ≢ panel_n
 unfolding is_same_panel
 other_panel layer key other =
     let differs : (panel_number key.panel == panel_number layer.panel) ≡ false = grind (arith, nat_tests) in
-    ap (λ b. b && is_flag layer.groups (is_empty key.label)) differs
+    ap (λ b. b && (is_flag layer.no_parent (is_empty key.parent) && is_flag layer.no_label (is_empty key.label))) differs
 
 -- the rows stand at the panels' numbers from this one on
 abbrev pub StandFrom : ℕ → List PanelRow → Type 0
@@ -136,8 +145,8 @@ module _ (date : ℕ) (keys_of : PanelRow → List Key) where
 
 -- what a row's columns keep to on a day
 pub record IsFormed (date : ℕ) (row : PanelRow) : Type 0 where
-  pub parent : (row.parent ≡ []) ↔ (has_groups row.panel ≡ false)
-  pub label : row.panel ≡ Visitors → row.label ≡ eight_digits date
+  pub visit : row.panel ≡ Visitors → IsDayOrPart date row.parent row.label
+  pub parent : row.panel ≢ Visitors → (row.parent ≡ []) ↔ (has_groups row.panel ≡ false)
   pub request : has_requests row.panel ≡ false → row.request ≡ false
   pub some : row.parent ≢ [] → row.label ≢ []
 
@@ -158,11 +167,46 @@ group_less group entry panel date parent label =
     ∙ ap (λ (o : Ordering). ordering_then o (ordering_then (text_cmp group.label entry.label) last)) t
     ∙ ap (λ (o : Ordering). ordering_then o last) label
 
--- one of the two layers of a panel has the group, and the other the entry
-one_each : (same groups empty : Bool) → empty ≡ false → 0 + cond (same && is_flag groups true) 1 0 + cond (same && is_flag groups empty) 1 0 ≤ 1
-one_each true true empty e = subst (λ b. 0 + 1 + cond b 1 0 ≤ 1) (sym e) (omega arith)
-one_each true false empty e = subst (λ b. 0 + 0 + cond (is_flag false b) 1 0 ≤ 1) (sym e) (omega arith)
-one_each false groups empty e = omega arith
+-- a group before its entry, or a day before a part of it: the parents tell them apart
+parent_less : (day part : Key) → day.panel ≡ part.panel → day.date ≡ part.date → text_cmp day.parent part.parent ≡ Less → key_cmp day part ≡ Less
+unfolding key_cmp
+parent_less day part panel date parent =
+    let p : nat_cmp (panel_number day.panel) (panel_number part.panel) ≡ Equal = ap (λ x. nat_cmp (panel_number x) (panel_number part.panel)) panel ∙ tied_itself nat_cmp_total (panel_number part.panel) in
+    let d : nat_cmp day.date part.date ≡ Equal = ap (λ x. nat_cmp x part.date) date ∙ tied_itself nat_cmp_total part.date in
+    let rest = ordering_then (text_cmp day.label part.label) (ordering_then (text_cmp day.method part.method) (text_cmp day.protocol part.protocol)) in
+    ap (λ (o : Ordering). ordering_then o (ordering_then (nat_cmp day.date part.date) (ordering_then (text_cmp day.parent part.parent) rest))) p
+    ∙ ap (λ (o : Ordering). ordering_then o (ordering_then (text_cmp day.parent part.parent) rest)) d
+    ∙ ap (λ (o : Ordering). ordering_then o rest) parent
+
+both_true : (a b : Bool) → (a && b) ≡ true → (a ≡ true) × (b ≡ true)
+both_true true b e = (refl, e)
+both_true false b e = cc
+
+flag_is : (flag b : Bool) → is_flag flag b ≡ true → flag ≡ b
+flag_is true true e = refl
+flag_is true false e = cc
+flag_is false true e = cc
+flag_is false false e = refl
+
+-- keys in one layer have the same two answers
+flags_in : (layer : Layer) (key : Key) → in_layer layer key ≡ true → (layer.no_parent ≡ is_empty key.parent) × (layer.no_label ≡ is_empty key.label)
+flags_in layer key e =
+    let flags = both_true _ _ (both_true (is_same_panel key.panel layer.panel) (is_flag layer.no_parent (is_empty key.parent) && is_flag layer.no_label (is_empty key.label)) e).1 in
+    (flag_is layer.no_parent (is_empty key.parent) flags.0, flag_is layer.no_label (is_empty key.label) flags.1)
+
+at_most_one : (a b : Bool) → (a ≡ true → b ≡ true → ⊥) → 0 + cond a 1 0 + cond b 1 0 ≤ 1
+at_most_one true true not_both = absurd (not_both refl refl)
+at_most_one true false not_both = omega arith
+at_most_one false true not_both = omega arith
+at_most_one false false not_both = omega arith
+
+-- the two answers tell them apart
+abbrev AreApart : Key → Key → Type 0
+AreApart a b = (is_empty a.parent ≢ is_empty b.parent) ⊎ (is_empty a.label ≢ is_empty b.label)
+
+apart_layers : (a b : Key) → AreApart a b → (layer : Layer) → count_by (in_layer layer) (a ∷ b ∷ []) ≤ 1
+apart_layers a b (inl parents) layer = at_most_one (in_layer layer a) (in_layer layer b) (λ p q. parents (sym (flags_in layer a p).0 ∙ (flags_in layer b q).0))
+apart_layers a b (inr labels) layer = at_most_one (in_layer layer a) (in_layer layer b) (λ p q. labels (sym (flags_in layer a p).1 ∙ (flags_in layer b q).1))
 
 some_not_empty : (label : List ℕ) → label ≢ [] → is_empty label ≡ false
 some_not_empty [] some = absurd (some refl)
@@ -175,16 +219,9 @@ nothing_given date panel = record { rising = none_rise; own = tt; layers = λ la
 one_given : (date : ℕ) (panel : Panel) (key : Key) → IsOwn date panel key → AreOfPanel date panel (key ∷ [])
 one_given date panel key own = record { rising = one_rises key; own = (own, tt); layers = λ layer. count_by-le-length (in_layer layer) (key ∷ []) }
 
--- a group's key and an entry's
-two_given : (date : ℕ) (panel : Panel) (group entry : Key) → IsOwn date panel group → IsOwn date panel entry → group.panel ≡ entry.panel → key_cmp group entry ≡ Less → group.label ≡ [] → entry.label ≢ []
-    → AreOfPanel date panel (group ∷ entry ∷ [])
-two_given date panel group entry own also same less none some = record { rising = two_rise group entry less; own = (own, (also, tt)); layers = apart }
-  where
-    apart : (layer : Layer) → count_by (in_layer layer) (group ∷ entry ∷ []) ≤ 1
-    apart layer =
-        subst (λ p. 0 + cond (is_same_panel p layer.panel && is_flag layer.groups (is_empty group.label)) 1 0 + cond (is_same_panel entry.panel layer.panel && is_flag layer.groups (is_empty entry.label)) 1 0 ≤ 1) (sym same)
-        (subst (λ l. 0 + cond (is_same_panel entry.panel layer.panel && is_flag layer.groups (is_empty l)) 1 0 + cond (is_same_panel entry.panel layer.panel && is_flag layer.groups (is_empty entry.label)) 1 0 ≤ 1) (sym none)
-        (one_each (is_same_panel entry.panel layer.panel) layer.groups (is_empty entry.label) (some_not_empty entry.label some)))
+-- a group's key and an entry's, or a day's and that of a part of it
+two_given : (date : ℕ) (panel : Panel) (group entry : Key) → IsOwn date panel group → IsOwn date panel entry → key_cmp group entry ≡ Less → AreApart group entry → AreOfPanel date panel (group ∷ entry ∷ [])
+two_given date panel group entry own also less apart = record { rising = two_rise group entry less; own = (own, (also, tt)); layers = apart_layers group entry apart }
 
 -- the keys of an entry with these columns
 module _ (rec : Record) (dated : HasEightDigits rec.date) (panel : Panel) where
@@ -205,26 +242,45 @@ module _ (rec : Record) (dated : HasEightDigits rec.date) (panel : Panel) where
     its_date = refl;
     form = record {
       date = dated;
+      visit = formed.visit;
       parent = formed.parent;
-      label = formed.label;
       request = λ none. (ap (λ b. if b then rec.method else []) (formed.request none), ap (λ b. if b then rec.protocol else []) (formed.request none));
     };
   }
 
+  -- an entry with a parent, after the key beside it
+  module _ (b : ℕ) (parent label : List ℕ) (request : Bool) (formed : IsFormed rec.date (record { panel = panel; has_key = true; parent = b ∷ parent; label = label; request = request })) where
+    abbrev entry : Key
+    entry = entry_key (b ∷ parent) label request
+
+    -- the parent of a part of a day is the day's digits, which are the data of the day's key
+    after_day : panel ≡ Visitors → AreOfPanel rec.date panel (key_above true entry ∷ entry ∷ [])
+    after_day visitors = elim (formed.visit visitors) [
+      | inl day ↦ let none = day.0 in cc
+      | inr part ↦ two_given rec.date panel (key_above true entry) entry
+          (record { its_panel = refl; its_date = refl; form = record { date = dated; visit = λ _. inl (refl, part.0); parent = λ other. absurd (other visitors); request = λ none. (refl, refl) } })
+          (entry_own (b ∷ parent) label request formed)
+          (parent_less (key_above true entry) entry refl refl refl)
+          (inl (λ e. cc))
+    ]
+
+    after_group : panel ≢ Visitors → AreOfPanel rec.date panel (key_above false entry ∷ entry ∷ [])
+    after_group other =
+        let some : label ≢ [] = formed.some (λ e. cc) in
+        two_given rec.date panel (key_above false entry) entry
+        (record { its_panel = refl; its_date = refl; form = record { date = dated; visit = λ e. absurd (other e); parent = formed.parent; request = λ none. (refl, refl) } })
+        (entry_own (b ∷ parent) label request formed)
+        (group_less (key_above false entry) entry refl refl refl (empty_label_less label some))
+        (inr (λ e. let clash : true ≡ false = e ∙ some_not_empty label some in cc))
+
+    with_above : (v : Bool) → is_same_panel panel Visitors ≡ v → AreOfPanel rec.date panel (key_above v entry ∷ entry ∷ [])
+    with_above true e = after_day (same_panel panel Visitors e)
+    with_above false e = after_group (λ is. let clash : true ≡ false = sym (same_itself Visitors) ∙ sym (ap (λ p. is_same_panel p Visitors) is) ∙ e in cc)
+
   pub entry_gives : (parent label : List ℕ) (request : Bool) → IsFormed rec.date (record { panel = panel; has_key = true; parent = parent; label = label; request = request })
       → AreOfPanel rec.date panel (with_group (Some (entry_key parent label request)))
   entry_gives [] label request formed = one_given rec.date panel (entry_key [] label request) (entry_own [] label request formed)
-  entry_gives (b ∷ parent) label request formed =
-      let group : Key = record { panel = panel; date = rec.date; parent = b ∷ parent; label = []; method = []; protocol = [] } in
-      let grouped : panel ≡ Visitors → ⊥ = λ e. let none : b ∷ parent ≡ [] = formed.parent.1 (ap has_groups e) in cc in
-      let some : label ≢ [] = formed.some (λ e. cc) in
-      let own : IsOwn rec.date panel group = record {
-        its_panel = refl;
-        its_date = refl;
-        form = record { date = dated; parent = formed.parent; label = λ e. absurd (grouped e); request = λ none. (refl, refl) };
-      } in
-      let entry = entry_key (b ∷ parent) label request in
-      two_given rec.date panel group entry own (entry_own (b ∷ parent) label request formed) refl (group_less group entry refl refl refl (empty_label_less label some)) refl some
+  entry_gives (b ∷ parent) label request formed = with_above b parent label request formed (is_same_panel panel Visitors) refl
 
 -- and of a row, whether it is counted or not
 pub row_gives : (panels : List Bool) (rec : Record) (row : PanelRow) → HasEightDigits rec.date → (row.has_key ≡ true → IsFormed rec.date row) → AreOfPanel rec.date row.panel (with_group (counted_key panels rec row))
@@ -235,4 +291,4 @@ row_gives panels rec row dated formed = by_tests _ row.has_key formed
     by_tests true false formed = nothing_given rec.date row.panel
     by_tests true true formed =
         let f = formed refl in
-        entry_gives rec dated row.panel row.parent row.label row.request (record { parent = f.parent; label = f.label; request = f.request; some = f.some })
+        entry_gives rec dated row.panel row.parent row.label row.request (record { visit = f.visit; parent = f.parent; request = f.request; some = f.some })

@@ -1,19 +1,44 @@
--- The texts that keys have beside those of a record: numbers in a fixed number of digits, and the groups of status codes
--- and of MIME types, which are this program's own.
-use Rattle.std.specs.Prelude.{ℕ, ◌+◌, ◌/◌, ◌%◌, ◌^◌, ◌==◌, if◌then◌else◌, List, [], ◌∷◌, map, Option, Some, None, codes}
+-- The texts that keys have beside those of a record: numbers in a fixed number of digits, parts of a day, and the groups of
+-- status codes and of MIME types, which are this program's own.
+use Rattle.std.specs.Prelude.{ℕ, ◌+◌, ◌/◌, ◌%◌, ◌^◌, ◌==◌, if◌then◌else◌, List, [], ◌∷◌, ◌++◌, map, Option, Some, None, codes}
 use Rattle.std.specs.List.{before_first}
 use Rattle.ga_base.specs.Bytes.{byte_of}
-use Rattle.ga_base.specs.Days.{two_digits}
+use Rattle.ga_base.specs.Days.{eight_digits, two_digits}
 use Rattle.ga_base.specs.Layers.{is_empty}
+use Rattle.ga_base.specs.declared.date_spec.DateSpec.{DateSpec}
+use Rattle.ga_base.specs.declared.date_spec.DateSpec.TheVariants as D
+use Rattle.ga_base.specs.declared.hour_spec.HourSpec.{HourSpec}
+use Rattle.ga_base.specs.declared.hour_spec.HourSpec.TheVariants as H
 
 -- the last three digits of a number; 48 is the digit 0
 abbrev pub three_digits : ℕ → List ℕ
 three_digits number = map (λ place. 48 + number / 10 ^ place % 10) (2 ∷ 1 ∷ 0 ∷ [])
 
--- the hour of a minute of the day
-abbrev pub hour_of : Option ℕ → List ℕ
-hour_of None = []
-hour_of (Some minute) = two_digits (minute / 60)
+-- the hour of a minute of the day, and the minute of that hour
+abbrev pub hour_digits : ℕ → List ℕ
+hour_digits minute = two_digits (minute / 60)
+
+abbrev pub minute_digits : ℕ → List ℕ
+minute_digits minute = two_digits (minute % 60)
+
+-- the digits that a part of a day has after its day's: those of the hour, and of the minute too. A day itself has none, and
+-- there is no part without a time
+abbrev pub part_digits : DateSpec → Option ℕ → List ℕ
+part_digits spec None = []
+part_digits D.Date (Some minute) = []
+part_digits D.Hour (Some minute) = hour_digits minute
+part_digits D.Minute (Some minute) = hour_digits minute ++ minute_digits minute
+
+-- a day has no parent; a part of one has the day's digits
+abbrev pub part_parent : ℕ → List ℕ → List ℕ
+part_parent date [] = []
+part_parent date (digit ∷ part) = eight_digits date
+
+-- the time of the day: its hour, or its tens of minutes
+abbrev pub time_of : HourSpec → Option ℕ → List ℕ
+time_of spec None = []
+time_of H.Hour (Some minute) = hour_digits minute
+time_of H.Tens (Some minute) = hour_digits minute ++ codes ":" ++ (48 + minute % 60 / 10) ∷ codes "0"
 
 -- the group of a status of 100 to 599, by its first digit
 abbrev pub status_group : ℕ → List ℕ

@@ -10,11 +10,11 @@ use Rattle.ga_base.specs.declared.record.Record.{Record}
 use Rattle.ga_base.specs.declared.panel.Panel.{Panel}
 use Rattle.ga_base.specs.declared.panel.Panel.TheVariants.{Visitors, Requests, RequestsStatic, NotFound, Hosts, Os, Browsers, VisitTimes, VirtualHosts, Referrers, ReferringSites, Keyphrases, StatusCodes, RemoteUser, CacheStatus, MimeType, TlsType}
 use Rattle.ga_panels.specs.Facts.{Facts, HasFacts}
-use Rattle.ga_panels.specs.Labels.{hour_of, mime_group, status_group, text_in, three_digits}
+use Rattle.ga_panels.specs.Labels.{mime_group, part_digits, part_parent, status_group, text_in, three_digits, time_of}
 use Rattle.ga_panels.specs.declared.setup.PanelSetup.{PanelSetup}
 
--- what the table says of a record in a panel: whether it has a key there, that key's group, which is empty in a panel
--- without groups, its data, and whether it has the request's method and protocol
+-- what the table says of a record in a panel: whether it has a key there, that key's parent, which is its group or, of a
+-- part of a day, the day, and else empty, its data, and whether it has the request's method and protocol
 pub record PanelRow : Type 0 where
   pub panel : Panel
   pub has_key : Bool
@@ -33,14 +33,15 @@ abbrev pub table : PanelSetup → Record → Facts → List PanelRow
 table setup rec facts =
     let missing = is_missing setup.as_404 rec.status in
     let agent = facts.agent in
-    row Visitors true [] (eight_digits rec.date) false ∷
+    let part = part_digits setup.date_spec rec.minute in
+    row Visitors true (part_parent rec.date part) (eight_digits rec.date ++ part) false ∷
     row Requests (not missing && not facts.is_static) [] rec.url true ∷
     row RequestsStatic (not missing && facts.is_static) [] rec.url true ∷
     row NotFound missing [] rec.url true ∷
     row Hosts true [] rec.host false ∷
     row Os (not (is_empty rec.agent)) agent.system_group agent.system false ∷
     row Browsers (not (is_empty rec.agent)) agent.category agent.browser false ∷
-    row VisitTimes (is_some rec.minute) [] (hour_of rec.minute) false ∷
+    row VisitTimes (is_some rec.minute) [] (time_of setup.hour_spec rec.minute) false ∷
     row VirtualHosts (not (is_empty rec.vhost)) [] rec.vhost false ∷
     row Referrers (not (is_empty rec.referrer)) [] rec.referrer false ∷
     row ReferringSites (is_some facts.site) [] (text_in facts.site) false ∷
@@ -63,12 +64,23 @@ row_key rec row = if row.has_key then Some (record {
   protocol = if row.request then rec.protocol else [];
 }) else None
 
--- the key of an entry's group, which has no data, where the entry has a group
+-- the key that a record has beside that of an entry with a parent: the day's, whose data the parent is, beside that of a part
+-- of it, and the group's, which has no data, beside that of an entry in a group
+abbrev pub key_above : Bool → Key → Key
+key_above is_part key = record {
+  panel = key.panel;
+  date = key.date;
+  parent = if is_part then [] else key.parent;
+  label = if is_part then key.parent else [];
+  method = [];
+  protocol = [];
+}
+
 abbrev pub group_keys : Key → List ℕ → List Key
 group_keys key [] = []
-group_keys key (byte ∷ bytes) = record { panel = key.panel; date = key.date; parent = key.parent; label = []; method = []; protocol = [] } ∷ []
+group_keys key (byte ∷ bytes) = key_above (is_same_panel key.panel Visitors) key ∷ []
 
--- a record that has an entry in a panel with groups has the group's key too
+-- a record that has an entry with a parent has that key too
 abbrev pub with_group : Option Key → List Key
 with_group None = []
 with_group (Some key) = group_keys key key.parent ++ key ∷ []
@@ -96,6 +108,6 @@ entry_of setup rec facts panel = option_and_then (row_key rec) (slice_get (table
 abbrev pub entry_in : PanelSetup → Record → Facts → Panel → Option Key
 entry_in setup rec facts panel = if is_counted setup.panels panel then entry_of setup rec facts panel else None
 
--- a record's keys in a panel: its entry's, and its group's
+-- a record's keys in a panel: its entry's, and its group's or its day's
 abbrev pub keys_in : PanelSetup → Record → Facts → Panel → List Key
 keys_in setup rec facts panel = with_group (entry_in setup rec facts panel)

@@ -12,7 +12,7 @@ pub struct KeyRef<'a> {
     pub panel: Panel,
     /// The day, `10000 * year + 100 * month + day`.
     pub date: u32,
-    /// The group in a panel with groups, else empty.
+    /// The group in a panel with groups, the day's digits for a part of a day, else empty.
     pub parent: &'a str,
     /// The entry's data, as the host; empty for a group itself.
     pub label: &'a str,
@@ -23,7 +23,9 @@ pub struct KeyRef<'a> {
 }
 
 impl<'a> KeyRef<'a> {
-    /// The key of the group that the entry stands in, which has no data. `None` where the panel has no groups.
+    /// The key that a record has beside this one: that of the group that the entry stands in, which has no data, or of the day
+    /// that this is a part of. `None` where there is none.
+    #[tactic(auto, unfolding(ga_base::specs::Panels::is_same_panel))]
     pub fn group(self) -> Option<KeyRef<'a>>
         ensures { MatchOption result
             (group_keys (key_of self.entry) self.entry.parent.now ≡ [])
@@ -31,6 +33,15 @@ impl<'a> KeyRef<'a> {
     {
         if self.parent.is_empty() {
             return None;
+        }
+        if self.panel == Panel::Visitors {
+            return Some(KeyRef {
+                parent: "",
+                label: self.parent,
+                method: "",
+                protocol: "",
+                ..self
+            });
         }
         Some(KeyRef {
             label: "",

@@ -1,26 +1,29 @@
-ghost use Rattle.std.specs.Prelude.{◌≡◌, ◌↔◌, ◌==◌, ◌&&◌, ◌++◌, ◌/◌, [], Some, true, false, IfOk, OnOk, OnErr, IsTrue, is_some, not};
+ghost use Rattle.std.specs.Prelude.{◌≡◌, ◌↔◌, ◌==◌, ◌&&◌, ◌++◌, ◌<◌, [], Some, true, false, IfOk, OnOk, OnErr, IsTrue, is_some, not};
 ghost use Rattle.std.specs.Option.{option_map, unwrap_or};
 ghost use Rattle.ga_agents.specs.Classes.{HasNames, IsAgent, agent_of};
 ghost use Rattle.ga_base.specs.declared.record.Record.{Record as TheRecord};
 ghost use Rattle.ga_panels.specs.declared.setup.PanelSetup.{PanelSetup as TheSetup};
-ghost use Rattle.ga_base.specs.Days.{HasEightDigits, eight_digits as the_day, two_digits as the_hour};
+ghost use Rattle.ga_base.specs.Days.{HasEightDigits, eight_digits};
+ghost use Rattle.ga_base.specs.declared.panel.Panel.TheVariants.{Visitors};
 ghost use Rattle.ga_base.specs.Layers.{is_empty};
 ghost use Rattle.ga_base.specs.Records.{record_in};
 ghost use Rattle.ga_panels.specs.Facts.{CanHaveKeys};
 ghost use Rattle.ga_panels.specs.Form.{AreKeysOfDay};
-ghost use Rattle.ga_panels.specs.Labels.{status_group as the_group, text_in, three_digits as the_status};
+ghost use Rattle.ga_panels.specs.Labels.{part_digits, part_parent, status_group as the_group, text_in, three_digits as the_status};
 ghost use Rattle.ga_panels.specs.Refs.{key_of};
 ghost use Rattle.ga_panels.specs.Steps as steps;
 ghost use Rattle.ga_panels.specs.Table as table;
 ghost use Rattle.ga_panels.specs.Visitors as visits;
 ghost use Rattle.ga_requests.specs.Referrers.{IsGoogle, KeyphraseIs, SiteIs};
 
-use crate::labels::{Digits, eight_digits, mime_group, status_group, three_digits, two_digits};
+use crate::labels::{
+    DAY_LEN, Digits, mime_group, moment, moment_len, status_group, tens, tens_len, three_digits,
+};
 use crate::visitors::{is_excluded_where, is_visit};
 use crate::{KeyRef, PanelSetup};
 use ga_agents::Class;
 use ga_agents::laws::crawlers_are_told;
-use ga_base::{Keys, NoMemory, Panel, PanelSet, RecordRef};
+use ga_base::{DateSpec, Keys, NoMemory, Panel, PanelSet, RecordRef};
 use ga_requests::{Referral, is_static_url, referral_of};
 use std::alloc::Global;
 
@@ -29,9 +32,6 @@ const NOT_FOUND: u32 = 404;
 
 /// The status of a connection that nginx closed without an answer.
 const NO_RESPONSE: u32 = 444;
-
-/// The minutes of an hour.
-const HOUR: u32 = 60;
 
 /// A record with what the panels' table looks at: what its agent is, what its referrer says, whether its URL is of a
 /// static file, and its numbers as digits. It tells the record's keys panel by panel, as borrowed texts.
@@ -47,16 +47,17 @@ pub struct RecordFacts<'a> {
     referral: Referral<'a>,
     /// Whether its URL is of a static file.
     is_static: bool,
-    /// The digits of its day.
-    day: Digits<8>,
-    /// The digits of its hour, 00 where it has no minute.
-    hour: Digits<2>,
+    /// The digits of its day, its hour and its minute, of the first minute where it has none.
+    moment: Digits<12>,
+    /// The tens of minutes of its time of day, 00:00 where it has none.
+    tens: Digits<5>,
     /// The digits of its status.
     status: Digits<3>,
     ghost dated: { HasEightDigits rec.date },
+    ghost timed: { unwrap_or rec.minute 0 < 1440 },
     ghost named: { HasNames (agent_of class) },
-    ghost day_is: { day ≡ the_day rec.date },
-    ghost hour_is: { hour ≡ the_hour (unwrap_or rec.minute 0 / 60) },
+    ghost moment_is: { moment ≡ steps.moment_of rec.date (unwrap_or rec.minute 0) },
+    ghost tens_is: { tens ≡ steps.tens_of (unwrap_or rec.minute 0) },
     ghost status_is: { status ≡ the_status rec.status },
 }
 
@@ -100,8 +101,8 @@ impl<'a> RecordFacts<'a> {
             class,
             referral,
             is_static: is_static_url(rec.url, setup.statics.items(), setup.all_static),
-            day: eight_digits(rec.date),
-            hour: two_digits(minute / HOUR),
+            moment: moment(rec.date, minute),
+            tens: tens(minute),
             status: three_digits(rec.status),
         }
     }
@@ -164,7 +165,7 @@ impl<'a> RecordFacts<'a> {
         let is_missing = is_missing(self.setup.as_404, rec.status);
         let has_agent = !rec.agent.is_empty();
         match panel {
-            Panel::Visitors => entry(date, panel, true, self.day.as_str()),
+            Panel::Visitors => visit(date, rec.minute, self.setup.date_spec, &self.moment),
             Panel::Requests => request(rec, panel, is_found(is_missing, !self.is_static)),
             Panel::RequestsStatic => request(rec, panel, is_found(is_missing, self.is_static)),
             Panel::NotFound => request(rec, panel, is_missing),
@@ -177,7 +178,10 @@ impl<'a> RecordFacts<'a> {
                 class.category,
                 class.browser,
             ),
-            Panel::VisitTimes => entry(date, panel, rec.minute.is_some(), self.hour.as_str()),
+            Panel::VisitTimes => {
+                let time = self.tens.front(tens_len(self.setup.hour_spec));
+                entry(date, panel, rec.minute.is_some(), time)
+            }
             Panel::VirtualHosts => text(date, panel, rec.vhost),
             Panel::Referrers => text(date, panel, rec.referrer),
             Panel::ReferringSites => option(date, panel, self.referral.site),
@@ -227,6 +231,26 @@ fn entry(date: u32, panel: Panel, has_key: bool, label: &str) -> Option<KeyRef<'
     ensures { option_map key_of result ≡ steps.entry_at date panel has_key [] label.now }
 {
     entry_in_group(date, panel, has_key, "", label)
+}
+
+/// The key of a day in VISITORS, or of the part of it that the record is of, of which these are the digits.
+fn visit<'b>(
+    date: u32,
+    minute: Option<u32>,
+    spec: DateSpec,
+    moment: &'b Digits<12>,
+) -> Option<KeyRef<'b>>
+    requires { moment.now ≡ steps.moment_of date (unwrap_or minute 0) }
+    ensures { option_map key_of result ≡ steps.entry_at date Visitors true (part_parent date (part_digits spec minute))
+        (eight_digits date ++ part_digits spec minute) }
+{
+    let len = moment_len(spec, minute.is_some());
+    let parent = if len == DAY_LEN {
+        ""
+    } else {
+        moment.front(DAY_LEN)
+    };
+    entry_in_group(date, Panel::Visitors, true, parent, moment.front(len))
 }
 
 /// The key of a text, where it isn't empty.

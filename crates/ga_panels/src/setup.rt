@@ -1,5 +1,5 @@
 use ga_agents::Rules;
-use ga_base::{PanelSet, Statuses, Texts};
+use ga_base::{DateSpec, HourSpec, PanelSet, Statuses, Texts};
 use ga_hosts::Ranges;
 
 /// What decides under which keys a record is counted, and whether it is.
@@ -23,4 +23,8 @@ pub struct PanelSetup {
     pub count_4xx: bool,
     /// Whether the status 444 says that nothing was found, as 404 does.
     pub as_404: bool,
+    /// How finely VISITORS tells days.
+    pub date_spec: DateSpec,
+    /// How finely VISIT_TIMES tells the time of the day.
+    pub hour_spec: HourSpec,
 }

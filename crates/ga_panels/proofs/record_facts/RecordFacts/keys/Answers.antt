@@ -5,6 +5,7 @@ use Rattle.ga_panels.specs.Form.{AreKeysOfDay}
 use Rattle.ga_panels.specs.Known.{facts_of, record_of, setup_of}
 use Rattle.ga_panels.specs.Table.{keys_in}
 use Rattle.ga_panels.proofs.DayKeys.{keys_of_day}
+use Rattle.ga_panels.proofs.Moments.{minute-timed}
 use Rattle.ga_panels.proofs.PanelSteps.{one_panel_more}
 use Rattle.ga_panels.proofs.record_facts.RecordFacts.keys.Goals as goal
 
@@ -17,7 +18,7 @@ returns-clause-exact c =
 pub returns-clause-form : goal.returns-clause-form
 returns-clause-form c =
     let known = c.args.self.now in
-    subst (AreKeysOfDay known.rec.date) (sym (returns-clause-exact c)) (keys_of_day (setup_of known) (record_of known) (facts_of known) known.dated known.named)
+    subst (AreKeysOfDay known.rec.date) (sym (returns-clause-exact c)) (keys_of_day (setup_of known) (record_of known) (facts_of known) known.dated (minute-timed known.rec.minute known.timed) known.named)
 
 pub loop-panel-preserved : goal.loop-panel-preserved
 loop-panel-preserved c =

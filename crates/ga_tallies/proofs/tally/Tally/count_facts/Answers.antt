@@ -5,7 +5,7 @@ use Rattle.ga_panels.specs.Visitors.{visitor_in}
 use Rattle.ga_summary.specs.OneLine.{record_sums, record_totals}
 use Rattle.ga_base.specs.Totals.{totals_plus, TotalsFit}
 use Rattle.ga_tallies.specs.Steps.Notes.{NotesKeys, NotesVisitor, keys_told, number_in}
-use Rattle.ga_tallies.proofs.FactsHit.{told-form}
+use Rattle.ga_tallies.proofs.FactsHit.{minute-timed, told-form}
 use Rattle.ga_tallies.proofs.OneLine.{hit-added, hit-too-much}
 use Rattle.ga_tallies.proofs.tally.Tally.count_facts.Goals as goal
 
@@ -25,7 +25,7 @@ returns-clause-counted c =
     let values = sym c.requires.values in
     let visitor = visitor_in (setup_of known) rec in
     let place = number_in c.in_ok-visit.visit in
-    let form = told-form (setup_of known) rec known known.dated in
+    let form = told-form (setup_of known) rec known known.dated (minute-timed known.rec.minute known.timed) in
     let adds = subst (λ more. c.add_totals.new.self ≡ record c.args.self.now { totals = totals_plus c.args.self.now.totals more }) (c.totals_of.ensures ∙ ap record_totals values) c.in_ok-add_totals.ensures.ok in
     let sits = subst (λ v. NotesVisitor v place c.add_totals.new.self c.note_visitor.new.self) (c.visitor_in.ensures ∙ ap (visitor_in (setup_of known)) values) c.in_ok-visit.ensures in
     let notes = subst (λ line. NotesKeys (keys_told known) place line c.note_visitor.new.self c.note_keys.new.self) (c.sums_of.ensures ∙ ap record_sums values) c.in_ok-note_keys.ensures in
