@@ -3,7 +3,7 @@ use Rattle.std.proofs.Common.{◌≡◌, ℕ, zero, suc, ◌<◌, ◌≤◌, Boo
 use Rattle.std.specs.List.{All, AllByRecursion, Contains}
 use Rattle.std.specs.List.Sorted.{IsStrictlySortedBy}
 use Rattle.std.proofs.lemmas.List.Sums.{sum_by-cons}
-use Rattle.std.proofs.lemmas.List.Elements.{All-weaker, All-contains_itself, recursion_from_All}
+use Rattle.std.proofs.lemmas.List.Elements.{All-from_recursion, All-weaker, All-contains_itself, recursion_from_All}
 use Rattle.std.specs.Option.{option_map_or, option_map}
 use Rattle.ga_base.specs.declared.counts.Sums.{Sums}
 use Rattle.ga_base.specs.declared.counts.TheConstants.{LIMIT}
@@ -14,19 +14,21 @@ use Rattle.ga_summary.specs.declared.entry.Entry.{Entry}
 use Rattle.ga_base.specs.Orders.{name_cmp, is_same_key}
 use Rattle.ga_summary.specs.SummaryRows.{SummaryRow, SummaryValue, IsInOrder, row_at, sums_at, no_sums}
 use Rattle.ga_summary.specs.Steps.Entries.{AllClosed, IsClosed, entry_names, rows_of, row_of}
-use Rattle.ga_summary.specs.Steps.Room.{entry_at, HasRoom, HasPlace, AllHaveRoom, AllHavePlace}
+use Rattle.ga_summary.specs.Steps.Room.{AreSmall, AllCanGrow, CanGrow, SumsFit, entry_at, HasRoom, HasPlace, AllHaveRoom, AllHavePlace}
 use Rattle.ga_summary.specs.Sound.{IsSound}
-use Rattle.ga_base.specs.Layers.{day_key, Layer, in_layer, is_flag, is_empty}
+use Rattle.ga_base.specs.Layers.{day_key, Layer, in_layer, is_day, is_flag, is_empty, layer_of}
 use Rattle.ga_base.specs.Panels.{is_same_panel, panel_number}
 use Rattle.ga_summary.proofs.Merging.{sum_by-filter, all-row_at}
 use Rattle.ga_summary.proofs.Put.{equal_from_is_eq, find-map}
 use Rattle.ga_base.proofs.OrderLemmas.{key_cmp_exact}
 
--- sums at most the limit
-pub record AreSmall (sums : Sums) : Type 0 where
-  pub hits : sums.hits ≤ LIMIT
-  pub bytes : sums.bytes ≤ LIMIT
-  pub micros : sums.micros ≤ LIMIT
+-- small sums fit together
+pub small_fit : (a b : Sums) → AreSmall a → AreSmall b → SumsFit a b
+small_fit a b s t = record {
+  hits = omega (arith, s.hits, t.hits);
+  bytes = omega (arith, s.bytes, t.bytes);
+  micros = omega (arith, s.micros, t.micros);
+}
 
 pub is_same_panel-itself : (panel : Panel) → is_same_panel panel panel ≡ true
 unfolding is_same_panel
@@ -71,8 +73,8 @@ module _ (s : SummaryValue) (sound : IsSound s) where
   -- a day's row has at most the totals
   day_small : (date : ℕ) → AreSmall (sums_at s.rows (day_key date))
   day_small date =
-      let pass : is_same_panel (day_key date).panel Visitors ≡ true = is_same_panel-itself Visitors in
-      let test = λ (key : Key). is_same_panel key.panel Visitors in
+      let pass : is_day (day_key date) ≡ true = rw (is_same_panel-itself Visitors) refl in
+      let test = λ (key : Key). is_day key in
       let hits = found_of_sum (λ (row : SummaryRow). row.sums.hits) test s.rows (day_key date) pass in
       let bytes = found_of_sum (λ (row : SummaryRow). row.sums.bytes) test s.rows (day_key date) pass in
       let micros = found_of_sum (λ (row : SummaryRow). row.sums.micros) test s.rows (day_key date) pass in
@@ -84,9 +86,9 @@ module _ (s : SummaryValue) (sound : IsSound s) where
 
   row_small : (row : SummaryRow) → Contains s.rows row → AreSmall row.sums
   row_small row at =
-      let layer : Layer = record { panel = row.key.panel; groups = is_empty row.key.label } in
+      let layer : Layer = layer_of row.key in
       let test = λ (r : SummaryRow). (r.key.date == row.key.date) && in_layer layer r.key in
-      let pass : test row ≡ true = rw (eq-eqb row.key.date row.key.date refl, is_same_panel-itself row.key.panel) (is_flag-itself (is_empty row.key.label)) in
+      let pass : test row ≡ true = rw (eq-eqb row.key.date row.key.date refl, is_same_panel-itself row.key.panel, is_flag-itself (is_empty row.key.parent)) (is_flag-itself (is_empty row.key.label)) in
       let day = day_small row.key.date in
       let within = sound.rows.layers layer row.key.date in
       record {
@@ -111,11 +113,7 @@ module _ {A : Type 0} (entries : List (Box Entry A)) (ordered : IsInOrder (rows_
         rising_more = rw closed at more_rises;
         closed_more = closed;
         room = room boxed found;
-        sums = record {
-          hits = omega (arith, here.hits, more_small.hits);
-          bytes = omega (arith, here.bytes, more_small.bytes);
-          micros = omega (arith, here.micros, more_small.micros);
-        };
+        sums = small_fit boxed.value.sums more.sums here more_small;
       }
 
   -- where there is room for all names, all entries have their places
@@ -125,3 +123,11 @@ module _ {A : Type 0} (entries : List (Box Entry A)) (ordered : IsInOrder (rows_
       go : (more : List (Box Entry A)) → AllByRecursion (λ (row : SummaryRow). AreSmall row.sums) (rows_of more) → AllByRecursion (λ (row : SummaryRow). IsStrictlySortedBy name_cmp row.names) (rows_of more) → AllByRecursion (λ (b : Box Entry A). IsClosed b.value) more → AllByRecursion (λ (b : Box Entry A). HasRoom entries b.value) more → AllHavePlace entries more
       go [] p r c q = tt
       go (boxed ∷ more) p r c q = (place_from_room boxed.value p.0 r.0 c.0 q.0, go more p.1 r.1 c.1 q.1)
+
+-- the closed entries of a summary can grow
+pub entries_can_grow : {A : Type 0} (entries : List (Box Entry A)) → All (λ (row : SummaryRow). AreSmall row.sums) (rows_of entries) → All (λ (row : SummaryRow). IsStrictlySortedBy name_cmp row.names) (rows_of entries) → AllClosed entries → AllCanGrow entries
+entries_can_grow {A} entries small rise closed = All-from_recursion (λ (b : Box Entry A). CanGrow b.value) entries (go entries (recursion_from_All _ (rows_of entries) small) (recursion_from_All _ (rows_of entries) rise) (recursion_from_All (λ (b : Box Entry A). IsClosed b.value) entries closed))
+  where
+    go : (entries : List (Box Entry A)) → AllByRecursion (λ (row : SummaryRow). AreSmall row.sums) (rows_of entries) → AllByRecursion (λ (row : SummaryRow). IsStrictlySortedBy name_cmp row.names) (rows_of entries) → AllByRecursion (λ (b : Box Entry A). IsClosed b.value) entries → AllByRecursion (λ (b : Box Entry A). CanGrow b.value) entries
+    go [] p r c = tt
+    go (boxed ∷ entries) p r c = (record { closed = c.0; rising = r.0; small = p.0 }, go entries p.1 r.1 c.1)

@@ -1,9 +1,8 @@
--- Where the rows of VISITORS sum to more than is allowed.
+-- Where the rows of days sum to more than is allowed.
 use Rattle.std.proofs.Common.{◌≡◌, ℕ, ◌+◌, ◌<◌, true, false, List, [], ◌∷◌, ◌++◌, length, get_or, take, drop, take-append-drop, refl, sym, ap, ◌∙◌, subst, arith}
 use Rattle.std.proofs.lemmas.List.{map-append}
 use Rattle.std.proofs.lemmas.List.Elements.{filter-append}
-use Rattle.ga_base.specs.declared.panel.Panel.TheVariants.{Visitors}
-use Rattle.ga_base.specs.Panels.{is_same_panel}
+use Rattle.ga_base.specs.Layers.{is_day}
 use Rattle.ga_summary.specs.declared.load.Load.{Load}
 use Rattle.ga_summary.specs.declared.summary_parts.PartRow.{PartRow}
 use Rattle.ga_summary.specs.SummaryParts.{row_of_part, rows_in}
@@ -14,7 +13,7 @@ use Rattle.ga_summary.proofs.LayerSteps.{load_of-append, load_of-one}
 use Rattle.ga_summary.proofs.PartRows.{rows_more}
 
 day_rows-append : (xs ys : List SummaryRow) → day_rows (xs ++ ys) ≡ day_rows xs ++ day_rows ys
-day_rows-append xs ys = filter-append (λ (row : SummaryRow). is_same_panel row.key.panel Visitors) xs ys
+day_rows-append xs ys = filter-append (λ (row : SummaryRow). is_day row.key) xs ys
 
 -- what the days sum to is at least what the first of them do
 days_grow : (rows : List PartRow) (n : ℕ) (most : Load) → LoadWithin (load_of (day_rows (rows_in rows))) most → LoadWithin (load_of (day_rows (rows_in (take n rows)))) most
@@ -26,7 +25,7 @@ days_grow rows n most fits =
     record { hits = omega (arith, both.hits); bytes = omega (arith, both.bytes); micros = omega (arith, both.micros) }
 
 -- with a day's row they sum to more
-pub days_over : (rows : List PartRow) (i : ℕ) (row : PartRow) (sum most : Load) → i < length rows → row ≡ get_or rows i row → is_same_panel row.key.panel Visitors ≡ true
+pub days_over : (rows : List PartRow) (i : ℕ) (row : PartRow) (sum most : Load) → i < length rows → row ≡ get_or rows i row → is_day row.key ≡ true
     → sum ≡ load_of (day_rows (rows_in (take i rows))) → (LoadWithin (load_plus sum (sums_load row.sums)) most → ⊥) → LoadWithin (load_of (day_rows (rows_in rows))) most → false ≡ true
 days_over rows i row sum most within is day sum_is over fits =
     let more : day_rows (rows_in (take (i + 1) rows)) ≡ day_rows (rows_in (take i rows)) ++ row_of_part row ∷ [] =

@@ -12,7 +12,7 @@ use Rattle.ga_base.specs.declared.counts.Sums.{Sums}
 use Rattle.ga_base.specs.declared.key.Key.{Key}
 use Rattle.ga_base.specs.declared.key.Visitor.{Visitor}
 use Rattle.ga_base.specs.declared.name.Name.{Name}
-use Rattle.ga_base.specs.Layers.{HasForm, Layer, day_key, in_layer, is_empty, is_flag}
+use Rattle.ga_base.specs.Layers.{HasForm, Layer, day_key, in_layer, is_empty, is_flag, layer_of}
 use Rattle.ga_base.specs.Orders.{key_cmp, name_cmp, is_same_key, is_same_name, name_of}
 use Rattle.ga_base.proofs.OrderLemmas.{key_cmp_total, key_cmp_exact, name_cmp_total, name_cmp_exact}
 use Rattle.ga_summary.specs.SummaryParts.{RowsAreGood}
@@ -24,10 +24,6 @@ use Rattle.ga_summary.proofs.OneLine.{both_true, same_panel}
 use Rattle.ga_summary.proofs.PartRows.{KeysRise}
 use Rattle.ga_summary.proofs.Put.{equal_from_is_eq}
 use Rattle.ga_summary.proofs.Rising.{Below, below_from_push}
-
--- a key's layer
-abbrev pub layer_of : Key → Layer
-layer_of key = record { panel = key.panel; groups = is_empty key.label }
 
 -- where all rows are below a key, it has none
 pub none_at_above : (rows : List SummaryRow) (key : Key) → Below key_cmp (λ (row : SummaryRow). row.key) rows key → row_at rows key ≡ None
@@ -93,15 +89,17 @@ module _ (rows : List SummaryRow) (row : SummaryRow) where
 
   -- the row is in its key's layer, and in no other
   pub in_its_layer : ((row.key.date == row.key.date) && in_layer (layer_of row.key) row.key) ≡ true
-  in_its_layer = rw (eq-eqb row.key.date row.key.date refl, is_same_panel-itself row.key.panel, is_flag-refl (is_empty row.key.label))
+  in_its_layer = rw (eq-eqb row.key.date row.key.date refl, is_same_panel-itself row.key.panel, is_flag-refl (is_empty row.key.parent), is_flag-refl (is_empty row.key.label))
 
   pub only_in_its_layer : (layer : Layer) (date : ℕ) → ((row.key.date == date) && in_layer layer row.key) ≡ true → (date ≡ row.key.date) × (layer ≡ layer_of row.key)
   only_in_its_layer layer date e =
       let parts = both_true _ _ e in
       let both = both_true _ _ parts.1 in
       let panel : layer.panel ≡ row.key.panel = sym (same_panel _ _ both.0) in
-      let groups : layer.groups ≡ is_empty row.key.label = is_flag-same _ _ both.1 in
-      (sym (eqb→eq row.key.date date (subst T (sym parts.0) tt)), λ i. record { panel = panel i; groups = groups i })
+      let flags = both_true _ _ both.1 in
+      let no_parent : layer.no_parent ≡ is_empty row.key.parent = is_flag-same _ _ flags.0 in
+      let no_label : layer.no_label ≡ is_empty row.key.label = is_flag-same _ _ flags.1 in
+      (sym (eqb→eq row.key.date date (subst T (sym parts.0) tt)), λ i. record { panel = panel i; no_parent = no_parent i; no_label = no_label i })
 
   -- what was there is there
   pub kept : (key : Key) → HasRow rows key → row_at (rows ++ row ∷ []) key ≡ row_at rows key

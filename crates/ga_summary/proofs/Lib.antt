@@ -27,3 +27,8 @@ pub mod DatedSums
 pub mod SoundSums
 pub mod NamePass
 pub mod RowPass
+pub mod RisingDates
+pub mod LastDays
+pub mod TrimmedMerge
+pub mod Bars
+pub mod DayPlaces

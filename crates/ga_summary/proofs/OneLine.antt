@@ -1,5 +1,5 @@
 -- The summary of one counted line is the sum of its outcome, and sound.
-use Rattle.std.proofs.Common.{◌≡◌, ℕ, zero, suc, ◌*◌, ◌<◌, ◌≤◌, Bool, true, false, cond, ◌||◌, ◌&&◌, ◌==◌, List, [], ◌∷◌, Option, Some, None, is_some, length, map, filter, sum_by, count_by, nat_lt, refl, sym, ap, ◌∙◌, subst, arith, get_or, eqb→eq, T}
+use Rattle.std.proofs.Common.{◌≡◌, ℕ, zero, suc, ◌*◌, ◌<◌, ◌≤◌, Bool, true, false, cond, ◌||◌, ◌&&◌, ◌==◌, List, [], ◌∷◌, Option, Some, None, is_some, length, map, filter, sum_by, count_by, nat_lt, refl, sym, ap, ◌∙◌, subst, arith, get_or, eqb→eq, T, inl, inr}
 use Rattle.std.specs.List.{list_any, All, AllByRecursion, Contains}
 use Rattle.std.specs.Option.{option_map_or, ForSome}
 use Rattle.std.specs.List.Sorted.{IsStrictlySortedBy}
@@ -24,7 +24,7 @@ use Rattle.ga_summary.specs.Dated.{IsDated}
 use Rattle.ga_summary.specs.Sums.{IsSumOf}
 use Rattle.ga_base.specs.Layers.{HasForm}
 use Rattle.ga_summary.specs.Sound.{IsSummary, IsCountable, HasRow, layer_rows, day_rows, SumsWithin}
-use Rattle.ga_base.specs.Layers.{day_key, Layer, in_layer}
+use Rattle.ga_base.specs.Layers.{IsDayOrPart, day_key, Layer, in_layer, is_day, is_empty}
 use Rattle.ga_base.specs.Panels.{is_same_panel, panel_number}
 use Rattle.ga_summary.proofs.Put.{equal_from_is_eq}
 use Rattle.ga_summary.proofs.Lines.{same_totals}
@@ -40,6 +40,12 @@ one_name : (v : Option Visitor) → IsStrictlySortedBy name_cmp (names_of v)
 unfolding IsStrictlySortedBy
 one_name None = tt
 one_name (Some w) = (tt, tt)
+
+-- the key of a day is in the layer of days
+day_layer : (key : Key) → is_same_panel key.panel Visitors ≡ true → is_empty key.parent ≡ true → IsDayOrPart key.date key.parent key.label
+    → in_layer (record { panel = Visitors; no_parent = true; no_label = false }) key ≡ true
+day_layer key panel none (inl day) = rw (panel, none, day.1) refl
+day_layer key panel none (inr part) = let some : is_empty key.parent ≡ false = rw (part.0) refl in absurd (false≢true (sym some ∙ none))
 
 -- panels that test as the same are
 pub same_panel : (a b : Panel) → is_same_panel a b ≡ true → a ≡ b
@@ -238,7 +244,9 @@ module _ (hit : Hit) where
             go (key ∷ keys) h = rw (h.0, other) (go keys h.1)
 
     days-line : SumsWithin (day_rows (line_value hit).rows) 1 hit.bytes hit.micros
-    days-line = within_line (λ (key : Key). is_same_panel key.panel Visitors) (record { panel = Visitors; groups = false }) (λ k d lt h. rw (h, (can.formed k d lt).label (same_panel _ Visitors h)))
+    days-line = within_line (λ (key : Key). is_day key) (record { panel = Visitors; no_parent = true; no_label = false }) (λ k d lt h.
+        let parts = both_true _ _ h in
+        day_layer (get_or hit.keys k d) parts.0 parts.1 ((can.formed k d lt).visit (same_panel _ Visitors parts.0)))
 
     visitors-line : (key : Key) (visitor : Visitor) → has_pair (line_value hit).rows key visitor ≡ true → has_pair (line_value hit).rows (day_key key.date) visitor ≡ true
     visitors-line key visitor has =

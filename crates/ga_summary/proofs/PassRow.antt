@@ -5,7 +5,7 @@ use Rattle.std.specs.Ordering.{is_eq}
 use Rattle.std.specs.List.Sorted.{IsStrictlySortedBy}
 use Rattle.std.proofs.lemmas.Cmp.{tied_itself}
 use Rattle.std.proofs.lemmas.List.Elements.{All-push}
-use Rattle.ga_base.specs.Layers.{HasForm, day_key}
+use Rattle.ga_base.specs.Layers.{HasForm, day_key, layer_of}
 use Rattle.ga_base.specs.Orders.{name_cmp, is_same_key}
 use Rattle.ga_base.proofs.OrderLemmas.{key_cmp_total}
 use Rattle.ga_summary.specs.declared.layer_sums.LayerSums.{LayerSums}
@@ -16,7 +16,7 @@ use Rattle.ga_summary.specs.SummaryRows.{SummaryRow, row_at}
 use Rattle.ga_summary.specs.Sound.{HasRow, layer_rows}
 use Rattle.ga_summary.specs.Steps.Loads.{LoadWithin, load_of, sums_load}
 use Rattle.ga_summary.specs.Steps.Passing.{AllAmong, AreSumsOf, StandsAlone, layer_plus, with_load}
-use Rattle.ga_summary.proofs.GoodRows.{layer_of, good_push, alone_from_good, day_from_good, among_from_good, within_from_good}
+use Rattle.ga_summary.proofs.GoodRows.{good_push, alone_from_good, day_from_good, among_from_good, within_from_good}
 use Rattle.ga_summary.proofs.LayerSteps.{its_layer, next_sums}
 use Rattle.ga_summary.proofs.Merging.{all-row_at}
 use Rattle.ga_summary.proofs.PartRows.{KeysRise, rows_more}

@@ -2,37 +2,29 @@
 use Rattle.std.proofs.Common.{◌≡◌, ℕ, zero, suc, ◌+◌, ◌<◌, ◌≤◌, true, false, cond, ◌&&◌, ◌==◌, List, [], ◌∷◌, ◌++◌, Option, Some, None, Less, is_some, length, get_or, take, take_all, length-append, ◌-◌, refl, sym, ap, ◌∙◌, subst, inl, inr, arith}
 use Rattle.std.specs.List.Sorted.{IsStrictlySortedBy}
 use Rattle.std.proofs.lemmas.Bool.{false≢true, cases_lt}
-use Rattle.std.proofs.lemmas.Cmp.{tied_itself}
 use Rattle.std.proofs.lemmas.List.{take_more, get_or_append_left}
 use Rattle.ga_base.specs.declared.key.Key.{Key}
 use Rattle.ga_base.specs.declared.key.Visitor.{Visitor}
-use Rattle.ga_base.specs.declared.panel.Panel.TheVariants.{Visitors}
 use Rattle.ga_base.specs.Layers.{HasForm, Layer, day_key, in_layer}
 use Rattle.ga_base.specs.Orders.{key_cmp, name_cmp}
-use Rattle.ga_base.proofs.OrderLemmas.{key_cmp_total, key_cmp_exact, panel_number_exact}
+use Rattle.ga_base.proofs.OrderLemmas.{key_cmp_total, key_cmp_exact}
 use Rattle.ga_summary.specs.declared.load.Load.{Load}
 use Rattle.ga_summary.specs.SummaryParts.{RowsAreGood, IsFirstBad}
 use Rattle.ga_summary.specs.SummaryRows.{SummaryRow, SummaryValue, row_at, sums_at, names_at, has_pair}
 use Rattle.ga_summary.specs.Sound.{HasRow, IsSummary, SumsWithin, layer_rows}
 use Rattle.ga_summary.specs.Steps.Loads.{load_of, load_plus}
-use Rattle.ga_summary.proofs.DayRows.{day_key_is}
+use Rattle.ga_summary.proofs.DayRows.{day_cmp_is, day_not_less}
 use Rattle.ga_summary.proofs.GoodRows.{before, here, nowhere, at_push, kept, has_kept, layer_push}
-use Rattle.ga_summary.proofs.LayerSteps.{by_panel_and_day, filter_none, in_panel_and_day, load_of-append}
+use Rattle.ga_summary.proofs.LayerSteps.{filter_none, in_panel_and_day, load_of-append}
 use Rattle.ga_summary.proofs.Merging.{all-row_at}
 use Rattle.ga_summary.proofs.OneLine.{both_true}
 use Rattle.ga_summary.proofs.PassRow.{has_own}
-use Rattle.ga_summary.proofs.Put.{Less≢Equal}
 use Rattle.ga_summary.proofs.Rising.{rises_before, below_from_push}
 use Rattle.ga_summary.proofs.Unique.{find_is}
 
--- no key is below its day's
+-- no key is below its day's: it is of a later panel, it is the day's itself, or it has a parent
 not_below_day : (key : Key) → HasForm key → key_cmp key (day_key key.date) ≡ Less → ⊥
-not_below_day key form less = elim (by_panel_and_day key (day_key key.date) less) [
-  | inl below ↦ absurd (omega arith)
-  | inr same ↦
-      let is = day_key_is key form (panel_number_exact key.panel Visitors same.0) in
-      Less≢Equal (sym less ∙ ap (λ (k : Key). key_cmp key k) (sym is) ∙ tied_itself key_cmp_total key)
-]
+not_below_day key form less = day_not_less key (day_cmp_is key key.date form ∙ less)
 
 module _ (rows : List SummaryRow) (row : SummaryRow) (good : RowsAreGood (rows ++ row ∷ [])) where
   -- a key that was there is below the last one

@@ -20,7 +20,7 @@ moved {A} done pushed left rest whole row is e h =
     ap (λ (l : List SummaryRow). l ++ rest) (map-append (λ (b : Box Entry A). row_of b.value) done (pushed ∷ []) ∙ ap (λ (r : SummaryRow). rows_of done ++ r ∷ []) is)
     ∙ append_assoc (rows_of done) (row ∷ []) rest ∙ ap (λ (l : List SummaryRow). rows_of done ++ l) (sym e) ∙ h
 
-module _ {A : Type 0} (done : List (Box Entry A)) (whole : List SummaryRow) (a b : Box Entry A) (ls rs : List (Box Entry A)) (t : Rises key_cmp (λ (row : SummaryRow). row.key) (rows_of (b ∷ rs))) (h : rows_of done ++ put_rows (rows_of (b ∷ rs)) (rows_of (a ∷ ls)) ≡ whole) (fits : AllHavePlace (a ∷ ls) (b ∷ rs)) where
+module _ {A : Type 0} (done : List (Box Entry A)) (whole : List SummaryRow) (a b : Box Entry A) (ls rs : List (Box Entry A)) (t : Rises key_cmp (λ (row : SummaryRow). row.key) (rows_of (b ∷ rs))) (h : rows_of done ++ put_rows (rows_of (b ∷ rs)) (rows_of (a ∷ ls)) ≡ whole) where
   -- without the first entry, a look-up at another key is the same
   others : (key : Key) → is_same_key key a.value.key ≡ false → entry_at ls key ≡ entry_at (a ∷ ls) key
   others key apart = rw apart
@@ -28,14 +28,14 @@ module _ {A : Type 0} (done : List (Box Entry A)) (whole : List SummaryRow) (a b
   pub row_less : key_cmp a.value.key b.value.key ≡ Less → rows_of (done ++ a ∷ []) ++ put_rows (rows_of (b ∷ rs)) (rows_of ls) ≡ whole
   row_less e = moved done a _ _ whole (row_of a.value) refl (put_all-less key_cmp key_cmp_total (λ (row : SummaryRow). row.key) joined (row_of a.value) (row_of b.value) (rows_of ls) (rows_of rs) e t) h
 
-  pub fits_less : key_cmp a.value.key b.value.key ≡ Less → AllHavePlace ls (b ∷ rs)
-  fits_less e = places_left (a ∷ ls) ls a.value.key others (b ∷ rs) (e, above_more key_cmp key_cmp_total (λ (row : SummaryRow). row.key) a.value.key b.value.key (rows_of rs) e (rises_head key_cmp (λ (row : SummaryRow). row.key) (row_of b.value) (rows_of rs) t)) fits
+  pub fits_less : AllHavePlace (a ∷ ls) (b ∷ rs) → key_cmp a.value.key b.value.key ≡ Less → AllHavePlace ls (b ∷ rs)
+  fits_less fits e = places_left (a ∷ ls) ls a.value.key others (b ∷ rs) (e, above_more key_cmp key_cmp_total (λ (row : SummaryRow). row.key) a.value.key b.value.key (rows_of rs) e (rises_head key_cmp (λ (row : SummaryRow). row.key) (row_of b.value) (rows_of rs) t)) fits
 
   pub row_equal : (pushed : Box Entry A) → row_of pushed.value ≡ joined (row_of a.value) (row_of b.value) → key_cmp a.value.key b.value.key ≡ Equal → rows_of (done ++ pushed ∷ []) ++ put_rows (rows_of rs) (rows_of ls) ≡ whole
   row_equal pushed is e = moved done pushed _ _ whole (joined (row_of a.value) (row_of b.value)) is (put_all-equal key_cmp key_cmp_total (λ (row : SummaryRow). row.key) joined (λ _ _. refl) (row_of a.value) (row_of b.value) (rows_of ls) (rows_of rs) e t) h
 
-  pub fits_equal : key_cmp a.value.key b.value.key ≡ Equal → AllHavePlace ls rs
-  fits_equal e = places_left (a ∷ ls) ls a.value.key others rs (above_same key_cmp key_cmp_total (λ (row : SummaryRow). row.key) a.value.key b.value.key (rows_of rs) e (rises_head key_cmp (λ (row : SummaryRow). row.key) (row_of b.value) (rows_of rs) t)) fits.1
+  pub fits_equal : AllHavePlace (a ∷ ls) (b ∷ rs) → key_cmp a.value.key b.value.key ≡ Equal → AllHavePlace ls rs
+  fits_equal fits e = places_left (a ∷ ls) ls a.value.key others rs (above_same key_cmp key_cmp_total (λ (row : SummaryRow). row.key) a.value.key b.value.key (rows_of rs) e (rises_head key_cmp (λ (row : SummaryRow). row.key) (row_of b.value) (rows_of rs) t)) fits.1
 
   pub row_greater : key_cmp a.value.key b.value.key ≡ Greater → rows_of (done ++ b ∷ []) ++ put_rows (rows_of rs) (rows_of (a ∷ ls)) ≡ whole
   row_greater e = moved done b _ _ whole (row_of b.value) refl (put_all-greater key_cmp key_cmp_total (λ (row : SummaryRow). row.key) joined (row_of a.value) (row_of b.value) (rows_of ls) (rows_of rs) e t) h

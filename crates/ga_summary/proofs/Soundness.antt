@@ -5,15 +5,13 @@ use Rattle.ga_base.specs.declared.key.Key.{Key}
 use Rattle.ga_base.specs.declared.key.Visitor.{Visitor}
 use Rattle.ga_base.specs.declared.counts.Sums.{Sums}
 use Rattle.ga_base.specs.declared.counts.TheConstants.{BIG}
-use Rattle.ga_base.specs.declared.panel.Panel.TheVariants.{Visitors}
 use Rattle.ga_summary.specs.SummaryRows.{SummaryRow, SummaryValue, IsInOrder, sums_at, names_at, has_pair}
 use Rattle.ga_base.specs.Totals.{totals_plus, TotalsFit}
 use Rattle.ga_summary.specs.Steps.Joined.{put_rows, merged_value}
 use Rattle.ga_summary.specs.Sums.{IsMerged}
 use Rattle.ga_base.specs.Layers.{HasForm}
 use Rattle.ga_summary.specs.Sound.{IsSound, HasRow, layer_rows, day_rows, SumsWithin}
-use Rattle.ga_base.specs.Layers.{day_key, Layer, in_layer}
-use Rattle.ga_base.specs.Panels.{is_same_panel}
+use Rattle.ga_base.specs.Layers.{day_key, Layer, in_layer, is_day}
 use Rattle.ga_summary.proofs.Merging.{IsInOrder-put_rows, present-put_rows, sums_at-put_rows, has_pair-put_rows, length-names_at-put_rows, sum_by-filter-put_rows}
 
 module _ (a b : SummaryValue) (s : IsInOrder a.rows) (t : IsInOrder b.rows) where
@@ -76,7 +74,7 @@ module _ (a b : SummaryValue) (s : IsInOrder a.rows) (t : IsInOrder b.rows) wher
         omega (arith, both, names, x.rows.visits key, y.rows.visits key)
 
     days : SumsWithin (day_rows (put_rows b.rows a.rows)) (a.totals.hits + b.totals.hits) (a.totals.bytes + b.totals.bytes) (a.totals.micros + b.totals.micros)
-    days = within (λ (key : Key). is_same_panel key.panel Visitors) _ _ _ _ _ _ x.totals.days y.totals.days
+    days = within (λ (key : Key). is_day key) _ _ _ _ _ _ x.totals.days y.totals.days
 
     times : (key : Key) → ((sums_at (put_rows b.rows a.rows) key).max_micros ≤ BIG) × ((sums_at (put_rows b.rows a.rows) key).max_micros ≤ (sums_at (put_rows b.rows a.rows) key).micros)
     times key =

@@ -4,6 +4,7 @@ pub mod Outcomes
 pub mod Sums
 pub mod Dated
 pub mod Sound
+pub mod LastDays
 pub mod SummaryParts
 pub mod Limits
 pub mod OneLine

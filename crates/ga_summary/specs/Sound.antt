@@ -5,10 +5,8 @@ use Rattle.std.specs.Option.{ForSome}
 use Rattle.ga_base.specs.declared.counts.TheConstants.{BIG}
 use Rattle.ga_base.specs.declared.key.Key.{Key}
 use Rattle.ga_base.specs.declared.key.Visitor.{Visitor}
-use Rattle.ga_base.specs.declared.panel.Panel.TheVariants.{Visitors}
-use Rattle.ga_base.specs.Layers.{HasForm, Layer, day_key, in_layer}
+use Rattle.ga_base.specs.Layers.{HasForm, Layer, day_key, in_layer, is_day}
 use Rattle.ga_base.specs.Orders.{key_cmp}
-use Rattle.ga_base.specs.Panels.{is_same_panel}
 use Rattle.ga_base.specs.Totals.{LinesAdd, TotalsFit}
 use Rattle.ga_summary.specs.Outcomes.{Hit, Outcome, hits_of}
 use Rattle.ga_summary.specs.SummaryRows.{SummaryRow, SummaryValue, IsInOrder, row_at, sums_at, names_at, has_pair}
@@ -17,9 +15,9 @@ use Rattle.ga_summary.specs.SummaryRows.{SummaryRow, SummaryValue, IsInOrder, ro
 abbrev pub layer_rows : Layer → ℕ → List SummaryRow → List SummaryRow
 layer_rows layer date rows = filter (λ row. (row.key.date == date) && in_layer layer row.key) rows
 
--- the rows of VISITORS
+-- the rows of days, without those of parts of days
 abbrev pub day_rows : List SummaryRow → List SummaryRow
-day_rows rows = filter (λ row. is_same_panel row.key.panel Visitors) rows
+day_rows rows = filter (λ row. is_day row.key) rows
 
 -- the rows' hits, bytes and micros sum to at most those
 pub record SumsWithin (rows : List SummaryRow) (most_hits most_bytes most_micros : ℕ) : Type 0 where

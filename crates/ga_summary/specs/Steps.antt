@@ -5,3 +5,4 @@ pub mod Joined
 pub mod Room
 pub mod Loads
 pub mod Passing
+pub mod LastDays

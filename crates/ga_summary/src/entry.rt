@@ -4,7 +4,7 @@ ghost use Rattle.ga_base.specs.Orders.{name_cmp};
 ghost use Rattle.ga_summary.specs.SummaryRows.{amounts_of, sums_plus};
 ghost use Rattle.ga_summary.specs.Steps.Entries.{IsClosed, entry_names, names_beside, row_of};
 ghost use Rattle.ga_summary.specs.Steps.Joined.{joined, put_names};
-ghost use Rattle.ga_summary.specs.Steps.Room.{CanTake, HasNameRoom, SumsFit};
+ghost use Rattle.ga_summary.specs.Steps.Room.{CanGrow, CanTake, HasNameRoom, SumsFit};
 
 use crate::names::unite;
 use crate::one_pass::merge_names;
@@ -127,6 +127,21 @@ impl Entry {
         let names = replace(&mut self.names, Names::new(alloc));
         let work = replace(&mut self.work, Vec::new(alloc));
         self.names = Names::from(joined_names(names, more.names, work));
+    }
+
+    /// A closed entry with what this one and another of its key have, whose list of names is made for both.
+    pub(crate) fn join(self, more: Entry) -> Result<Entry, NoMemory>
+        requires grows { CanGrow self }
+        requires grows_more { CanGrow more }
+        ensures row { IfOk result (λ e. row_of e ≡ joined (row_of self) (row_of more)) }
+        ensures closed { IfOk result (λ e. IsClosed e) }
+    {
+        let alloc = *self.work.allocator();
+        let names = self.names.into_vec();
+        let others = more.names.into_vec();
+        let room = Vec::with_capacity(alloc, names.len() + others.len())?;
+        let names = Names::from(merge_names(names, others, room));
+        Ok(Entry::of(alloc, self.key, add_sums(self.sums, more.sums), names))
     }
 }
 

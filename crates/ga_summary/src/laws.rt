@@ -1,11 +1,13 @@
 //! What holds of all sums of outcomes. Each function's contract is the law, and its body is empty.
 
-ghost use Rattle.std.specs.Prelude.{◌≡◌, ℕ, List, ◌++◌};
-ghost use Rattle.ga_summary.specs.Outcomes.{Outcome, totals_of};
+ghost use Rattle.std.specs.Prelude.{◌≡◌, ◌↔◌, ℕ, true, List, Contains, ◌++◌};
+ghost use Rattle.ga_base.specs.Layers.{day_key};
+ghost use Rattle.ga_summary.specs.LastDays.{trimmed};
+ghost use Rattle.ga_summary.specs.Outcomes.{Hit, Outcome, has_key, hits_of, totals_of};
 ghost use Rattle.ga_summary.specs.SummaryParts.{IsFirstBad};
 ghost use Rattle.ga_summary.specs.Dated.{AllDated};
 ghost use Rattle.ga_summary.specs.SummaryRows.{IsInOrder, SummaryValue};
-ghost use Rattle.ga_summary.specs.Sound.{IsSound, IsSummary, AllCountable};
+ghost use Rattle.ga_summary.specs.Sound.{AllCountable, HasRow, IsSound, IsSummary};
 ghost use Rattle.ga_base.specs.Totals.{TotalsFit};
 ghost use Rattle.ga_summary.specs.Sums.{IsSumOf, IsMerged};
 
@@ -48,4 +50,23 @@ pub fn one_first_bad()
 /// Where each counted outcome may be counted and the totals fit, the sum is sound.
 pub fn sound_sums()
     ensures { (xs : List Outcome) (s : SummaryValue) → AllCountable xs → TotalsFit (totals_of xs) → IsSumOf xs s → IsSound s }
+{}
+
+/// Of two summaries together the last days are the same where the first was left with its last days before.
+pub fn trimmed_merge()
+    ensures { (n : ℕ) (a b both fewer : SummaryValue) → IsSummary a → IsSummary b → IsMerged a b both
+        → IsMerged (trimmed n a) b fewer → trimmed n fewer ≡ trimmed n both }
+{}
+
+/// The last days of a summary are a summary, with its totals, and their last days are they.
+pub fn trimmed_sums()
+    ensures sound { (n : ℕ) (s : SummaryValue) → IsSummary s → IsSummary (trimmed n s) }
+    ensures twice { (n : ℕ) (s : SummaryValue) → IsSummary s → trimmed n (trimmed n s) ≡ trimmed n s }
+    ensures totals { (n : ℕ) (s : SummaryValue) → (trimmed n s).totals ≡ s.totals }
+{}
+
+/// The days of a sum are those of the lines that are counted.
+pub fn counted_days()
+    ensures { (xs : List Outcome) (s : SummaryValue) → IsSumOf xs s → (date : ℕ)
+        → HasRow s.rows (day_key date) ↔ ((hit : Hit) × Contains (hits_of xs) hit × (has_key (day_key date) hit ≡ true)) }
 {}

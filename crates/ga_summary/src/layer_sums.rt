@@ -6,13 +6,15 @@ use crate::load::Load;
 use crate::order::same_panel;
 use ga_base::{Key, Panel};
 
-/// What the two layers of a panel on a day sum to, in the rows passed so far, which rise. Of panels and days that lie
-/// after nothing is kept.
+/// What two layers of a panel on a day sum to, in the rows passed so far, which rise: of the keys without a parent, which stand
+/// first, or of those with one. Of panels, days and parents that lie after nothing is kept.
 #[derive(Clone, Copy, Debug)]
 pub(crate) struct LayerSums {
     panel: Panel,
     date: u32,
-    /// The layer of the groups, whose label is empty.
+    /// Whether the keys have no parent.
+    no_parent: bool,
+    /// The layer of those whose label is empty, as groups have it.
     groups: Load,
     /// The layer of the others.
     entries: Load,
@@ -26,21 +28,27 @@ impl LayerSums {
         LayerSums {
             panel: Panel::Visitors,
             date: 0,
+            no_parent: true,
             groups: Load::NONE,
             entries: Load::NONE,
         }
     }
 
-    /// The sums of a key's panel and day: none so far, where it is the first of them.
+    /// The sums of a key's layers: none so far, where it is the first of them.
     fn reach(self, key: &Key) -> LayerSums
         ensures { result ≡ reached self key.now }
     {
-        if same_panel(self.panel, key.panel) && self.date == key.date {
+        let no_parent = key.parent.bytes().is_empty();
+        if same_panel(self.panel, key.panel)
+            && self.date == key.date
+            && self.no_parent == no_parent
+        {
             return self;
         }
         LayerSums {
             panel: key.panel,
             date: key.date,
+            no_parent,
             groups: Load::NONE,
             entries: Load::NONE,
         }

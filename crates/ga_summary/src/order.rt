@@ -42,10 +42,12 @@ pub(crate) fn same_panel(a: Panel, b: Panel) -> bool
     a == b
 }
 
-/// How a key is ordered beside the key of a day in VISITORS, where it has its form.
+/// How a key is ordered beside the key of a day, where it has its form.
 pub(crate) fn compare_to_day(key: &Key, date: u32) -> Ordering
     ensures { result ≡ day_cmp key.now date }
 {
     let panel = key.panel.number().cmp(&Panel::Visitors.number());
-    panel.then(key.date.cmp(&date))
+    panel
+        .then(key.date.cmp(&date))
+        .then(key.parent.as_str().cmp(""))
 }

@@ -1,7 +1,8 @@
-ghost use Rattle.std.specs.Prelude.{◌≡◌, ◌+◌, ◌/◌, ◌%◌, ◌<◌, ◌↔◌, IsTrue, MatchOption, false, [], take, length};
+ghost use Rattle.std.specs.Prelude.{◌≡◌, ◌≢◌, ◌+◌, ◌/◌, ◌%◌, ◌<◌, ◌↔◌, ◌⊎◌, IsTrue, MatchOption, true, false, [], take, length};
+ghost use Rattle.std.specs.Str.{all_ascii_digits};
 ghost use Rattle.std.specs.List.Sorted.{IsStrictlySortedBy};
 ghost use Rattle.ga_base.specs.Days.{eight_digits};
-ghost use Rattle.ga_base.specs.Layers.{HasForm, has_requests};
+ghost use Rattle.ga_base.specs.Layers.{HasForm, IsDayOrPart, IsPartOfDay, has_groups, has_requests};
 ghost use Rattle.ga_base.specs.Orders.{key_cmp, name_cmp};
 ghost use Rattle.ga_base.specs.declared.panel.Panel.TheVariants.{Visitors};
 ghost use Rattle.ga_summary.specs.SummaryParts.{row_of_part, rows_in};
@@ -28,11 +29,11 @@ fn digit(number: u32, power: u32) -> u8
     b'0' + (number / power % 10) as u8
 }
 
-/// Whether a text is the eight digits of a day.
-fn is_day(text: &[u8], date: u32) -> bool
-    ensures { IsTrue result ↔ (text.now ≡ eight_digits date) }
+/// The eight digits of a day.
+fn day_digits(date: u32) -> [u8; 8]
+    ensures { result ≡ eight_digits date }
 {
-    let digits = [
+    [
         digit(date, 10_000_000),
         digit(date, 1_000_000),
         digit(date, 100_000),
@@ -41,8 +42,43 @@ fn is_day(text: &[u8], date: u32) -> bool
         digit(date, 100),
         digit(date, 10),
         digit(date, 1),
-    ];
-    text == digits.as_slice()
+    ]
+}
+
+/// Whether these are the digits that a part of a day has after its day's: two or four.
+fn are_part_digits(more: &[u8]) -> bool
+    ensures { IsTrue result ↔ (all_ascii_digits more.now ≡ true) × ((length more.now ≡ 2) ⊎ (length more.now ≡ 4)) }
+{
+    match more {
+        [a, b] => a.is_ascii_digit() && b.is_ascii_digit(),
+        [a, b, c, d] => {
+            a.is_ascii_digit() && b.is_ascii_digit() && c.is_ascii_digit() && d.is_ascii_digit()
+        }
+        _ => false,
+    }
+}
+
+/// Whether a label is that of a part of a day with these digits.
+fn is_part_of_day(label: &[u8], day: &[u8; 8], date: u32) -> bool
+    requires { day.now ≡ eight_digits date }
+    ensures { IsTrue result ↔ IsPartOfDay date label.now }
+{
+    match label.strip_prefix(day.as_slice()) {
+        Some(more) => are_part_digits(more),
+        None => false,
+    }
+}
+
+/// Whether a parent and a label are those of a day in VISITORS, or of a part of it.
+fn is_day_or_part(date: u32, parent: &[u8], label: &[u8]) -> bool
+    ensures { IsTrue result ↔ IsDayOrPart date parent.now label.now }
+{
+    let day = day_digits(date);
+    if parent.is_empty() {
+        label == day.as_slice()
+    } else {
+        parent == day.as_slice() && is_part_of_day(label, &day, date)
+    }
 }
 
 /// Whether the keys of a panel have the method and the protocol.
@@ -55,13 +91,15 @@ fn has_requests(panel: Panel) -> bool
     )
 }
 
-/// Whether a key's label is that of its day, where it is a key of VISITORS.
-fn has_day_label(key: &Key) -> bool
-    ensures { IsTrue result ↔ (key.now.panel ≡ Visitors → key.now.label ≡ eight_digits key.now.date) }
+/// Whether a key's parent goes with its panel, and in VISITORS its label too.
+fn has_parent_form(key: &Key) -> bool
+    ensures { IsTrue result
+        ↔ (key.now.panel ≡ Visitors → IsDayOrPart key.now.date key.now.parent key.now.label)
+        × (key.now.panel ≢ Visitors → (key.now.parent ≡ []) ↔ (has_groups key.now.panel ≡ false)) }
 {
     match key.panel {
-        Panel::Visitors => is_day(key.label.bytes(), key.date),
-        _ => true,
+        Panel::Visitors => is_day_or_part(key.date, key.parent.bytes(), key.label.bytes()),
+        _ => key.parent.bytes().is_empty() != key.panel.has_groups(),
     }
 }
 
@@ -76,11 +114,7 @@ fn has_request_form(key: &Key) -> bool
 fn has_form(key: &Key) -> bool
     ensures { IsTrue result ↔ HasForm key.now }
 {
-    FIRST_DAY <= key.date
-        && key.date <= LAST_DAY
-        && key.parent.bytes().is_empty() != key.panel.has_groups()
-        && has_day_label(key)
-        && has_request_form(key)
+    FIRST_DAY <= key.date && key.date <= LAST_DAY && has_parent_form(key) && has_request_form(key)
 }
 
 /// Whether names rise.

@@ -1,6 +1,7 @@
 ghost use Rattle.std.specs.Prelude.{◌≡◌, ◌<◌, ◌≤◌, slice_get, ◌+◌, ◌↔◌, ℕ, List, length, [], ◌∷◌, ◌++◌, Some, OnOk, OnErr, IfOk, IsErrOf};
 ghost use Rattle.ga_base.specs.declared.counts.Counter.{Counter as TheCounter};
 ghost use Rattle.ga_summary.specs.Steps.Joined.{merged_value};
+ghost use Rattle.ga_summary.specs.LastDays.{trimmed};
 ghost use Rattle.ga_summary.specs.Limits.{passes};
 ghost use Rattle.std.specs.Option.{option_copied};
 ghost use Rattle.ga_summary.specs.OneLine.{line_value, record_totals};
@@ -14,10 +15,12 @@ ghost use Rattle.ga_summary.specs.Sums.{IsSumOf, IsMerged};
 use crate::entries::{copy_all, entries_of, entry_of, place_all};
 use crate::entry::Entry;
 use crate::first_bad::first_bad;
+use crate::joining::join_entries;
 use crate::limits::add_totals;
 use crate::names::holds_visitor;
 use crate::one_line::{line_entries, sums_of_record, totals_of_record};
 use crate::room::reserve;
+use crate::trim::keep_last;
 use crate::{MergeFault, NotSound, RowView, SummaryParts};
 use ga_base::{Amounts, Key, Keys, LIMIT, NoMemory, Record, Totals, Visitor};
 use std::alloc::{AllocError, Global};
@@ -184,6 +187,21 @@ impl Summary {
         Ok(())
     }
 
+    /// The summary of what this one and another have, made of their parts.
+    ///
+    /// Nothing is copied, and room for visitors is made at one key after the other. After an `Err` both are gone.
+    pub fn join(self, other: Summary) -> Result<Summary, MergeFault>
+        ensures merged { IfOk result (λ s. IsMerged self other s) }
+        ensures sum { IfOk result (λ s. (xs ys : List Outcome) → IsSumOf xs self → IsSumOf ys other → IsSumOf (xs ++ ys) s) }
+
+        // The first of lines, bytes and micros that would pass the limit is reported, and nothing else is.
+        ensures full { (which : TheCounter) (total : ℕ) → IsErrOf result (MergeFault.CounterFull which total)
+            ↔ (passes (totals_plus self.totals other.totals) ≡ Some (which, total)) }
+    {
+        let totals = add_totals(self.totals, other.totals)?;
+        Ok(self.join_fitting(totals, other)?)
+    }
+
     /// Counts a record under its keys, for its visitor if it has one. After an `Err` the summary is as it was.
     ///
     /// This is for a record at a time: what a new key or visitor costs grows with the number of those that are there.
@@ -228,6 +246,14 @@ impl Summary {
         })
     }
 
+    /// Keeps the keys of the last days alone, this many of those that it has, or all where this is 0. The totals stay, and no
+    /// memory is taken.
+    pub fn trim(&mut self, keep: u32)
+        ensures { self.new ≡ trimmed keep self.old }
+    {
+        keep_last(&mut self.entries, keep);
+    }
+
     /// Takes in what another summary has, where the totals of both are known and fit.
     fn absorb(&mut self, totals: Totals, other: Summary) -> Result<(), NoMemory>
         requires totals { totals ≡ totals_plus self.old.totals other.totals }
@@ -240,5 +266,19 @@ impl Summary {
         place_all(&mut self.entries, more, room);
         self.totals = totals;
         Ok(())
+    }
+
+    /// The summary of both, where the totals of both are known and fit.
+    fn join_fitting(self, totals: Totals, other: Summary) -> Result<Summary, NoMemory>
+        requires totals { totals ≡ totals_plus self.totals other.totals }
+        requires fit { TotalsFit totals }
+        ensures { IfOk result (λ s. s ≡ merged_value self other) }
+    {
+        let alloc = *self.entries.allocator();
+        let room = Vec::with_capacity(alloc, self.entries.len() + other.entries.len())?;
+        Ok(Summary {
+            totals,
+            entries: join_entries(self.entries, other.entries, room)?,
+        })
     }
 }

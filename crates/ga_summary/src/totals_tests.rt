@@ -7,8 +7,7 @@ ghost use Rattle.ga_summary.specs.Steps.Loads.{LoadWithin, TimeFits, load_of};
 
 use crate::PartRow;
 use crate::load::Load;
-use crate::order::same_panel;
-use ga_base::{BIG, LIMIT, Panel, Sums, Totals};
+use ga_base::{BIG, LIMIT, Sums, Totals};
 
 /// Whether counted, failed and excluded lines are all lines.
 fn lines_add(totals: Totals) -> bool
@@ -19,7 +18,7 @@ fn lines_add(totals: Totals) -> bool
 }
 
 /// Whether no counter of totals is above the limit.
-fn totals_fit(totals: Totals) -> bool
+pub fn totals_fit(totals: Totals) -> bool
     ensures { IsTrue result ↔ TotalsFit totals }
 {
     totals.lines <= LIMIT && totals.bytes <= LIMIT && totals.micros <= LIMIT
@@ -44,13 +43,13 @@ fn times_fit(rows: &[PartRow]) -> bool
     true
 }
 
-/// Whether the rows of VISITORS sum to at most this.
+/// Whether the rows of days sum to at most this.
 fn days_within(rows: &[PartRow], most: Load) -> bool
     ensures { IsTrue result ↔ LoadWithin (load_of (day_rows (rows_in rows.now))) most }
 {
     let mut sum = Load::NONE;
     for row in rows {
-        if same_panel(row.key.panel, Panel::Visitors) {
+        if row.key.is_day() {
             match sum.add(Load::of_sums(row.sums), most) {
                 Some(more) => sum = more,
                 None => return false,

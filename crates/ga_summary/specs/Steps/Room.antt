@@ -1,11 +1,12 @@
 -- What has to be there before entries are joined, so that nothing can fail: room for the names, and sums that fit.
-use Rattle.std.specs.Prelude.{◌≡◌, ℕ, ◌+◌, ◌<◌, ◌≤◌, ◌^◌, List, [], ◌∷◌, Option, None, length, slice_index_or, vec_capacity}
+use Rattle.std.specs.Prelude.{◌≡◌, ℕ, ◌+◌, ◌<◌, ◌≤◌, ◌^◌, List, [], ◌∷◌, Option, None, All, length, slice_index_or, vec_capacity}
 use Rattle.std.specs.List.{find}
 use Rattle.std.specs.List.Sorted.{IsStrictlySortedBy}
 use Rattle.std.specs.Option.{ForSome}
 use Rattle.std.specs.declared.boxed.Box.{Box}
 use Rattle.ga_base.specs.declared.key.Key.{Key}
 use Rattle.ga_base.specs.declared.counts.Sums.{Sums}
+use Rattle.ga_base.specs.declared.counts.TheConstants.{LIMIT}
 use Rattle.ga_summary.specs.declared.entry.Entry.{Entry}
 use Rattle.ga_base.specs.Orders.{is_same_key, name_cmp}
 use Rattle.ga_summary.specs.Steps.Entries.{IsClosed, entry_names}
@@ -15,6 +16,21 @@ pub record SumsFit (a b : Sums) : Type 0 where
   pub hits : a.hits + b.hits < 2 ^ 64
   pub bytes : a.bytes + b.bytes < 2 ^ 64
   pub micros : a.micros + b.micros < 2 ^ 64
+
+-- sums at most the limit
+pub record AreSmall (sums : Sums) : Type 0 where
+  pub hits : sums.hits ≤ LIMIT
+  pub bytes : sums.bytes ≤ LIMIT
+  pub micros : sums.micros ≤ LIMIT
+
+-- a closed entry whose names rise and whose sums are small, so that it can be joined to another of its key
+pub record CanGrow (entry : Entry) : Type 0 where
+  pub closed : IsClosed entry
+  pub rising : IsStrictlySortedBy name_cmp (entry_names entry)
+  pub small : AreSmall entry.sums
+
+abbrev pub AllCanGrow : {A : Type 0} → List (Box Entry A) → Type 0
+AllCanGrow entries = All (λ boxed. CanGrow boxed.value) entries
 
 -- an entry has room for its names and another's
 abbrev pub HasNameRoom : Entry → Entry → Type 0

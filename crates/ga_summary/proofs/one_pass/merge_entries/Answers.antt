@@ -30,7 +30,7 @@ entries-preserved-in-Less c =
       closed_right = inv.closed_right;
       opened = rw (← next.ensures.items) (open_rest a (into_iter_items c.entries.left) inv.rising_left (b ∷ into_iter_items c.entries.right) inv.opened);
       fits = subst (λ (ls : List (Box Entry Global)). AllHavePlace ls (b ∷ into_iter_items c.entries.right)) next.ensures.items (fits_less c.entries.out.items _ a b _ _ inv.rising_right inv.rest inv.fits less);
-      rest = rw (← next.ensures.items, pushed.items) (row_less c.entries.out.items _ a b _ _ inv.rising_right inv.rest inv.fits less);
+      rest = rw (← next.ensures.items, pushed.items) (row_less c.entries.out.items _ a b _ _ inv.rising_right inv.rest less);
     }
 
 pub joined_entry-requires : goal.joined_entry-requires
@@ -60,7 +60,7 @@ entries-preserved-in-Equal c =
       closed_right = rw (← right.ensures.items) (All-tail (λ (e : Box Entry Global). IsClosed e.value) b _ inv.closed_right);
       opened = rw (← left.ensures.items, ← right.ensures.items) (open_equal a b (into_iter_items c.entries.left) (into_iter_items c.entries.right) inv.opened inv.rising_left equal);
       fits = rw (← left.ensures.items, ← right.ensures.items) (fits_equal c.entries.out.items _ a b _ _ inv.rising_right inv.rest inv.fits equal);
-      rest = rw (← left.ensures.items, ← right.ensures.items, pushed.items) (row_equal c.entries.out.items _ a b _ _ inv.rising_right inv.rest inv.fits c.joined_entry.result c.joined_entry.ensures.row equal);
+      rest = rw (← left.ensures.items, ← right.ensures.items, pushed.items) (row_equal c.entries.out.items _ a b _ _ inv.rising_right inv.rest c.joined_entry.result c.joined_entry.ensures.row equal);
     }
 
 pub entries-preserved-in-Greater : goal.entries-preserved-in-Greater
@@ -81,7 +81,7 @@ entries-preserved-in-Greater c =
       closed_right = rw (← next.ensures.items) (All-tail (λ (e : Box Entry Global). IsClosed e.value) b _ inv.closed_right);
       opened = rw (← next.ensures.items) (open_greater a b (into_iter_items c.entries.left) (into_iter_items c.entries.right) inv.opened inv.rising_left greater);
       fits = rw (← next.ensures.items) inv.fits.1;
-      rest = rw (← next.ensures.items, pushed.items) (row_greater c.entries.out.items _ a b _ _ inv.rising_right inv.rest inv.fits greater);
+      rest = rw (← next.ensures.items, pushed.items) (row_greater c.entries.out.items _ a b _ _ inv.rising_right inv.rest greater);
     }
 
 pub entries-preserved-in-Some-None : goal.entries-preserved-in-Some-None
