@@ -13,6 +13,7 @@ use ga_store::{Db, Position};
 use ga_summary::Summary;
 use ga_words::Settings;
 use std::alloc::Global;
+use std::mem::replace;
 
 /// Where a database stands, and what a run counts on from: what is stored, where it restores, and else nothing.
 pub fn base_of(alloc: Global, settings: &Settings, stored: Db) -> (Position, Base)
@@ -56,8 +57,13 @@ fn follow(settings: &Settings) -> Follow
     }
 }
 
-/// Adds what a run counted to what it restored, where it restores. After an `Err` the base is as it was.
-pub fn add_run(settings: &Settings, base: &mut Base, run: &Summary) -> Result<(), NoMemory>
+/// Adds what a run counted to what it restored, where it restores. After an `Err` the base may have no summary.
+pub fn add_run(
+    alloc: Global,
+    settings: &Settings,
+    base: &mut Base,
+    run: &Summary,
+) -> Result<(), NoMemory>
     requires { passes (totals_plus base.old.summary.totals run.now.totals) ≡ None }
     ensures grown { OnOk result (GrowsBy settings.now.restore base.old.summary run.now base.new.summary) }
     ensures entries { base.new.entries ≡ base.old.entries }
@@ -65,8 +71,14 @@ pub fn add_run(settings: &Settings, base: &mut Base, run: &Summary) -> Result<()
     if !settings.restore {
         return Ok(());
     }
-    match base.summary.merge(run) {
-        Ok(()) => Ok(()),
+    let more = run.copy()?;
+    let none = Summary::empty(alloc);
+    let restored = replace(&mut base.summary, none);
+    match restored.join(more) {
+        Ok(grown) => {
+            base.summary = grown;
+            Ok(())
+        }
         Err(_) => Err(NoMemory),
     }
 }

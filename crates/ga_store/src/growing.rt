@@ -1,4 +1,4 @@
-ghost use Rattle.std.specs.Prelude.{◌≡◌, ◌↔◌, ◌<◌, None, IfOk, IfSome, IsTrue, OnErr, OnOk};
+ghost use Rattle.std.specs.Prelude.{◌≡◌, ◌↔◌, ◌<◌, None, IfOk, IfSome, IsTrue, OnOk};
 ghost use Rattle.ga_base.specs.Totals.{LinesAdd, TotalsFit, totals_plus};
 ghost use Rattle.ga_summary.specs.Limits.{passes};
 ghost use Rattle.ga_summary.specs.Steps.Joined.{merged_value};
@@ -10,10 +10,12 @@ ghost use Rattle.ga_store.specs.Store.{db_value};
 
 use crate::Db;
 use crate::found::RecordPart;
-use ga_base::{LIMIT, NoMemory, Totals};
+use ga_base::{NoMemory, Totals};
 use ga_summary::laws::one_merged;
-use ga_summary::{MergeFault, Summary};
+use ga_summary::{MergeFault, Summary, totals_fit};
+use std::alloc::Global;
 use std::marker::Model;
+use std::mem::replace;
 
 /// What is kept apart is merged into the summary once it has more rows than one of this many parts of the summary.
 const PARTS: u64 = 4;
@@ -21,6 +23,7 @@ const PARTS: u64 = 4;
 /// A database that takes on run records. What they add is merged together before it is merged into the summary.
 #[derive(Debug, Drop)]
 pub(crate) struct Growing {
+    alloc: Global,
     /// The database; its summary lacks what is kept apart.
     db: Db,
     /// What records added that isn't in the summary yet; None where nothing is.
@@ -43,10 +46,14 @@ impl Model for Growing {
 
 impl Growing {
     /// The database, before it takes on records.
-    pub(crate) fn of(db: Db) -> Growing
+    pub(crate) fn of(alloc: Global, db: Db) -> Growing
         ensures { result ≡ db_value db }
     {
-        Growing { db, apart: None }
+        Growing {
+            alloc,
+            db,
+            apart: None,
+        }
     }
 
     /// The place of the first gate after the records that were taken on.
@@ -76,10 +83,9 @@ impl Growing {
     pub(crate) fn into_db(self) -> Result<Db, NoMemory>
         ensures { IfOk result (λ db. db_value db ≡ self) }
     {
-        let Growing { db, apart } = self;
-        let mut db = db;
+        let Growing { mut db, apart, .. } = self;
         if let Some(apart) = apart {
-            merge_fitting(&mut db.summary, &apart)?;
+            db.summary = join_fitting(db.summary, apart)?;
         }
         Ok(db)
     }
@@ -137,7 +143,9 @@ impl Growing {
             return Ok(());
         }
         if let Some(apart) = self.apart.take() {
-            merge_fitting(&mut self.db.summary, &apart)?;
+            let none = Summary::empty(self.alloc);
+            let stored = replace(&mut self.db.summary, none);
+            self.db.summary = join_fitting(stored, apart)?;
         }
         Ok(())
     }
@@ -158,34 +166,22 @@ fn together(apart: Option<Summary>, more: Summary) -> Result<Summary, NoMemory>
 {
     match apart {
         None => Ok(more),
-        Some(apart) => {
-            let mut apart = apart;
-            merge_fitting(&mut apart, &more)?;
-            Ok(apart)
-        }
+        Some(apart) => join_fitting(apart, more),
     }
 }
 
-/// Whether no counter of totals is above the limit.
-fn totals_fit(totals: Totals) -> bool
-    ensures { IsTrue result ↔ TotalsFit totals }
-{
-    totals.lines <= LIMIT && totals.bytes <= LIMIT && totals.micros <= LIMIT
-}
-
-/// Adds a summary to one, where the totals of both fit. After an `Err` that one is as it was.
-fn merge_fitting(one: &mut Summary, more: &Summary) -> Result<(), NoMemory>
-    requires fit { TotalsFit (totals_plus one.old.totals more.now.totals) }
-    ensures merged { OnOk result (one.new ≡ merged_value one.old more.now) }
-    ensures ordered { IsInOrder one.old.rows × IsInOrder more.now.rows }
-    ensures unchanged { OnErr result (one.new ≡ one.old) }
+/// The summary of two, the totals of which fit together.
+fn join_fitting(one: Summary, more: Summary) -> Result<Summary, NoMemory>
+    requires fit { TotalsFit (totals_plus one.totals more.totals) }
+    ensures joined { IfOk result (λ both. both ≡ merged_value one more) }
+    ensures ordered { IsInOrder one.rows × IsInOrder more.rows }
 {
     // That two summaries come to one, and that both are in order, for the proof alone.
     one_merged();
     let _ = one.totals();
     let _ = more.totals();
-    match one.merge(more) {
-        Ok(()) => Ok(()),
+    match one.join(more) {
+        Ok(both) => Ok(both),
         Err(MergeFault::CounterFull { .. }) => unreachable!(),
         Err(MergeFault::NoMemory) => Err(NoMemory),
     }

@@ -31,7 +31,7 @@ pub(crate) fn read_on<H: Hands, D: Disk>(
     ensures { Streams (D.view disk.old) (D.view disk.new) (D.images disk.old) (D.images disk.new) stream.old stream.new
         (SaysOn stream.new number (of_snapshot number first.next (snapshot_value first.snapshot))) result }
 {
-    let mut growing = Growing::of(Db::of_first(number, first));
+    let mut growing = Growing::of(hands.alloc(), Db::of_first(number, first));
     while is_open(disk, stream)? {
         let slot = growing.slot();
         if !take_record(hands, disk, stream, &mut growing)? {
