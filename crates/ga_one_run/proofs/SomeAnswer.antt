@@ -5,6 +5,7 @@ use Rattle.ga_agents.specs.RulesFile.{IsAnswered}
 use Rattle.ga_agents.specs.declared.row.Rule.{Rule}
 use Rattle.ga_base.specs.declared.counts.Counter.{Counter}
 use Rattle.ga_base.specs.declared.counts.Totals.{Totals}
+use Rattle.ga_base.specs.declared.date_spec.DateSpec.{DateSpec}
 use Rattle.ga_base.specs.declared.entry.Entry.{Entry}
 use Rattle.ga_disk.specs.Sides.{Sides}
 use Rattle.ga_keep.specs.RunDatabase.{IsWhole, SidesHave, follow_of, lacks_generation, mode_of, start_of, uses_database}
@@ -42,7 +43,7 @@ pub record SomeLaws : Type 0 where
   pub count : (setup : Setup) (start : Totals) (all : List (List ℕ)) → ((sum : SummaryValue) → CountsLines setup start all sum → ⊥)
       → ((which : Counter) (total : ℕ) → FillsAmong setup start all which total → ⊥) → ⊥
   pub merged : (a b : SummaryValue) → IsInOrder a.rows → IsInOrder b.rows → (s : SummaryValue) × IsMerged a b s
-  pub report : (source : SourceValue) (set : List Bool) (most : ℕ) → (report : Report) × IsReport source set most report
+  pub report : (source : SourceValue) (set : List Bool) (most : ℕ) (spec : DateSpec) → (report : Report) × IsReport source set most spec report
 
 -- the names are told
 abbrev AreThere : FilesView → List (List ℕ) → Type 0
@@ -65,7 +66,7 @@ module _ (laws : SomeLaws) (s : Settings) (line : LineSetup) (files : FilesView)
 
     some-text : (whole : SummaryValue) → (text : List ℕ) × IsTextOf s whole text
     some-text whole =
-        let (report, is) = laws.report (source_value whole) s.panels s.max_items in
+        let (report, is) = laws.report (source_value whole) s.panels s.max_items s.date_spec in
         (shown s.generate s.output.kind report, record { report = report; is_report = is; written = refl })
 
     -- the generation is above the limit, or the run is done

@@ -22,10 +22,11 @@ abbrev pub shown : Option ℕ → Kind → Report → List ℕ
 shown None kind report = text_as kind report
 shown (Some lines) kind report = summary_text lines report.general (json_text report)
 
--- the text is the report on what is told, as the settings say: its panels, the length of its lists and what is printed of it
+-- the text is the report on what is told, as the settings say: its panels, the length of its lists, how finely it tells days, and what is
+-- printed of it
 pub record IsTextTold (s : Settings) (told : SourceValue) (text : List ℕ) : Type 0 where
   pub report : Report
-  pub is_report : IsReport told s.panels s.max_items report
+  pub is_report : IsReport told s.panels s.max_items s.date_spec report
   pub written : text ≡ shown s.generate s.output.kind report
 
 -- the text is the report on a summary

@@ -54,6 +54,8 @@ panels_of s rules = record {
   panels = s.panels;
   count_4xx = s.count_4xx;
   as_404 = s.as_404;
+  date_spec = s.date_spec;
+  hour_spec = s.hour_spec;
 }
 
 abbrev pub setup_of : LineSetup → Settings → List Rule → Setup

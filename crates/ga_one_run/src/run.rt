@@ -347,7 +347,7 @@ fn sum_run(
 {
     summary_is_sound(&base.summary);
     let run = total.summary(alloc)?;
-    add_run(settings, base, &run)?;
+    add_run(alloc, settings, base, &run)?;
     Ok(run)
 }
 
@@ -470,7 +470,8 @@ fn text_of<R: Threads + Sync, T: RowSource + Sync>(
     ensures { IfOk result (λ text. IsTextTold settings.now (T.view told.now) text) }
 {
     let jobs = workers_of(settings).jobs;
-    let report = rows_from(rt, alloc, told, &settings.panels, settings.max_items, jobs)?;
+    let (panels, max_items) = (&settings.panels, settings.max_items);
+    let report = rows_from(rt, alloc, told, panels, max_items, settings.date_spec, jobs)?;
     match settings.generate {
         None => report_text(rt, alloc, settings.output.kind, &report, jobs),
         Some(lines) => generated_text(rt, alloc, lines, &report, jobs),

@@ -71,6 +71,8 @@ pub fn panel_setup(alloc: Global, settings: &Settings, rules: Rules) -> Result<P
         panels: settings.panels,
         count_4xx: settings.count_4xx,
         as_404: settings.as_404,
+        date_spec: settings.date_spec,
+        hour_spec: settings.hour_spec,
     })
 }
 

@@ -1,34 +1,61 @@
 -- A report on a source is one on the same rows in another order.
-use Rattle.std.proofs.Common.{◌≡◌, ℕ, ◌&&◌, Bool, cond, List, [], ◌∷◌, sum_by, sym, ap, ◌∙◌, subst}
+use Rattle.std.proofs.Common.{◌≡◌, ℕ, ◌&&◌, Bool, cond, List, [], ◌∷◌, sum_by, true, false, refl, sym, ap, ◌∙◌, subst}
 use Rattle.std.specs.List.Sorted.{IsPermutation}
 use Rattle.std.proofs.lemmas.List.Elements.{All-from_recursion, recursion_from_All}
 use Rattle.std.proofs.lemmas.List.Sorted.{sum_by-IsPermutation, list_any-IsPermutation}
+use Rattle.ga_base.specs.declared.date_spec.DateSpec.{DateSpec}
+use Rattle.ga_base.specs.declared.date_spec.DateSpec.TheVariants as D
 use Rattle.ga_base.specs.declared.key.Key.{Key}
 use Rattle.ga_base.specs.declared.panel.Panel.{Panel}
-use Rattle.ga_base.specs.declared.panel.Panel.TheVariants.{Visitors}
-use Rattle.ga_base.specs.Panels.{is_same_panel}
+use Rattle.ga_base.specs.Layers.{is_day}
 use Rattle.ga_report.specs.declared.report.General.{General}
 use Rattle.ga_report.specs.declared.report.PanelList.{PanelList}
 use Rattle.ga_report.specs.declared.report.Report.{Report}
 use Rattle.ga_report.specs.declared.report.Row.{Row}
 use Rattle.ga_report.specs.Source.{SameSource, SourceRow, SourceValue}
-use Rattle.ga_report.specs.Items.{AreItems, is_child, is_of, is_row, item_of}
+use Rattle.ga_report.specs.Items.{AreItems, has_item, is_child, is_of, is_row, is_shown, item_of, shown_rows, together, undated}
 use Rattle.ga_report.specs.Reports.{IsPanelList, IsReport, IsRow, Pairwise, general_of, panels_of}
 use Rattle.ga_report.specs.SoundRows.{day_rows}
+use Rattle.ga_report.proofs.Alone.{all-there, has-there, none-there}
 use Rattle.ga_report.proofs.ItemSums.{item-moved}
 use Rattle.ga_report.proofs.Lists.{all-weaker, sum_by-filter}
 
 module _ (xs ys : List SourceRow) (moved : IsPermutation xs ys) where
   days-moved : (f : SourceRow → ℕ) → sum_by f (day_rows ys) ≡ sum_by f (day_rows xs)
   days-moved f =
-      let is-day = λ (row : SourceRow). is_same_panel row.key.panel Visitors in
+      let is-day = λ (row : SourceRow). is_day row.key in
       sum_by-filter f is-day ys ∙ sum_by-IsPermutation (λ x. cond (is-day x) (f x) 0) xs ys moved ∙ sym (sum_by-filter f is-day xs)
 
+-- rows that pass by their keys without the day are the same of each item, in any order
+module _ (spec : DateSpec) (xs ys : List SourceRow) (moved : IsPermutation xs ys) where
+  undates : (key : Key) → is_shown spec (undated key) ≡ is_shown spec key
+  undates key = by-spec spec
+    where
+      by-spec : (s : DateSpec) → is_shown s (undated key) ≡ is_shown s key
+      by-spec D.Date = refl
+      by-spec D.Hour = refl
+      by-spec D.Minute = refl
+
+  has-shown : (key : Key) → has_item key (shown_rows spec xs) ≡ has_item key (shown_rows spec ys)
+  has-shown key =
+      let shown = is_shown spec key in
+      has-there (is_shown spec) undates xs key shown refl ∙ ap (λ (b : Bool). shown && b) (list_any-IsPermutation (is_of key) xs ys moved) ∙ sym (has-there (is_shown spec) undates ys key shown refl)
+
+  item-shown : (key : Key) → item_of key (shown_rows spec ys) ≡ item_of key (shown_rows spec xs)
+  item-shown key = go (is_shown spec key) refl
+    where
+      go : (b : Bool) → is_shown spec key ≡ b → item_of key (shown_rows spec ys) ≡ item_of key (shown_rows spec xs)
+      go true e =
+          ap (together key) (all-there (is_shown spec) undates ys key e ys) ∙ item-moved key xs ys moved ∙ sym (ap (together key) (all-there (is_shown spec) undates xs key e xs))
+      go false e =
+          ap (together key) (none-there (is_shown spec) undates ys key e ys) ∙ sym (ap (together key) (none-there (is_shown spec) undates xs key e xs))
+
+module _ (xs ys : List SourceRow) (has : (key : Key) → has_item key xs ≡ has_item key ys) (own : (key : Key) → item_of key ys ≡ item_of key xs) where
   items-moved : (panel : Panel) (shown : Key → Bool) (items : List SourceRow) → AreItems panel shown xs items → AreItems panel shown ys items
   items-moved panel shown items are = record {
-    once = λ key. are.once key ∙ ap (λ (b : Bool). cond (shown key && b) 1 0) (list_any-IsPermutation (is_of key) xs ys moved);
+    once = λ key. are.once key ∙ ap {B = ℕ} (λ (b : Bool). cond (shown key && b) 1 0) (has key);
     sums = All-from_recursion (λ item. item ≡ item_of item.key ys) items
-        (all-weaker (λ item. item ≡ item_of item.key xs) (λ item. item ≡ item_of item.key ys) (λ item own. own ∙ sym (item-moved item.key xs ys moved)) items (recursion_from_All _ items are.sums));
+        (all-weaker (λ item. item ≡ item_of item.key xs) (λ item. item ≡ item_of item.key ys) (λ item sums. sums ∙ sym (own item.key)) items (recursion_from_All _ items are.sums));
     ordered = are.ordered;
   }
 
@@ -63,8 +90,8 @@ module _ (xs ys : List SourceRow) (moved : IsPermutation xs ys) where
         lists-moved general most panels lists pairs.1,
       )
 
-pub report-alike : (a b : SourceValue) (set : List Bool) (most : ℕ) (report : Report) → SameSource a b → IsReport a set most report → IsReport b set most report
-report-alike a b set most report alike is =
+pub report-alike : (a b : SourceValue) (set : List Bool) (most : ℕ) (spec : DateSpec) (report : Report) → SameSource a b → IsReport a set most spec report → IsReport b set most spec report
+report-alike a b set most spec report alike is =
     let h = days-moved a.rows b.rows alike.rows (λ row. row.sums.hits) in
     let v = days-moved a.rows b.rows alike.rows (λ row. row.visitors) in
     let w = days-moved a.rows b.rows alike.rows (λ row. row.sums.bytes) in
@@ -78,6 +105,6 @@ report-alike a b set most report alike is =
     } in
     record {
       general = is.general ∙ general;
-      panels = lists-moved a.rows b.rows alike.rows (general_of b) most (panels_of set) report.panels
-          (subst (λ (g : General). Pairwise (IsPanelList g most a.rows) (panels_of set) report.panels) general is.panels);
+      panels = lists-moved (shown_rows spec a.rows) (shown_rows spec b.rows) (has-shown spec a.rows b.rows alike.rows) (item-shown spec a.rows b.rows alike.rows) (general_of b) most (panels_of set) report.panels
+          (subst (λ (g : General). Pairwise (IsPanelList g most (shown_rows spec a.rows)) (panels_of set) report.panels) general is.panels);
     }

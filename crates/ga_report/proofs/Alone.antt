@@ -9,10 +9,11 @@ use Rattle.std.proofs.lemmas.List.Elements.{All-append, All-from_recursion, recu
 use Rattle.std.proofs.lemmas.List.Sums.{sum_by-append, sum_by-cons}
 use Rattle.std.proofs.lemmas.Map.Views.{any-filter_same}
 use Rattle.std.proofs.lemmas.Nat.{and_le_r}
+use Rattle.ga_base.specs.declared.date_spec.DateSpec.{DateSpec}
 use Rattle.ga_base.specs.declared.key.Key.{Key}
 use Rattle.ga_base.specs.declared.panel.Panel.{Panel}
 use Rattle.ga_base.specs.Panels.{is_same_panel}
-use Rattle.ga_report.specs.Items.{has_item, is_of, item_of, of_item, together, undated}
+use Rattle.ga_report.specs.Items.{has_item, is_of, is_shown, item_of, of_item, shown_rows, together, undated}
 use Rattle.ga_report.specs.SoundRows.{AreSound}
 use Rattle.ga_report.specs.declared.row_index.RowIndex.{RowIndex}
 use Rattle.ga_report.specs.Steps.Alone.{IsAlonePartition, AreBuckets, IsPartition, is_alone, bucket_at}
@@ -20,7 +21,7 @@ use Rattle.ga_report.specs.Steps.RowPlaces.{AreAt, AreIndexes, label_hash, rows_
 use Rattle.ga_report.specs.Steps.Summed.{AreAddable, AreSummed, CanAddUp, FitTogether, panel_rows, undate, with_row}
 use Rattle.ga_report.specs.Source.{SourceRow}
 use Rattle.ga_report.proofs.ItemSums.{count-cons, onto-nothing, own-item, same-item, together-cons}
-use Rattle.ga_report.proofs.Lists.{In, all-in, at-all, all-weaker, in-filter, sum-room, sum_by-filter, take-more}
+use Rattle.ga_report.proofs.Lists.{In, all-in, at-all, all-weaker, in-filter, sum-among, sum-room, take-more}
 use Rattle.ga_shards.specs.Keys.{text_hash}
 use Rattle.ga_report.proofs.OneArrangement.{in-count}
 use Rattle.ga_report.proofs.RowsAdded.{counted, not-counted, summed-behind}
@@ -38,10 +39,10 @@ module _ (P : Key → Bool) (undates : (key : Key) → P (undated key) ≡ P key
   with-key : (key : Key) (x : SourceRow) → is_of key x ≡ true → P x.key ≡ P key
   with-key key x e = sym (undates x.key) ∙ ap P (same-item key x e) ∙ undates key
 
-  has-there : (key : Key) (b : Bool) → P key ≡ b → has_item key (those P rows) ≡ (b && has_item key rows)
+  pub has-there : (key : Key) (b : Bool) → P key ≡ b → has_item key (those P rows) ≡ (b && has_item key rows)
   has-there key b e = any-filter_same (is_of key) (λ row. P row.key) b (λ x own. with-key key x own ∙ e) rows
 
-  all-there : (key : Key) → P key ≡ true → (xs : List SourceRow) → of_item key (those P xs) ≡ of_item key xs
+  pub all-there : (key : Key) → P key ≡ true → (xs : List SourceRow) → of_item key (those P xs) ≡ of_item key xs
   all-there key e [] = refl
   all-there key e (x ∷ xs) = elim (is_of key x) as (λ b. is_of key x ≡ b → of_item key (those P (x ∷ xs)) ≡ cond b (x ∷ of_item key xs) (of_item key xs)) [
     | true ↦ λ own. rw (with-key key x own ∙ e, own) (ap (λ (r : List SourceRow). x ∷ r) (all-there key e xs))
@@ -51,6 +52,17 @@ module _ (P : Key → Bool) (undates : (key : Key) → P (undated key) ≡ P key
       passed : (b : Bool) → is_of key x ≡ false → of_item key (those P xs) ≡ of_item key xs → of_item key (cond b (x ∷ those P xs) (those P xs)) ≡ of_item key xs
       passed true other rest = rw other rest
       passed false other rest = rest
+
+  pub none-there : (key : Key) → P key ≡ false → (xs : List SourceRow) → of_item key (those P xs) ≡ []
+  none-there key e [] = refl
+  none-there key e (x ∷ xs) = elim (P x.key) as (λ b. P x.key ≡ b → of_item key (cond b (x ∷ those P xs) (those P xs)) ≡ []) [
+    | true ↦ λ pass. other pass (is_of key x) refl (none-there key e xs)
+    | false ↦ λ fail. none-there key e xs
+  ] refl
+    where
+      other : P x.key ≡ true → (b : Bool) → is_of key x ≡ b → of_item key (those P xs) ≡ [] → cond b (x ∷ of_item key (those P xs)) (of_item key (those P xs)) ≡ []
+      other pass true own rest = absurd (false≢true (sym e ∙ sym (with-key key x own) ∙ pass))
+      other pass false own rest = rest
 
   passes : (b : Bool) (n : ℕ) → n ≡ cond b 1 0 → 1 ≤ n → b ≡ true
   passes true n e some = refl
@@ -200,20 +212,6 @@ summed-halves rows those passes some others items more all partition are are' e 
 
 -- ---- rows of an item fit together
 
--- fewer rows sum to less
-sum-among : (f : SourceRow → ℕ) (p t : SourceRow → Bool) (xs : List SourceRow) → sum_by f (filter p (filter t xs)) ≤ sum_by f (filter p xs)
-sum-among f p t xs = omega (arith, sum_by-filter f p (filter t xs), sum_by-filter f p xs, within xs)
-  where
-    w : SourceRow → ℕ
-    w x = cond (p x) (f x) 0
-
-    within : (ys : List SourceRow) → sum_by w (filter t ys) ≤ sum_by w ys
-    within [] = omega arith
-    within (y ∷ ys) = elim (t y) as (λ b. sum_by w (cond b (y ∷ filter t ys) (filter t ys)) ≤ sum_by w (y ∷ ys)) [
-      | true ↦ omega (arith, sum_by-cons w y (filter t ys), sum_by-cons w y ys, within ys)
-      | false ↦ omega (arith, sum_by-cons w y ys, within ys)
-    ]
-
 addable-among : (t : SourceRow → Bool) (rows : List SourceRow) → AreAddable rows → AreAddable (filter t rows)
 addable-among t rows fit key =
     let all = fit key in
@@ -239,9 +237,10 @@ can-add-some rows those passes some others partition fit = can-add-part rows tho
 pub can-add-others : (rows those : List SourceRow) (passes : ℕ → Bool) (some others : List RowIndex) → IsPartition rows passes those some others → AreAddable those → CanAddUp rows others
 can-add-others rows those passes some others partition fit = can-add-part rows those (λ row. not (passes (label_hash row))) others partition.failing fit
 
--- those of a panel can be added
-pub addable-panel : (panel : Panel) (rows : List SourceRow) → AreSound rows → AreAddable (panel_rows panel rows)
-addable-panel panel rows sound = addable-among (λ row. is_same_panel row.key.panel panel) rows (item-fits rows sound)
+-- those of a panel that are shown can be added
+pub addable-shown : (panel : Panel) (spec : DateSpec) (rows : List SourceRow) → AreSound rows → AreAddable (panel_rows panel (shown_rows spec rows))
+addable-shown panel spec rows sound =
+    addable-among (λ row. is_same_panel row.key.panel panel) (shown_rows spec rows) (addable-among (λ row. is_shown spec row.key) rows (item-fits rows sound))
 
 module _ (those items : List SourceRow) (n : ℕ) (row : SourceRow) (at : slice_get those n ≡ Some row) (are : AreSummed (take n those) items) where
   -- a row and its item fit together
@@ -269,18 +268,17 @@ module _ (those items : List SourceRow) (n : ℕ) (row : SourceRow) (at : slice_
       subst (λ (xs : List SourceRow). AreSummed xs items') (sym (take-more n those row at))
       (subst (λ (xs : List SourceRow). AreSummed (take n those ++ row ∷ []) xs) (sym e) (summed-behind (take n those) row items are))
 
--- all rows of a panel can be added up by their row indexes
-pub can-add-panel : (panel : Panel) (rows : List SourceRow) (places : List ℕ) → AreSound rows → AreAt rows places (panel_rows panel rows) → CanAddUp rows (filter_map (index_at rows) places)
-can-add-panel panel rows places sound at =
+-- rows that can be added can be added up by their row indexes
+pub can-add-at : (rows some : List SourceRow) (places : List ℕ) → AreAddable some → AreAt rows places some → CanAddUp rows (filter_map (index_at rows) places)
+can-add-at rows some places fit at =
     let indexes = filter_map (index_at rows) places in
-    let are = are-indexes rows places (panel_rows panel rows) at in
-    let same = sym (indexes-rows rows indexes (panel_rows panel rows) are) in
+    let are = are-indexes rows places some at in
+    let same = sym (indexes-rows rows indexes some are) in
     record {
-      there = subst (λ (those : List SourceRow). AreIndexes rows indexes those) same are;
-      fit = subst AreAddable same (addable-panel panel rows sound);
+      there = subst (λ (xs : List SourceRow). AreIndexes rows indexes xs) same are;
+      fit = subst AreAddable same fit;
     }
 
-pub summed-panel : (panel : Panel) (rows : List SourceRow) (places : List ℕ) (items : List SourceRow) → AreAt rows places (panel_rows panel rows) → AreSummed (rows_at rows (filter_map (index_at rows) places)) items
-    → AreSummed (panel_rows panel rows) items
-summed-panel panel rows places items at summed =
-    subst (λ (those : List SourceRow). AreSummed those items) (indexes-rows rows (filter_map (index_at rows) places) (panel_rows panel rows) (are-indexes rows places (panel_rows panel rows) at)) summed
+pub summed-at : (rows some : List SourceRow) (places : List ℕ) (items : List SourceRow) → AreAt rows places some → AreSummed (rows_at rows (filter_map (index_at rows) places)) items → AreSummed some items
+summed-at rows some places items at summed =
+    subst (λ (xs : List SourceRow). AreSummed xs items) (indexes-rows rows (filter_map (index_at rows) places) some (are-indexes rows places some at)) summed

@@ -93,6 +93,20 @@ sum_by-filter {X} f test (x ∷ xs) = sym (sum_by-cons (λ y. cond (test y) (f y
     split true e = rw (sum_by-cons f x (filter test xs), e)
     split false e = rw e (zero-add _)
 
+-- fewer elements sum to less
+pub sum-among : {X : Type 0} (f : X → ℕ) (p t : X → Bool) (xs : List X) → sum_by f (filter p (filter t xs)) ≤ sum_by f (filter p xs)
+sum-among {X} f p t xs = omega (arith, sum_by-filter f p (filter t xs), sum_by-filter f p xs, within xs)
+  where
+    w : X → ℕ
+    w x = cond (p x) (f x) 0
+
+    within : (ys : List X) → sum_by w (filter t ys) ≤ sum_by w ys
+    within [] = omega arith
+    within (y ∷ ys) = elim (t y) as (λ b. sum_by w (cond b (y ∷ filter t ys) (filter t ys)) ≤ sum_by w (y ∷ ys)) [
+      | true ↦ omega (arith, sum_by-cons w y (filter t ys), sum_by-cons w y ys, within ys)
+      | false ↦ omega (arith, sum_by-cons w y ys, within ys)
+    ]
+
 -- a list that rises by a key, and the list of its keys
 pub strict-map : {X Y : Type 0} (f : X → Y) (R : Y → Y → Ordering) (xs : List X) → IsStrictlySortedBy (λ a b. R (f a) (f b)) xs → IsStrictlySortedBy R (map f xs)
 unfolding IsStrictlySortedBy

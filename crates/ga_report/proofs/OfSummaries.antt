@@ -1,5 +1,5 @@
 -- What a summary has is sound.
-use Rattle.std.proofs.Common.{◌≡◌, ℕ, suc, ◌+◌, ◌≤◌, ◌==◌, ◌&&◌, ◌||◌, Bool, true, false, cond, List, [], ◌∷◌, Option, Some, Less, Equal, Greater, length, filter, map, sum_by, refl, ap, sym, ◌∙◌, subst, arith, eq-eqb, All}
+use Rattle.std.proofs.Common.{◌≡◌, ℕ, suc, ◌+◌, ◌≤◌, ◌==◌, ◌&&◌, ◌||◌, Bool, true, false, cond, List, [], ◌∷◌, Option, Some, Less, Equal, Greater, length, filter, map, sum_by, refl, ap, sym, ◌∙◌, subst, inl, inr, arith, eq-eqb, All}
 use Rattle.std.specs.declared.cmp.Ordering.{Ordering}
 use Rattle.std.specs.Ordering.{is_eq, ordering_reverse}
 use Rattle.std.specs.Option.{is_some, option_map_or}
@@ -17,7 +17,8 @@ use Rattle.ga_base.specs.declared.key.Visitor.{Visitor}
 use Rattle.ga_base.specs.declared.name.Name.{Name}
 use Rattle.ga_base.specs.declared.panel.Panel.{Panel}
 use Rattle.ga_base.specs.declared.panel.Panel.TheVariants.{Visitors}
-use Rattle.ga_base.specs.Layers.{Layer, in_layer, day_key}
+use Rattle.ga_base.specs.Days.{eight_digits}
+use Rattle.ga_base.specs.Layers.{IsDayOrPart, Layer, day_key, in_layer, is_day, is_empty}
 use Rattle.ga_base.specs.Orders.{key_cmp, is_same_key, is_same_name, name_cmp}
 use Rattle.ga_base.specs.Panels.{is_same_panel, panel_number}
 use Rattle.ga_base.proofs.OrderLemmas.{key_cmp_total, key_cmp_exact, name_cmp_total, name_cmp_exact, panel_number_exact}
@@ -84,8 +85,24 @@ or-true : (b : Bool) {c : Bool} → c ≡ true → (b || c) ≡ true
 or-true true e = refl
 or-true false e = e
 
+both-true : (a b : Bool) → (a && b) ≡ true → (a ≡ true) × (b ≡ true)
+both-true true b e = (refl, e)
+both-true false b e = cc
+
+empty-is : (text : List ℕ) → is_empty text ≡ true → text ≡ []
+empty-is [] e = refl
+empty-is (b ∷ text) e = cc
+
+-- a key without a parent that is a day's or a part's is a day's
+day-label : {date : ℕ} {parent label : List ℕ} → IsDayOrPart date parent label → parent ≡ [] → label ≡ eight_digits date
+day-label (inl day) none = day.1
+day-label (inr part) none = let clash : [] ≡ eight_digits _ = sym none ∙ part.0 in cc
+
+day-is-day : (date : ℕ) → is_day (day_key date) ≡ true
+day-is-day date = rw (same_panel-itself Visitors) refl
+
 abbrev is-day : SummaryRow → Bool
-is-day row = is_same_panel row.key.panel Visitors
+is-day row = is_day row.key
 
 -- a day whose key is there is among the days' rows
 day-there : (date : ℕ) (rows : List SummaryRow) → is_some (row_at rows (day_key date)) ≡ true → list_any (λ day. date == day.key.date) (filter is-day rows) ≡ true
@@ -93,10 +110,10 @@ day-there date [] e = e
 day-there date (x ∷ xs) e = elim (is_same_key (day_key date) x.key) as (λ v. is_same_key (day_key date) x.key ≡ v → is_some (cond v (Some x) (row_at xs (day_key date))) ≡ true → list_any (λ day. date == day.key.date) (filter is-day (x ∷ xs)) ≡ true) [
   | true ↦ λ same here.
       let is : day_key date ≡ x.key = key_cmp_exact (day_key date) x.key (equal-by _ same) in
-      let panel : is_same_panel x.key.panel Visitors ≡ true = subst (λ (k : Key). is_same_panel k.panel Visitors ≡ true) is (same_panel-itself Visitors) in
+      let panel : is_day x.key ≡ true = subst (λ (k : Key). is_day k ≡ true) is (day-is-day date) in
       let of : (date == x.key.date) ≡ true = subst (λ (k : Key). (date == k.date) ≡ true) is (eq-eqb date date refl) in
       rw (panel, of) refl
-  | false ↦ λ other there. elim (is_same_panel x.key.panel Visitors) as (λ v. list_any (λ day. date == day.key.date) (cond v (x ∷ filter is-day xs) (filter is-day xs)) ≡ true) [
+  | false ↦ λ other there. elim (is_day x.key) as (λ v. list_any (λ day. date == day.key.date) (cond v (x ∷ filter is-day xs) (filter is-day xs)) ≡ true) [
     | true ↦ or-true (date == x.key.date) (day-there date xs there)
     | false ↦ day-there date xs there
   ]
@@ -175,15 +192,17 @@ module _ (s : SummaryValue) (is : IsSummary s) where
   -- a day's row has the day's key
   day-is : (day : SummaryRow) → is-day day ≡ true → row_at s.rows day.key ≡ Some day → day.key ≡ day_key day.key.date
   day-is day panel at =
-      let visitors : day.key.panel ≡ Visitors = same_panel-exact day.key.panel Visitors panel in
+      let parts = both-true (is_same_panel day.key.panel Visitors) (is_empty day.key.parent) panel in
+      let visitors : day.key.panel ≡ Visitors = same_panel-exact day.key.panel Visitors parts.0 in
       let form = is.sound.rows.form day.key (rw at refl) in
       let request = form.request (rw visitors refl) in
-      same_key day.key (day_key day.key.date) visitors refl (form.parent.1 (rw visitors refl)) (form.label visitors) request.0 request.1
+      let none : day.key.parent ≡ [] = empty-is day.key.parent parts.1 in
+      same_key day.key (day_key day.key.date) visitors refl none (day-label (form.visit visitors) none) request.0 request.1
 
   -- each day's row, and what holds of it in the source
   days-all : (Q : SourceRow → Type 0) → ((day : SummaryRow) → day.key ≡ day_key day.key.date → row_at s.rows day.key ≡ Some day → Q (source_row day)) → All Q (day_rows (map source_row s.rows))
   days-all Q h =
-      subst (λ (xs : List SourceRow). All Q xs) (sym (filter-source (λ row. is_same_panel row.key.panel Visitors) s.rows))
+      subst (λ (xs : List SourceRow). All Q xs) (sym (filter-source (λ row. is_day row.key) s.rows))
       (All-from_recursion Q (map source_row (filter is-day s.rows)) (all-map source_row Q (filter is-day s.rows)
       (all-filter (λ row. row_at s.rows row.key ≡ Some row) (λ row. Q (source_row row)) is-day (λ day panel at. h day (day-is day panel at) at) s.rows found)))
 
@@ -192,7 +211,7 @@ module _ (s : SummaryValue) (is : IsSummary s) where
 
   dated : (row : SummaryRow) → row_at s.rows row.key ≡ Some row → HasDay (day_rows (map source_row s.rows)) (source_row row)
   dated row at =
-      ap (λ (xs : List SourceRow). list_any (λ day. row.key.date == day.key.date) xs) (filter-source (λ r. is_same_panel r.key.panel Visitors) s.rows)
+      ap (λ (xs : List SourceRow). list_any (λ day. row.key.date == day.key.date) xs) (filter-source (λ r. is_day r.key) s.rows)
       ∙ any-source (λ day. row.key.date == day.key.date) (filter is-day s.rows) ∙ day-there row.key.date s.rows (is.sound.rows.day row.key (rw at refl))
 
   day-sums : (day : SummaryRow) → day.key ≡ day_key day.key.date → row_at s.rows day.key ≡ Some day → sums_at s.rows (day_key day.key.date) ≡ day.sums
@@ -246,7 +265,7 @@ module _ (s : SummaryValue) (is : IsSummary s) where
 
   fit : SumsFit (day_rows (map source_row s.rows))
   fit =
-      let test = λ (row : SourceRow). is_same_panel row.key.panel Visitors in
+      let test = λ (row : SourceRow). is_day row.key in
       record {
         hits = omega (arith, sum-filter-source (λ row. row.sums.hits) test s.rows, is.sound.totals.days.hits, is.sound.totals.lines, is.sound.totals.fit.lines);
         visitors = omega (arith, sum-filter-source (λ row. row.visitors) test s.rows, fewer s.rows visits, is.sound.totals.days.hits, is.sound.totals.lines, is.sound.totals.fit.lines);

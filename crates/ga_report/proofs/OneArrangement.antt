@@ -6,6 +6,7 @@ use Rattle.std.specs.Ordering.{is_lt, is_eq, ordering_reverse}
 use Rattle.std.specs.List.Sorted.{IsSorted, IsStrictlySortedBy}
 use Rattle.std.proofs.lemmas.Bool.{false≢true}
 use Rattle.std.proofs.lemmas.List.Elements.{recursion_from_All}
+use Rattle.ga_base.specs.declared.date_spec.DateSpec.{DateSpec}
 use Rattle.ga_base.specs.declared.key.Key.{Key}
 use Rattle.ga_base.specs.declared.panel.Panel.{Panel}
 use Rattle.ga_report.specs.declared.report.General.{General}
@@ -14,7 +15,7 @@ use Rattle.ga_report.specs.declared.report.PanelList.{PanelList}
 use Rattle.ga_report.specs.declared.report.Report.{Report}
 use Rattle.ga_report.specs.declared.report.Row.{Row}
 use Rattle.ga_report.specs.Source.{SourceRow, SourceValue}
-use Rattle.ga_report.specs.Items.{is_of, has_item, item_of, order, AreItems}
+use Rattle.ga_report.specs.Items.{is_of, has_item, item_of, order, shown_rows, AreItems}
 use Rattle.ga_report.specs.Reports.{AreChildren, IsRow, IsPanelList, IsReport, Pairwise, general_of, panels_of, shown_as}
 use Rattle.ga_report.proofs.Arrangement.{order_total, order-exact, count-pass, count-fail}
 use Rattle.ga_report.proofs.ItemSums.{same-item, own-item}
@@ -125,8 +126,9 @@ module _ (general : General) (most : ℕ) (rows : List SourceRow) where
       (subst (λ (es : List SourceRow). Pairwise (IsRow general most rows) (take most es) a.rows) same x.shown) y.shown in
       λ i. record { panel = panels i; rows = lists i }
 
-pub one-report : (source : SourceValue) (set : List Bool) (most : ℕ) (a b : Report) → IsReport source set most a → IsReport source set most b → a ≡ b
-one-report source set most a b x y =
+pub one-report : (source : SourceValue) (set : List Bool) (most : ℕ) (spec : DateSpec) (a b : Report) → IsReport source set most spec a → IsReport source set most spec b → a ≡ b
+one-report source set most spec a b x y =
     let generals = x.general ∙ sym y.general in
-    let lists = pairwise-one (IsPanelList (general_of source) most source.rows) (one-panel (general_of source) most source.rows) (panels_of set) a.panels b.panels x.panels y.panels in
+    let rows = shown_rows spec source.rows in
+    let lists = pairwise-one (IsPanelList (general_of source) most rows) (one-panel (general_of source) most rows) (panels_of set) a.panels b.panels x.panels y.panels in
     λ i. record { general = generals i; panels = lists i }

@@ -117,8 +117,8 @@ pairs-both R (x ∷ xs) us [] vs pairs more = absurd pairs
 pairs-both R (x ∷ xs) us (y ∷ ys) vs pairs more = (pairs.0, pairs-both R xs us ys vs pairs.1 more)
 
 -- the lists of a report are those of the panels of the set
-pub lists-of : (source : SourceValue) (set : List Bool) (most : ℕ) (general : General) (panels : List Panel) (lists : List PanelList) → general ≡ general_of source → panels ≡ panels_of set
-    → Pairwise (IsPanelList general most source.rows) panels lists → Pairwise (IsPanelList (general_of source) most source.rows) (panels_of set) lists
-lists-of source set most general panels lists e f pairs =
-    subst (λ (ps : List Panel). Pairwise (IsPanelList (general_of source) most source.rows) ps lists) f
-    (subst (λ (v : General). Pairwise (IsPanelList v most source.rows) panels lists) e pairs)
+pub lists-of : (source : SourceValue) (rows : List SourceRow) (set : List Bool) (most : ℕ) (general : General) (panels : List Panel) (lists : List PanelList) → general ≡ general_of source → panels ≡ panels_of set
+    → Pairwise (IsPanelList general most rows) panels lists → Pairwise (IsPanelList (general_of source) most rows) (panels_of set) lists
+lists-of source rows set most general panels lists e f pairs =
+    subst (λ (ps : List Panel). Pairwise (IsPanelList (general_of source) most rows) ps lists) f
+    (subst (λ (v : General). Pairwise (IsPanelList v most rows) panels lists) e pairs)

@@ -4,11 +4,12 @@ use Rattle.std.specs.Prelude.{count_by}
 use Rattle.std.specs.List.{list_any}
 use Rattle.std.proofs.lemmas.Bool.{false≢true}
 use Rattle.std.proofs.lemmas.List.Elements.{All-from_recursion, recursion_from_All}
+use Rattle.ga_base.specs.declared.date_spec.DateSpec.{DateSpec}
 use Rattle.ga_base.specs.declared.key.Key.{Key}
 use Rattle.ga_base.specs.declared.panel.Panel.{Panel}
 use Rattle.ga_base.specs.Panels.{is_same_panel}
 use Rattle.ga_report.specs.Source.{SourceRow, SourceValue}
-use Rattle.ga_report.specs.Items.{has_item, is_of, item_of}
+use Rattle.ga_report.specs.Items.{has_item, is_of, is_shown, item_of, shown_rows}
 use Rattle.ga_report.specs.Reports.{general_of}
 use Rattle.ga_report.specs.SoundRows.{AreSound}
 use Rattle.ga_report.specs.Steps.Summed.{AreSummed, IsPart, panel_rows, undate}
@@ -39,9 +40,11 @@ are-of-panel panel rows items are = All-from_recursion (λ item. item.key.panel 
         let of = in-filter (λ (r : SourceRow). is_same_panel r.key.panel panel) row.0 rows row.1 in
         sym (ap (λ (k : Key). k.panel) (same-item x.key row.0 row.2)) ∙ exact-panel row.0.key.panel panel of.0
 
-pub are-parts : (source : SourceValue) (panel : Panel) (items : List SourceRow) → AreSound source.rows → AreSummed (panel_rows panel source.rows) items → All (IsPart (general_of source)) items
-are-parts source panel items sound are =
+pub are-parts : (source : SourceValue) (panel : Panel) (spec : DateSpec) (items : List SourceRow) → AreSound source.rows → AreSummed (panel_rows panel (shown_rows spec source.rows)) items
+    → All (IsPart (general_of source)) items
+are-parts source panel spec items sound are =
+    let shown = shown_rows spec source.rows in
     All-from_recursion (IsPart (general_of source)) items
-    (all-both (λ item. item.key.panel ≡ panel) (λ item. undate item ≡ item_of item.key (panel_rows panel source.rows)) (IsPart (general_of source))
-    (λ item of own. is-part source sound item (own ∙ item-in-panel panel item.key (ap (λ (p : Panel). is_same_panel p panel) of ∙ own-panel panel) source.rows)) items
-    (recursion_from_All _ items (are-of-panel panel source.rows items are)) (recursion_from_All _ items are.sums))
+    (all-both (λ item. item.key.panel ≡ panel) (λ item. undate item ≡ item_of item.key (panel_rows panel shown)) (IsPart (general_of source))
+    (λ item of own. is-part source (λ row. is_shown spec row.key) sound item (own ∙ item-in-panel panel item.key (ap (λ (p : Panel). is_same_panel p panel) of ∙ own-panel panel) shown)) items
+    (recursion_from_All _ items (are-of-panel panel shown items are)) (recursion_from_All _ items are.sums))

@@ -11,6 +11,7 @@ use Rattle.std.proofs.lemmas.List.Kept.{IsStrictlySortedBy-filter}
 use Rattle.std.proofs.lemmas.List.Sums.{sum_by-cons}
 use Rattle.std.proofs.lemmas.Bool.Decides.{Decides-eqb}
 use Rattle.std.proofs.lemmas.Cmp.{nat_cmp_total}
+use Rattle.ga_base.specs.declared.date_spec.DateSpec.{DateSpec}
 use Rattle.ga_base.specs.declared.key.Key.{Key}
 use Rattle.ga_base.specs.declared.panel.Panel.{Panel}
 use Rattle.ga_base.specs.declared.panel.TheConstants.Panel.{ALL}
@@ -21,12 +22,12 @@ use Rattle.ga_report.specs.declared.report.PanelList.{PanelList}
 use Rattle.ga_report.specs.declared.report.Report.{Report}
 use Rattle.ga_report.specs.declared.report.Row.{Row}
 use Rattle.ga_report.specs.Source.{SourceRow, SourceValue}
-use Rattle.ga_report.specs.Items.{is_of, has_item, AreItems}
+use Rattle.ga_report.specs.Items.{is_of, is_shown, has_item, shown_rows, AreItems}
 use Rattle.ga_report.specs.Printable.{HasHits, IsPrintable}
 use Rattle.ga_report.specs.Reports.{IsRow, IsPanelList, IsReport, Pairwise, general_of, panels_of, shown_as}
 use Rattle.ga_report.specs.SoundRows.{AreSound}
 use Rattle.ga_report.proofs.ItemSums.{own-item}
-use Rattle.ga_report.proofs.Lists.{In, all-in, all-map, all-weaker, not-itself}
+use Rattle.ga_report.proofs.Lists.{In, all-filter, all-in, all-map, all-weaker, not-itself}
 use Rattle.ga_report.proofs.OneArrangement.{in-count, is-its-item}
 
 abbrev by_number : Panel → Panel → Ordering
@@ -82,14 +83,14 @@ counted : (b : Bool) (n : ℕ) → n ≡ cond b 1 0 → 1 ≤ n → b ≡ true
 counted true n e h = refl
 counted false n e h = absurd (omega (arith, e, h))
 
-module _ (rows : List SourceRow) (sound : AreSound rows) where
+module _ (rows : List SourceRow) (hits : All (λ row. 1 ≤ row.sums.hits) rows) where
   items-hit : (panel : Panel) (shown : Key → Bool) (items : List SourceRow) → AreItems panel shown rows items → All (λ item. 1 ≤ item.sums.hits) items
   items-hit panel shown items are = All-from_recursion (λ item. 1 ≤ item.sums.hits) items (all-in (λ item. 1 ≤ item.sums.hits) items hit)
     where
       hit : (x : SourceRow) → In x items → 1 ≤ x.sums.hits
       hit x there =
           let has = and-right (shown x.key) (has_item x.key rows) (counted (shown x.key && has_item x.key rows) (count_by (is_of x.key) items) (are.once x.key) (in-count (is_of x.key) x items (own-item x) there)) in
-          omega (arith, some-hit (is_of x.key) rows (recursion_from_All _ rows sound.hit) has, ap (λ (r : SourceRow). r.sums.hits) (is-its-item panel shown rows items are x there))
+          omega (arith, some-hit (is_of x.key) rows (recursion_from_All _ rows hits) has, ap (λ (r : SourceRow). r.sums.hits) (is-its-item panel shown rows items are x there))
 
   row-hits : (general : General) (most : ℕ) (item : SourceRow) (row : Row) → 1 ≤ item.sums.hits → IsRow general most rows item row → HasHits row
   row-hits general most item row own is = record {
@@ -110,12 +111,20 @@ anything : {X : Type 0} (xs : List X) → AllByRecursion (λ _. Unit {0}) xs
 anything [] = tt
 anything (x ∷ xs) = (tt, anything xs)
 
-pub printable : (source : SourceValue) (set : List Bool) (most : ℕ) (report : Report) → AreSound source.rows → IsReport source set most report → IsPrintable report
-printable source set most report sound is = record {
-  different = subst (λ (panels : List Panel). IsDistinct is_same_panel panels)
-      (sym (pairwise-map (IsPanelList (general_of source) most source.rows) (λ list. list.panel) (λ panel list h. h.is_panel) (panels_of set) report.panels is.panels))
-      (rise-distinct (panels_of set) (shown-rise set));
-  hits = All-from_recursion (λ list. All HasHits list.rows) report.panels
-      (pairwise-all (IsPanelList (general_of source) most source.rows) (λ _. Unit {0}) (λ list. All HasHits list.rows)
-      (λ panel list _ h. panel-hits source.rows sound (general_of source) most panel list h) (panels_of set) report.panels (anything (panels_of set)) is.panels);
-}
+-- rows that are shown have hits, as all have
+hits-shown : (spec : DateSpec) (rows : List SourceRow) → All (λ row. 1 ≤ row.sums.hits) rows → All (λ row. 1 ≤ row.sums.hits) (shown_rows spec rows)
+hits-shown spec rows all =
+    All-from_recursion (λ row. 1 ≤ row.sums.hits) (shown_rows spec rows)
+    (all-filter (λ row. 1 ≤ row.sums.hits) (λ row. 1 ≤ row.sums.hits) (λ row. is_shown spec row.key) (λ row _ hit. hit) rows (recursion_from_All _ rows all))
+
+pub printable : (source : SourceValue) (set : List Bool) (most : ℕ) (spec : DateSpec) (report : Report) → AreSound source.rows → IsReport source set most spec report → IsPrintable report
+printable source set most spec report sound is =
+    let rows = shown_rows spec source.rows in
+    record {
+      different = subst (λ (panels : List Panel). IsDistinct is_same_panel panels)
+          (sym (pairwise-map (IsPanelList (general_of source) most rows) (λ list. list.panel) (λ panel list h. h.is_panel) (panels_of set) report.panels is.panels))
+          (rise-distinct (panels_of set) (shown-rise set));
+      hits = All-from_recursion (λ list. All HasHits list.rows) report.panels
+          (pairwise-all (IsPanelList (general_of source) most rows) (λ _. Unit {0}) (λ list. All HasHits list.rows)
+          (λ panel list _ h. panel-hits rows (hits-shown spec source.rows sound.hit) (general_of source) most panel list h) (panels_of set) report.panels (anything (panels_of set)) is.panels);
+    }

@@ -1,5 +1,5 @@
 -- What an item has together is at most what the days have.
-use Rattle.std.proofs.Common.{◌≡◌, ℕ, ◌+◌, ◌≤◌, ◌==◌, ◌&&◌, ◌||◌, Bool, true, false, cond, List, [], ◌∷◌, map, sum_by, refl, sym, ap, ◌∙◌, arith, eq-eqb, All}
+use Rattle.std.proofs.Common.{◌≡◌, ℕ, ◌+◌, ◌≤◌, ◌==◌, ◌&&◌, ◌||◌, Bool, true, false, cond, List, [], ◌∷◌, filter, map, sum_by, refl, sym, ap, ◌∙◌, arith, eq-eqb, All}
 use Rattle.std.specs.Ordering.{is_eq}
 use Rattle.std.specs.List.{AllByRecursion, IsDistinct, list_any}
 use Rattle.std.proofs.lemmas.Bool.{false≢true}
@@ -9,7 +9,7 @@ use Rattle.std.proofs.lemmas.List.Elements.{recursion_from_All}
 use Rattle.std.proofs.lemmas.List.Sums.{sum_by-cons}
 use Rattle.ga_base.specs.declared.key.Key.{Key}
 use Rattle.ga_base.specs.declared.panel.Panel.{Panel}
-use Rattle.ga_base.specs.Layers.{Layer, in_layer, is_flag, is_empty}
+use Rattle.ga_base.specs.Layers.{Layer, in_layer, is_flag, is_empty, layer_of}
 use Rattle.ga_base.specs.Orders.{is_same_key}
 use Rattle.ga_base.specs.Panels.{is_same_panel, panel_number}
 use Rattle.ga_base.proofs.OrderLemmas.{key_cmp_total}
@@ -19,7 +19,7 @@ use Rattle.ga_report.specs.Reports.{general_of}
 use Rattle.ga_report.specs.SoundRows.{AreSound, SumsFit, SumsWithin, day_rows, layer_rows}
 use Rattle.ga_report.specs.Steps.Summed.{undate, IsPart}
 use Rattle.ga_report.proofs.ItemSums.{same-item}
-use Rattle.ga_report.proofs.Lists.{all-weaker, map-all, sum_by-filter}
+use Rattle.ga_report.proofs.Lists.{all-weaker, map-all, sum-among, sum_by-filter}
 
 module _ (f : SourceRow → ℕ) where
   abbrev weight : (SourceRow → Bool) → SourceRow → ℕ
@@ -122,13 +122,11 @@ is_flag-itself false = refl
 and-true : (a b : Bool) → a ≡ true → b ≡ true → (a && b) ≡ true
 and-true a b e h = rw (e, h) refl
 
-abbrev layer_of : Key → Layer
-layer_of key = record { panel = key.panel; groups = is_empty key.label }
-
 in-own-layer : (key : Key) (row : SourceRow) → is_of key row ≡ true → in_layer (layer_of key) row.key ≡ true
 in-own-layer key row e =
     ap (λ (k : Key). in_layer (layer_of key) k) (same-item key row e)
-    ∙ and-true (is_same_panel key.panel key.panel) (is_flag (is_empty key.label) (is_empty key.label)) (same_panel-itself key.panel) (is_flag-itself (is_empty key.label))
+    ∙ and-true (is_same_panel key.panel key.panel) (is_flag (is_empty key.parent) (is_empty key.parent) && is_flag (is_empty key.label) (is_empty key.label)) (same_panel-itself key.panel)
+    (and-true (is_flag (is_empty key.parent) (is_empty key.parent)) (is_flag (is_empty key.label) (is_empty key.label)) (is_flag-itself (is_empty key.parent)) (is_flag-itself (is_empty key.label)))
 
 -- the key of an item on a day
 abbrev on-day : Key → ℕ → Key
@@ -187,10 +185,12 @@ module _ (rows : List SourceRow) (sound : AreSound rows) (key : Key) where
     micros = omega (arith, micros-within, sound.fit.micros);
   }
 
--- an item is a part of the whole
-pub is-part : (source : SourceValue) → AreSound source.rows → (item : SourceRow) → undate item ≡ item_of item.key source.rows → IsPart (general_of source) item
-is-part source sound item e = record {
-  hits = omega (arith, ap (λ (r : SourceRow). r.sums.hits) e, hits-within source.rows sound item.key);
-  visitors = omega (arith, ap (λ (r : SourceRow). r.visitors) e, visitors-within source.rows sound item.key);
-  bytes = omega (arith, ap (λ (r : SourceRow). r.sums.bytes) e, bytes-within source.rows sound item.key);
-}
+-- an item of some of the rows is a part of the whole
+pub is-part : (source : SourceValue) (t : SourceRow → Bool) → AreSound source.rows → (item : SourceRow) → undate item ≡ item_of item.key (filter t source.rows) → IsPart (general_of source) item
+is-part source t sound item e =
+    let of = is_of item.key in
+    record {
+      hits = omega (arith, ap (λ (r : SourceRow). r.sums.hits) e, sum-among (λ (r : SourceRow). r.sums.hits) of t source.rows, hits-within source.rows sound item.key);
+      visitors = omega (arith, ap (λ (r : SourceRow). r.visitors) e, sum-among (λ (r : SourceRow). r.visitors) of t source.rows, visitors-within source.rows sound item.key);
+      bytes = omega (arith, ap (λ (r : SourceRow). r.sums.bytes) e, sum-among (λ (r : SourceRow). r.sums.bytes) of t source.rows, bytes-within source.rows sound item.key);
+    }

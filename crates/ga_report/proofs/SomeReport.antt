@@ -1,6 +1,7 @@
 -- Each source of rows has a report.
 use Rattle.std.proofs.Common.{◌≡◌, ℕ, Bool, List, [], ◌∷◌, filter, map, refl, take}
 use Rattle.std.proofs.lemmas.List.Elements.{All-from_recursion}
+use Rattle.ga_base.specs.declared.date_spec.DateSpec.{DateSpec}
 use Rattle.ga_base.specs.declared.key.Key.{Key}
 use Rattle.ga_base.specs.declared.panel.Panel.{Panel}
 use Rattle.ga_report.specs.declared.report.General.{General}
@@ -9,7 +10,7 @@ use Rattle.ga_report.specs.declared.report.PanelList.{PanelList}
 use Rattle.ga_report.specs.declared.report.Report.{Report}
 use Rattle.ga_report.specs.declared.report.Row.{Row}
 use Rattle.ga_report.specs.Source.{SourceRow, SourceValue}
-use Rattle.ga_report.specs.Items.{AreItems, is_child, is_row, item_of, order}
+use Rattle.ga_report.specs.Items.{AreItems, is_child, is_row, item_of, order, shown_rows}
 use Rattle.ga_report.specs.Reports.{IsPanelList, IsReport, IsRow, Pairwise, general_of, panels_of, shown_as}
 use Rattle.ga_report.specs.Steps.Summed.{AreSummed, panel_rows, undate, with_row}
 use Rattle.ga_report.proofs.Arrangement.{ForItems, InPanel, are-items, entries-inside, order_total, rows-inside}
@@ -49,8 +50,9 @@ module _ (general : General) (most : ℕ) (rows : List SourceRow) where
       let list : PanelList = record { panel = panel; rows = lines.0 } in
       (list, record { is_panel = refl; items = items.0; are_items = items.1; shown = lines.1 })
 
-pub some-report : (source : SourceValue) (set : List Bool) (most : ℕ) → (report : Report) × IsReport source set most report
-some-report source set most =
-    let lists = some-pairs (IsPanelList (general_of source) most source.rows) (some-panel (general_of source) most source.rows) (panels_of set) in
+pub some-report : (source : SourceValue) (set : List Bool) (most : ℕ) (spec : DateSpec) → (report : Report) × IsReport source set most spec report
+some-report source set most spec =
+    let rows = shown_rows spec source.rows in
+    let lists = some-pairs (IsPanelList (general_of source) most rows) (some-panel (general_of source) most rows) (panels_of set) in
     let report : Report = record { general = general_of source; panels = lists.0 } in
     (report, record { general = refl; panels = lists.1 })

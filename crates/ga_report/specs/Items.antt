@@ -1,10 +1,12 @@
 -- The items of a report: keys that differ in their day alone are one item, whose numbers are added.
-use Rattle.std.specs.Prelude.{◌≡◌, ℕ, Bool, true, ◌&&◌, not, max, if◌then◌else◌, List, [], ◌∷◌, filter, sum_by, count_by, All}
+use Rattle.std.specs.Prelude.{◌≡◌, ℕ, ◌==◌, Bool, true, ◌&&◌, ◌||◌, not, max, if◌then◌else◌, List, [], ◌∷◌, length, filter, sum_by, count_by, All}
 use Rattle.std.specs.List.{list_any}
 use Rattle.std.specs.List.Sorted.{IsSorted}
 use Rattle.std.specs.Str.{bytes_eq}
 use Rattle.std.specs.Ordering.{nat_cmp, ordering_then}
 use Rattle.std.specs.declared.cmp.Ordering.{Ordering}
+use Rattle.ga_base.specs.declared.date_spec.DateSpec.{DateSpec}
+use Rattle.ga_base.specs.declared.date_spec.DateSpec.TheVariants as D
 use Rattle.ga_base.specs.declared.key.Key.{Key}
 use Rattle.ga_base.specs.declared.panel.Panel.{Panel}
 use Rattle.ga_base.specs.declared.panel.Panel.TheVariants.{Visitors, VisitTimes}
@@ -16,6 +18,20 @@ use Rattle.ga_report.specs.Source.{SourceRow}
 -- a key without its day
 abbrev pub undated : Key → Key
 undated key = record { panel = key.panel; date = 0; parent = key.parent; label = key.label; method = key.method; protocol = key.protocol }
+
+-- a key of VISITORS is that of a day, or of a part of a day, as fine as this: a part has the day's digits and two more for the hour,
+-- and four for the minute
+abbrev pub is_as_fine : DateSpec → Key → Bool
+is_as_fine D.Date key = is_empty key.parent
+is_as_fine D.Hour key = not (is_empty key.parent) && (length key.label == 10)
+is_as_fine D.Minute key = not (is_empty key.parent) && (length key.label == 12)
+
+-- VISITORS shows the keys that are so fine; the other panels all
+abbrev pub is_shown : DateSpec → Key → Bool
+is_shown spec key = not (is_same_panel key.panel Visitors) || is_as_fine spec key
+
+abbrev pub shown_rows : DateSpec → List SourceRow → List SourceRow
+shown_rows spec rows = filter (λ row. is_shown spec row.key) rows
 
 -- whether a row is of the item that a key is of
 abbrev pub is_of : Key → SourceRow → Bool

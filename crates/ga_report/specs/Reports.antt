@@ -1,5 +1,6 @@
 -- The report on a source of rows: general numbers, and the rows of each panel that is shown.
 use Rattle.std.specs.Prelude.{◌≡◌, ◌&&◌, ℕ, Bool, if◌then◌else◌, List, [], ◌∷◌, filter, map, take, sum_by}
+use Rattle.ga_base.specs.declared.date_spec.DateSpec.{DateSpec}
 use Rattle.ga_base.specs.declared.key.Key.{Key}
 use Rattle.ga_base.specs.declared.panel.Panel.{Panel}
 use Rattle.ga_base.specs.declared.panel.TheConstants.Panel.{ALL}
@@ -10,7 +11,7 @@ use Rattle.ga_report.specs.declared.report.Item.{Item}
 use Rattle.ga_report.specs.declared.report.PanelList.{PanelList}
 use Rattle.ga_report.specs.declared.report.Report.{Report}
 use Rattle.ga_report.specs.declared.report.Row.{Row}
-use Rattle.ga_report.specs.Items.{AreItems, is_row, is_child}
+use Rattle.ga_report.specs.Items.{AreItems, is_row, is_child, shown_rows}
 use Rattle.ga_report.specs.Percents.{hundredths}
 use Rattle.ga_report.specs.SoundRows.{day_rows}
 use Rattle.ga_report.specs.Source.{SourceRow, SourceValue}
@@ -75,7 +76,7 @@ pub record IsPanelList (general : General) (most : ℕ) (rows : List SourceRow) 
   pub are_items : AreItems panel (is_row panel) rows items
   pub shown : Pairwise (IsRow general most rows) (take most items) list.rows
 
--- the report with the panels of a set, and with at most this many rows a list
-pub record IsReport (source : SourceValue) (set : List Bool) (most : ℕ) (report : Report) : Type 0 where
+-- the report with the panels of a set, with at most this many rows a list, and with days or parts of days in VISITORS
+pub record IsReport (source : SourceValue) (set : List Bool) (most : ℕ) (spec : DateSpec) (report : Report) : Type 0 where
   pub general : report.general ≡ general_of source
-  pub panels : Pairwise (IsPanelList (general_of source) most source.rows) (panels_of set) report.panels
+  pub panels : Pairwise (IsPanelList (general_of source) most (shown_rows spec source.rows)) (panels_of set) report.panels

@@ -3,15 +3,13 @@ use Rattle.std.specs.Prelude.{◌≡◌, ℕ, ◌≤◌, ◌==◌, ◌&&◌, tru
 use Rattle.std.specs.List.{IsDistinct, list_any}
 use Rattle.ga_base.specs.declared.counts.TheConstants.{LIMIT}
 use Rattle.ga_base.specs.declared.counts.Sums.{Sums}
-use Rattle.ga_base.specs.declared.panel.Panel.TheVariants.{Visitors}
-use Rattle.ga_base.specs.Layers.{Layer, in_layer}
+use Rattle.ga_base.specs.Layers.{Layer, in_layer, is_day}
 use Rattle.ga_base.specs.Orders.{is_same_key}
-use Rattle.ga_base.specs.Panels.{is_same_panel}
 use Rattle.ga_report.specs.Source.{SourceRow}
 
--- the rows of the days
+-- the rows of the days, without those of parts of days
 abbrev pub day_rows : List SourceRow → List SourceRow
-day_rows rows = filter (λ row. is_same_panel row.key.panel Visitors) rows
+day_rows rows = filter (λ row. is_day row.key) rows
 
 -- the rows of a layer on a day
 abbrev pub layer_rows : Layer → ℕ → List SourceRow → List SourceRow

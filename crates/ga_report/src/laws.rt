@@ -1,16 +1,18 @@
 //! What holds of all reports. Each function's contract is the law, and its body is empty.
 
 ghost use Rattle.std.specs.Prelude.{◌≡◌, ℕ, Bool, List};
+ghost use Rattle.ga_base.specs.declared.date_spec.DateSpec.{DateSpec};
 ghost use Rattle.ga_report.specs.Reports.{IsReport};
 ghost use Rattle.ga_report.specs.Source.{SourceValue};
 ghost use Rattle.ga_report.specs.declared.report.Report.{Report as TheReport};
 
-/// A source of rows has one report with a set of panels and a number of rows a list.
+/// A source of rows has one report with a set of panels, a number of rows a list, and days or parts of days in VISITORS.
 pub fn one_report()
-    ensures { (source : SourceValue) (set : List Bool) (most : ℕ) (a b : TheReport) → IsReport source set most a → IsReport source set most b → a ≡ b }
+    ensures { (source : SourceValue) (set : List Bool) (most : ℕ) (spec : DateSpec) (a b : TheReport)
+        → IsReport source set most spec a → IsReport source set most spec b → a ≡ b }
 {}
 
 /// Each source of rows has a report.
 pub fn some_report()
-    ensures { (source : SourceValue) (set : List Bool) (most : ℕ) → (report : TheReport) × IsReport source set most report }
+    ensures { (source : SourceValue) (set : List Bool) (most : ℕ) (spec : DateSpec) → (report : TheReport) × IsReport source set most spec report }
 {}

@@ -1,7 +1,7 @@
 ghost use Rattle.std.specs.Prelude.{◌≡◌, ◌<◌, ◌≤◌, [], All, IfOk, OnOk, IsTrue, filter, length, map};
 ghost use Rattle.std.specs.List.Sorted.{IsPermutation, IsSorted};
 ghost use Rattle.std.specs.Thread.{IsSync};
-ghost use Rattle.ga_report.specs.Items.{is_of, order, undated};
+ghost use Rattle.ga_report.specs.Items.{is_of, order, shown_rows, undated};
 ghost use Rattle.ga_report.specs.Steps.Alone.{IsAlonePartition};
 ghost use Rattle.ga_report.specs.Steps.RowPlaces.{rows_at};
 ghost use Rattle.ga_report.specs.Steps.Summed.{AreSummed, CanAddUp, FitTogether, by_parent, is_up_to, items_of, panel_rows, with_row};
@@ -10,10 +10,10 @@ ghost use Rattle.ga_shards.specs.Keys.{keyed_with};
 use crate::arranging::items_up_to;
 use crate::buckets::Buckets;
 use crate::item_name::ItemName;
-use crate::panel_places::places_of;
+use crate::panel_places::shown_places;
 use crate::row_index::{MANY_ROWS, Partition, RowIndex, halves_of, indexes_at, rows_at, rows_near};
 use crate::{RowRef, RowSource};
-use ga_base::{NoMemory, Panel, Totals};
+use ga_base::{DateSpec, NoMemory, Panel, Totals};
 use ga_shards::{Dictionary, Keyed};
 use std::alloc::Global;
 use std::marker::Sync;
@@ -38,14 +38,15 @@ pub(crate) fn panel_items<'a, R: Threads + Sync, T: RowSource + Sync>(
     pieces: u32,
     source: &'a T,
     panel: Panel,
+    spec: DateSpec,
 ) -> Result<PanelItems<'a>, NoMemory>
     ensures there { IfOk result (λ panel_items. All (λ row_index. row_index.place < length (T.view source.now).rows) panel_items.alone.items) }
-    ensures items { IfOk result (λ panel_items. AreSummed (panel_rows panel (T.view source.now).rows)
+    ensures items { IfOk result (λ panel_items. AreSummed (panel_rows panel (shown_rows spec (T.view source.now).rows))
         (items_of (T.view source.now).rows panel_items.alone.items panel_items.added.items)) }
 {
     // What is known of the totals is that the rows' sums fit.
     let _totals = source.totals();
-    let partition = partition(rt, alloc, pieces, source, panel)?;
+    let partition = partition(rt, alloc, pieces, source, panel, spec)?;
     let added = sum_items(rt, alloc, pieces, source, &partition.others)?;
     Ok(PanelItems {
         alone: partition.passing,
@@ -105,11 +106,12 @@ fn partition<R: Threads + Sync, T: RowSource + Sync>(
     pieces: u32,
     source: &T,
     panel: Panel,
+    spec: DateSpec,
 ) -> Result<Partition, NoMemory>
-    ensures { IfOk result (λ partition. IsAlonePartition (T.view source.now).rows (panel_rows panel (T.view source.now).rows)
+    ensures { IfOk result (λ partition. IsAlonePartition (T.view source.now).rows (panel_rows panel (shown_rows spec (T.view source.now).rows))
         partition.passing.items partition.others.items) }
 {
-    let places = places_of(alloc, source, panel)?;
+    let places = shown_places(alloc, source, panel, spec)?;
     let indexes = indexes_at(rt, alloc, pieces, source, &places)?;
     let buckets = Buckets::of(alloc, &indexes)?;
     buckets.partition(alloc, &indexes)

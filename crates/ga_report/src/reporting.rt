@@ -2,7 +2,7 @@ ghost use Rattle.std.specs.Prelude.{◌≡◌, ℕ, IfOk, List, All, false, map}
 ghost use Rattle.std.specs.Thread.{IsSync};
 ghost use Rattle.std.specs.List.Sorted.{IsSorted};
 ghost use Rattle.ga_base.specs.Layers.{has_groups};
-ghost use Rattle.ga_report.specs.Items.{order};
+ghost use Rattle.ga_report.specs.Items.{order, shown_rows};
 ghost use Rattle.ga_report.specs.Printable.{IsPrintable};
 ghost use Rattle.ga_report.specs.Reports.{AreChildren, IsPanelList, IsReport, IsRow, Pairwise, data_of, general_of, panels_of, shown_as};
 ghost use Rattle.ga_report.specs.Steps.Summed.{AreFirst, AreSummed, DayFits, IsPart, by_parent, panel_rows, undate, with_day};
@@ -11,12 +11,12 @@ ghost use Rattle.ga_report.specs.Source.{SourceRow};
 use crate::arranging::{entries_of, top_groups, top_of_many};
 use crate::item_name::ItemName;
 use crate::panel_items::{all_items, panel_items, sort_by_group};
-use crate::panel_places::places_of;
+use crate::panel_places::shown_places;
 use crate::{
     General, Item, Items, PanelList, PanelLists, Report, Row, RowList, RowRef, RowSource,
     hundredths,
 };
-use ga_base::{NoMemory, Panel, PanelSet, Text, map_pieces};
+use ga_base::{DateSpec, NoMemory, Panel, PanelSet, Text, map_pieces};
 use std::alloc::Global;
 use std::marker::Sync;
 use std::thread::Threads;
@@ -27,34 +27,36 @@ const PIECES: u32 = 4;
 /// No more panels there are, so that each may be a piece by itself.
 const PANEL_PIECES: u32 = 32;
 
-/// The report of what was counted, with the panels of a set. Of each list of rows, and of each row's children, the
-/// first `max_items` are shown. With more jobs than one, each panel is made in a thread of its own, and several threads look at
-/// the rows of one that has many.
+/// What the lists of a report have in common.
+#[derive(Clone, Copy)]
+struct ListShape {
+    /// The most rows of a list.
+    max_items: u64,
+    /// How finely VISITORS tells days.
+    spec: DateSpec,
+}
+
+/// The report of what was counted, with the panels of a set, and with days or parts of days in VISITORS. Of each list of rows,
+/// and of each row's children, the first `max_items` are shown. With more jobs than one, each panel is made in a thread of its
+/// own, and several threads look at the rows of one that has many.
 pub fn rows_from<R: Threads + Sync, T: RowSource + Sync>(
     rt: &R,
     alloc: Global,
     source: &T,
     panels: &PanelSet,
     max_items: u64,
+    spec: DateSpec,
     jobs: u32,
 ) -> Result<Report, NoMemory>
-    ensures report { IfOk result (IsReport (T.view source.now) panels.now max_items) }
+    ensures report { IfOk result (IsReport (T.view source.now) panels.now max_items spec) }
     ensures printable { IfOk result IsPrintable }
 {
     // What is known of the totals is that each key has a hit.
     let _totals = source.totals();
     let general = general_of(alloc, source)?;
     let shown = shown_panels(alloc, panels)?;
-    let (cut, pieces) = if jobs > 1 {
-        (PANEL_PIECES, PIECES)
-    } else {
-        (1, 1)
-    };
-    let list = move |panels: &[Panel]| -> Result<Vec<PanelList>, NoMemory>
-        requires { IsSync R.row × (general ≡ general_of (T.view source.now)) }
-        ensures { IfOk result (λ lists. Pairwise (IsPanelList general max_items (T.view source.entry.now).rows) panels.now lists.items) }
-    { lists_in_turn(rt, alloc, pieces, source, &general, panels, max_items) };
-    let lists = map_pieces(rt, cut, 2, &shown, &list)?;
+    let shape = ListShape { max_items, spec };
+    let lists = lists_of(rt, alloc, source, &general, &shown, shape, jobs)?;
     Ok(Report {
         general,
         panels: PanelLists::from(lists),
@@ -74,7 +76,7 @@ pub(crate) fn general_of<T: RowSource>(alloc: Global, source: &T) -> Result<Gene
         unique_visitors: 0,
         bandwidth: 0,
     };
-    let days = places_of(alloc, source, Panel::Visitors)?;
+    let days = shown_places(alloc, source, Panel::Visitors, DateSpec::Date)?;
     for day in &days {
         general = with_day(general, &source.row(*day));
     }
@@ -107,6 +109,31 @@ pub(crate) fn shown_panels(alloc: Global, panels: &PanelSet) -> Result<Vec<Panel
     Ok(shown)
 }
 
+/// The lists of panels, with more jobs than one side by side.
+fn lists_of<R: Threads + Sync, T: RowSource + Sync>(
+    rt: &R,
+    alloc: Global,
+    source: &T,
+    general: &General,
+    panels: &[Panel],
+    shape: ListShape,
+    jobs: u32,
+) -> Result<Vec<PanelList>, NoMemory>
+    requires { general.now ≡ general_of (T.view source.now) }
+    ensures { IfOk result (λ lists. Pairwise (IsPanelList general.now shape.max_items (shown_rows shape.spec (T.view source.now).rows)) panels.now lists.items) }
+{
+    let (cut, pieces) = if jobs > 1 {
+        (PANEL_PIECES, PIECES)
+    } else {
+        (1, 1)
+    };
+    let list = move |panels: &[Panel]| -> Result<Vec<PanelList>, NoMemory>
+        requires { IsSync R.row × (general.now ≡ general_of (T.view source.now)) }
+        ensures { IfOk result (λ lists. Pairwise (IsPanelList general.entry.now shape.max_items (shown_rows shape.spec (T.view source.entry.now).rows)) panels.now lists.items) }
+    { lists_in_turn(rt, alloc, pieces, source, general, panels, shape) };
+    map_pieces(rt, cut, 2, panels, &list)
+}
+
 /// The lists of panels, one after the other, the rows of each looked at in this many pieces side by side.
 fn lists_in_turn<R: Threads + Sync, T: RowSource + Sync>(
     rt: &R,
@@ -115,14 +142,14 @@ fn lists_in_turn<R: Threads + Sync, T: RowSource + Sync>(
     source: &T,
     general: &General,
     panels: &[Panel],
-    max_items: u64,
+    shape: ListShape,
 ) -> Result<Vec<PanelList>, NoMemory>
     requires { general.now ≡ general_of (T.view source.now) }
-    ensures { IfOk result (λ lists. Pairwise (IsPanelList general.now max_items (T.view source.now).rows) panels.now lists.items) }
+    ensures { IfOk result (λ lists. Pairwise (IsPanelList general.now shape.max_items (shown_rows shape.spec (T.view source.now).rows)) panels.now lists.items) }
 {
     let mut lists = Vec::new(alloc);
     for panel in panels {
-        lists.push(panel_list(rt, alloc, pieces, source, general, *panel, max_items)?)?;
+        lists.push(panel_list(rt, alloc, pieces, source, general, *panel, shape)?)?;
     }
     Ok(lists)
 }
@@ -135,19 +162,27 @@ fn panel_list<R: Threads + Sync, T: RowSource + Sync>(
     source: &T,
     general: &General,
     panel: Panel,
-    max_items: u64,
+    shape: ListShape,
 ) -> Result<PanelList, NoMemory>
     requires { general.now ≡ general_of (T.view source.now) }
-    ensures { IfOk result (IsPanelList general.now max_items (T.view source.now).rows panel) }
+    ensures { IfOk result (IsPanelList general.now shape.max_items (shown_rows shape.spec (T.view source.now).rows) panel) }
 {
     // What is known of the totals is that an item is a part of the whole.
     let _totals = source.totals();
-    let panel_items = panel_items(rt, alloc, pieces, source, panel)?;
+    let panel_items = panel_items(rt, alloc, pieces, source, panel, shape.spec)?;
     if panel.has_groups() {
         let items = all_items(rt, alloc, pieces, source, panel_items)?;
-        list_with_groups(alloc, general, items, panel, max_items)
+        list_with_groups(alloc, general, items, panel, shape.max_items)
     } else {
-        let tops = top_of_many(rt, alloc, pieces, source, panel_items, panel, max_items)?;
+        let tops = top_of_many(
+            rt,
+            alloc,
+            pieces,
+            source,
+            panel_items,
+            panel,
+            shape.max_items,
+        )?;
         plain_list(alloc, general, &tops, panel)
     }
 }

@@ -1,13 +1,19 @@
 ghost use Rattle.std.specs.Prelude.{◌≡◌, ◌<◌, ◌≤◌, count_by, length, slice_get, IfSome, Some};
 ghost use Rattle.ga_base.specs.Panels.{is_same_panel};
-ghost use Rattle.ga_report.specs.Items.{undated};
+ghost use Rattle.ga_report.specs.Items.{is_as_fine, undated};
 ghost use Rattle.ga_report.specs.SoundRows.{AreSound};
 ghost use Rattle.ga_report.specs.Steps.Summed.{plus, FitTogether};
 ghost use Rattle.ga_report.specs.Source.{SourceValue};
 
 use crate::item_name::ItemName;
-use ga_base::{Key, Panel, Sums, Text, Totals};
+use ga_base::{DateSpec, Key, Panel, Sums, Text, Totals};
 use std::marker::Model;
+
+/// The digits of a day and an hour.
+const HOUR_LEN: usize = 10;
+
+/// The digits of a day, an hour and a minute.
+const MINUTE_LEN: usize = 12;
 
 /// Where the rows of a report come from: totals over all lines, and a row for each key, in any order.
 pub trait RowSource {
@@ -99,6 +105,18 @@ impl<'a> RowRef<'a> {
         ensures { result ≡ undated self.now.key }
     {
         ItemName::of(self.shared, self.label)
+    }
+
+    /// Whether its key, one of VISITORS, is as fine as this.
+    pub(crate) fn is_as_fine(&self, spec: DateSpec) -> bool
+        ensures { result ≡ is_as_fine spec self.now.key }
+    {
+        let has_parent = !self.shared.parent.bytes().is_empty();
+        match spec {
+            DateSpec::Date => !has_parent,
+            DateSpec::Hour => has_parent && self.label.bytes().len() == HOUR_LEN,
+            DateSpec::Minute => has_parent && self.label.bytes().len() == MINUTE_LEN,
+        }
     }
 
     /// The label.

@@ -7,10 +7,8 @@ use Rattle.std.proofs.lemmas.List.Sorted.{All-permutation, IsPermutation-map, Is
 use Rattle.std.proofs.lemmas.Map.Keys.{IsDistinct-IsPermutation}
 use Rattle.ga_base.specs.declared.counts.TheConstants.{LIMIT}
 use Rattle.ga_base.specs.declared.counts.Sums.{Sums}
-use Rattle.ga_base.specs.declared.panel.Panel.TheVariants.{Visitors}
-use Rattle.ga_base.specs.Layers.{Layer, in_layer}
+use Rattle.ga_base.specs.Layers.{Layer, in_layer, is_day}
 use Rattle.ga_base.specs.Orders.{is_same_key}
-use Rattle.ga_base.specs.Panels.{is_same_panel}
 use Rattle.ga_report.specs.SoundRows.{AreSound, HasDay, SumsWithin, day_rows, layer_rows}
 use Rattle.ga_report.specs.Source.{SourceRow}
 use Rattle.ga_report.proofs.Lists.{all-in, at-all, filter-in, in-filter, in-permutation, sum_by-filter}
@@ -29,7 +27,7 @@ module _ (xs ys : List SourceRow) (moved : IsPermutation xs ys) where
   IsVisited day row = row.key.date ≡ day.key.date → row.visitors ≤ day.visitors
 
   abbrev is-day : SourceRow → Bool
-  is-day row = is_same_panel row.key.panel Visitors
+  is-day row = is_day row.key
 
   any-moved : (p q : SourceRow → Bool) → list_any q (filter p xs) ≡ list_any q (filter p ys)
   any-moved p q = any-filter p q xs ∙ list_any-IsPermutation (λ x. p x && q x) xs ys moved ∙ sym (any-filter p q ys)

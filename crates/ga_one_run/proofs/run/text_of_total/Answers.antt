@@ -17,7 +17,7 @@ returns g c =
             is_sum = tells.is_sum;
             is_text = record {
               report = text.report;
-              is_report = report-alike _ (source_value tells.sum) s.panels s.max_items text.report tells.same text.is_report;
+              is_report = report-alike _ (source_value tells.sum) s.panels s.max_items s.date_spec text.report tells.same text.is_report;
               written = text.written;
             };
           };

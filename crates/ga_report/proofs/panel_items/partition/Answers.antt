@@ -2,6 +2,7 @@ use Rattle.std.proofs.Common.{◌≡◌, ℕ, List, map, subst, sym}
 use Rattle.std.specs.List.{filter_map}
 use Rattle.std.proofs.lemmas.Result.{IfOk-weaker}
 use Rattle.ga_report.specs.declared.row_index.RowIndex.{RowIndex}
+use Rattle.ga_report.specs.Items.{shown_rows}
 use Rattle.ga_report.specs.Steps.Alone.{IsAlonePartition, AreBuckets, IsPartition, is_alone}
 use Rattle.ga_report.specs.Steps.RowPlaces.{AreIndexes, index_at}
 use Rattle.ga_report.specs.Steps.Summed.{panel_rows}
@@ -13,12 +14,12 @@ use Rattle.ga_report.proofs.panel_items.partition.Goals as goal
 pub indexes_at-requires-after_bounds : goal.indexes_at-requires-after_bounds
 indexes_at-requires-after_bounds g c κs within =
     let rows = (g.T.RowSource.view c.args.source.now).rows in
-    rw c.deref.ensures.value (all-inside rows c.in_ok-places.places.items (panel_rows c.args.panel rows) c.in_ok-places.ensures)
+    rw c.deref.ensures.value (all-inside rows c.in_ok-places.places.items (panel_rows c.args.panel (shown_rows c.args.spec rows)) c.in_ok-places.ensures)
 
 pub returns : goal.returns
 returns g c =
     let rows = (g.T.RowSource.view c.args.source.now).rows in
-    let those = panel_rows c.args.panel rows in
+    let those = panel_rows c.args.panel (shown_rows c.args.spec rows) in
     let places = c.in_ok-places.places.items in
     let indexes = c.in_ok-indexes.indexes.items in
     let is : indexes ≡ filter_map (index_at rows) places = subst (λ (xs : List ℕ). indexes ≡ filter_map (index_at rows) xs) c.deref.ensures.value c.in_ok-indexes.ensures in
