@@ -1,5 +1,5 @@
 use ga_agents::Rules;
-use ga_base::{FormatFault, PanelSet, Statuses, Text, Texts};
+use ga_base::{DateSpec, FormatFault, HourSpec, PanelSet, Statuses, Text, Texts};
 use ga_dates::{DEFAULT_DATE, DEFAULT_TIME, compile_date, compile_time};
 use ga_format::{compile, format_text};
 use ga_hosts::Ranges;
@@ -38,6 +38,8 @@ pub fn setup(alloc: Global, format: &str) -> Result<Setup, FormatFault> {
             panels: PanelSet::all(),
             count_4xx: false,
             as_404: false,
+            date_spec: DateSpec::Date,
+            hour_spec: HourSpec::Hour,
         },
     })
 }

@@ -3,7 +3,7 @@ ghost use Rattle.ga_base.specs.Records.{record_in};
 ghost use Rattle.ga_panels.specs.Facts.{CanHaveKeys};
 
 use ga_agents::Rules;
-use ga_base::{Key, Panel, PanelSet, Record, RecordRef, Statuses, Text, Texts};
+use ga_base::{DateSpec, HourSpec, Key, Panel, PanelSet, Record, RecordRef, Statuses, Text, Texts};
 use ga_cases::hold;
 use ga_hosts::{Range, Ranges};
 use ga_panels::{PanelSetup, RecordFacts, is_excluded, keys_of, visitor_of};
@@ -49,6 +49,14 @@ ignore_crawlers|192.0.2.1||||/|||Foo Windows NT 6.1||||| => visit Visitors,,2024
 |192.0.2.1||||/|||||||html| => visit Visitors,,20240229,,;Requests,,/,,;Hosts,,192.0.2.1,,;MimeType,html,,,;MimeType,html,html,,;
 ## one panel alone
 only_hosts|192.0.2.1|1|GET|HTTP/1.1|/|200|/r|curl/8.5||||a/b| => visit Visitors,,20240229,,;Hosts,,192.0.2.1,,;
+## the hour and the minute of the day, and tens of minutes; without a time there is the day alone
+only_hosts,by_hour|192.0.2.1|485||||||||||| => visit Visitors,,20240229,,;Visitors,20240229,2024022908,,;Hosts,,192.0.2.1,,;
+only_hosts,by_minute|192.0.2.1|485||||||||||| => visit Visitors,,20240229,,;Visitors,20240229,202402290805,,;Hosts,,192.0.2.1,,;
+only_hosts,by_minute|192.0.2.1|1439||||||||||| => visit Visitors,,20240229,,;Visitors,20240229,202402292359,,;Hosts,,192.0.2.1,,;
+only_hosts,by_minute|192.0.2.1|||||||||||| => visit Visitors,,20240229,,;Hosts,,192.0.2.1,,;
+by_tens|192.0.2.1|535|||/|||||||| => visit Visitors,,20240229,,;Requests,,/,,;Hosts,,192.0.2.1,,;VisitTimes,,08:50,,;
+by_tens,by_hour|192.0.2.1|9|||/|||||||| => visit Visitors,,20240229,,;Visitors,20240229,2024022900,,;Requests,,/,,;Hosts,,192.0.2.1,,;VisitTimes,,00:00,,;
+by_tens|192.0.2.1||||/|||||||| => visit Visitors,,20240229,,;Requests,,/,,;Hosts,,192.0.2.1,,;
 ## excluded addresses and statuses
 |198.51.100.9||||/|200||||||| => excluded 
 |198.51.100.10||||/|503||||||| => excluded 
@@ -116,6 +124,26 @@ fn panels_of(options: &str) -> PanelSet {
     panels
 }
 
+/// How finely a row's options tell days.
+fn date_spec_of(options: &str) -> DateSpec {
+    if options.contains("by_minute") {
+        DateSpec::Minute
+    } else if options.contains("by_hour") {
+        DateSpec::Hour
+    } else {
+        DateSpec::Date
+    }
+}
+
+/// How finely a row's options tell the time of the day.
+fn hour_spec_of(options: &str) -> HourSpec {
+    if options.contains("by_tens") {
+        HourSpec::Tens
+    } else {
+        HourSpec::Hour
+    }
+}
+
 /// The setup of a row's options.
 fn setup_of(alloc: Global, options: &str) -> Result<PanelSetup, Fail> {
     let mut ranges = Ranges::new(alloc);
@@ -134,6 +162,8 @@ fn setup_of(alloc: Global, options: &str) -> Result<PanelSetup, Fail> {
         panels: panels_of(options),
         count_4xx: options.contains("count_4xx"),
         as_404: options.contains("as_404"),
+        date_spec: date_spec_of(options),
+        hour_spec: hour_spec_of(options),
     })
 }
 

@@ -68,6 +68,22 @@ a => no log format
 --help => word 0: unknown option
 ";
 
+/// Words with bars between them, and how finely they tell days and times; or the fault.
+const DAYS: &str = "\
+## by days and hours
+--restore => Date Hour
+## the last of several values
+--date-spec=min|--date-spec|hr|--hour-spec=min|--restore => Hour Tens
+--date-spec=hr|--date-spec=date|--hour-spec=min|--hour-spec=hr|--restore => Date Hour
+--date-spec=min|--restore => Minute Hour
+## other values
+--date-spec=day => word 0: bad value
+--date-spec|HR|--restore => word 1: bad value
+--date-spec=|--restore => word 0: bad value
+--hour-spec=date|--restore => word 0: bad value
+--hour-spec => word 0: value missing
+";
+
 /// The words between bars; none of an empty text.
 fn words_of(alloc: Global, row: &str) -> Result<Texts, Fail> {
     let mut words = Texts::new(alloc);
@@ -113,12 +129,25 @@ fn shown(alloc: Global, settings: &Settings) -> Result<String, Fail> {
     Ok(shown)
 }
 
+/// What words mean of days and times.
+fn days_said(alloc: Global, row: &str) -> Result<String, Fail> {
+    match read_words(alloc, words_of(alloc, row)?.items()) {
+        Ok(settings) => Ok(format!(in alloc; "{:?} {:?}", settings.date_spec, settings.hour_spec)?),
+        Err(fault) => Ok(format!(in alloc; "{fault}")?),
+    }
+}
+
 /// What words mean.
 fn said(alloc: Global, row: &str) -> Result<String, Fail> {
     match read_words(alloc, words_of(alloc, row)?.items()) {
         Ok(settings) => shown(alloc, &settings),
         Err(fault) => Ok(format!(in alloc; "{fault}")?),
     }
+}
+
+#[test]
+fn words_say_how_days_are_told(rt: HostRuntime) -> Result<(), Fail> {
+    hold(rt.alloc(), DAYS, days_said)
 }
 
 #[test]

@@ -143,6 +143,56 @@ words that can't stand together
 goaccess: word 0: conflict
 
 =====
+days under another name
+-----
+--date-spec=day
+-----
+
+-----
+1
+goaccess: word 0: bad value
+
+=====
+hours in capitals, in the word after its option
+-----
+--date-spec|HR|a
+-----
+
+-----
+1
+goaccess: word 1: bad value
+
+=====
+no word for what VISITORS counts by
+-----
+--date-spec=|a
+-----
+
+-----
+1
+goaccess: word 0: bad value
+
+=====
+days for what VISIT_TIMES counts by
+-----
+--hour-spec=date|a
+-----
+
+-----
+1
+goaccess: word 0: bad value
+
+=====
+nothing after what VISIT_TIMES counts by
+-----
+--hour-spec
+-----
+
+-----
+1
+goaccess: word 0: value missing
+
+=====
 a format of the generator's lines without a date
 -----
 --generate=2|--log-format=%h

@@ -1000,6 +1000,226 @@ id,parent_id,panel,hits,hits%,visitors,visitors%,bytes,bytes%,avgts,cumts,maxts,
 1,,tls_type,1,33.33,1,50.00,10,50.00,1500,1500,1500,,,TLSv1.3
 
 =====
+hours of a day
+-----
+--date-spec=hr|--log-format=COMMON|-o|csv|a.log
+-----
+192.0.2.1 - - [01/Jan/2024:08:05:00 +0000] \"GET /a HTTP/1.1\" 200 10
+192.0.2.1 - - [01/Jan/2024:08:55:00 +0000] \"GET /a HTTP/1.1\" 200 10
+192.0.2.1 - - [01/Jan/2024:09:10:00 +0000] \"GET /a HTTP/1.1\" 200 10
+
+-----
+0
+id,parent_id,panel,hits,hits%,visitors,visitors%,bytes,bytes%,avgts,cumts,maxts,method,protocol,data
+0,,general,3,,,,,,,,,,,total_requests
+1,,general,3,,,,,,,,,,,valid_requests
+2,,general,0,,,,,,,,,,,failed_requests
+3,,general,0,,,,,,,,,,,excluded_hits
+4,,general,1,,,,,,,,,,,unique_visitors
+5,,general,30,,,,,,,,,,,bandwidth
+0,,visitors,1,33.33,1,100.00,10,33.33,0,0,0,,,2024010109
+1,,visitors,2,66.67,1,100.00,20,66.67,0,0,0,,,2024010108
+0,,requests,3,100.00,1,100.00,30,100.00,0,0,0,GET,HTTP/1.1,/a
+0,,hosts,3,100.00,1,100.00,30,100.00,0,0,0,,,192.0.2.1
+0,,visit_times,2,66.67,1,100.00,20,66.67,0,0,0,,,08
+1,,visit_times,1,33.33,1,100.00,10,33.33,0,0,0,,,09
+0,,status_codes,3,100.00,1,100.00,30,100.00,0,0,0,,,2xx Success
+1,0,status_codes,3,100.00,1,100.00,30,100.00,0,0,0,,,200
+
+=====
+tens of minutes
+-----
+--hour-spec=min|--log-format=COMMON|-o|csv|a.log
+-----
+192.0.2.1 - - [01/Jan/2024:08:05:00 +0000] \"GET /a HTTP/1.1\" 200 10
+192.0.2.1 - - [01/Jan/2024:08:55:00 +0000] \"GET /a HTTP/1.1\" 200 10
+192.0.2.1 - - [01/Jan/2024:09:10:00 +0000] \"GET /a HTTP/1.1\" 200 10
+
+-----
+0
+id,parent_id,panel,hits,hits%,visitors,visitors%,bytes,bytes%,avgts,cumts,maxts,method,protocol,data
+0,,general,3,,,,,,,,,,,total_requests
+1,,general,3,,,,,,,,,,,valid_requests
+2,,general,0,,,,,,,,,,,failed_requests
+3,,general,0,,,,,,,,,,,excluded_hits
+4,,general,1,,,,,,,,,,,unique_visitors
+5,,general,30,,,,,,,,,,,bandwidth
+0,,visitors,3,100.00,1,100.00,30,100.00,0,0,0,,,20240101
+0,,requests,3,100.00,1,100.00,30,100.00,0,0,0,GET,HTTP/1.1,/a
+0,,hosts,3,100.00,1,100.00,30,100.00,0,0,0,,,192.0.2.1
+0,,visit_times,1,33.33,1,100.00,10,33.33,0,0,0,,,08:00
+1,,visit_times,1,33.33,1,100.00,10,33.33,0,0,0,,,08:50
+2,,visit_times,1,33.33,1,100.00,10,33.33,0,0,0,,,09:10
+0,,status_codes,3,100.00,1,100.00,30,100.00,0,0,0,,,2xx Success
+1,0,status_codes,3,100.00,1,100.00,30,100.00,0,0,0,,,200
+
+=====
+minutes of days, in two logs
+-----
+--date-spec|min|--hour-spec|min|--ignore-panel=REQUESTS|--ignore-panel=REQUESTS_STATIC|--ignore-panel=NOT_FOUND|--ignore-panel=HOSTS|--ignore-panel=OS|--ignore-panel=BROWSERS|--ignore-panel=VIRTUAL_HOSTS|--ignore-panel=REFERRERS|--ignore-panel=REFERRING_SITES|--ignore-panel=KEYPHRASES|--ignore-panel=STATUS_CODES|--ignore-panel=REMOTE_USER|--ignore-panel=CACHE_STATUS|--ignore-panel=MIME_TYPE|--ignore-panel=TLS_TYPE|--log-format=COMMON|-o|json|a.log|b.log
+-----
+192.0.2.1 - - [01/Jan/2024:08:05:00 +0000] \"GET /a HTTP/1.1\" 200 10
+192.0.2.1 - - [01/Jan/2024:08:55:00 +0000] \"GET /a HTTP/1.1\" 200 10
+192.0.2.1 - - [01/Jan/2024:09:10:00 +0000] \"GET /a HTTP/1.1\" 200 10
+
++++++
+192.0.2.1 - - [01/Jan/2024:08:05:00 +0000] \"GET /a HTTP/1.1\" 200 10
+192.0.2.1 - - [01/Jan/2024:08:55:00 +0000] \"GET /a HTTP/1.1\" 200 10
+192.0.2.1 - - [01/Jan/2024:09:10:00 +0000] \"GET /a HTTP/1.1\" 200 10
+192.0.2.2 - - [01/Jan/2024:08:55:59 +0000] \"GET /a HTTP/1.1\" 200 10
+192.0.2.1 - - [01/Jan/2024:23:59:60 +0000] \"GET /x HTTP/1.1\" 404 5
+192.0.2.1 - - [02/Jan/2024:08:05:00 +0000] \"GET /a HTTP/1.1\" 200 10
+
+-----
+0
+{\"general\":{\"bandwidth\":85,\"excluded_hits\":0,\"failed_requests\":0,\"total_requests\":9,\"unique_visitors\":3,\"valid_requests\":9},\"visit_times\":{\"data\":[{\"avgts\":0,\"bytes\":{\"count\":30,\"percent\":\"35.29\"},\"cumts\":0,\"data\":\"08:00\",\"hits\":{\"count\":3,\"percent\":\"33.33\"},\"maxts\":0,\"visitors\":{\"count\":2,\"percent\":\"66.67\"}},{\"avgts\":0,\"bytes\":{\"count\":30,\"percent\":\"35.29\"},\"cumts\":0,\"data\":\"08:50\",\"hits\":{\"count\":3,\"percent\":\"33.33\"},\"maxts\":0,\"visitors\":{\"count\":2,\"percent\":\"66.67\"}},{\"avgts\":0,\"bytes\":{\"count\":20,\"percent\":\"23.53\"},\"cumts\":0,\"data\":\"09:10\",\"hits\":{\"count\":2,\"percent\":\"22.22\"},\"maxts\":0,\"visitors\":{\"count\":1,\"percent\":\"33.33\"}},{\"avgts\":0,\"bytes\":{\"count\":5,\"percent\":\"5.88\"},\"cumts\":0,\"data\":\"23:50\",\"hits\":{\"count\":1,\"percent\":\"11.11\"},\"maxts\":0,\"visitors\":{\"count\":0,\"percent\":\"0.00\"}}]},\"visitors\":{\"data\":[{\"avgts\":0,\"bytes\":{\"count\":10,\"percent\":\"11.76\"},\"cumts\":0,\"data\":\"202401020805\",\"hits\":{\"count\":1,\"percent\":\"11.11\"},\"maxts\":0,\"visitors\":{\"count\":1,\"percent\":\"33.33\"}},{\"avgts\":0,\"bytes\":{\"count\":5,\"percent\":\"5.88\"},\"cumts\":0,\"data\":\"202401012359\",\"hits\":{\"count\":1,\"percent\":\"11.11\"},\"maxts\":0,\"visitors\":{\"count\":0,\"percent\":\"0.00\"}},{\"avgts\":0,\"bytes\":{\"count\":20,\"percent\":\"23.53\"},\"cumts\":0,\"data\":\"202401010910\",\"hits\":{\"count\":2,\"percent\":\"22.22\"},\"maxts\":0,\"visitors\":{\"count\":1,\"percent\":\"33.33\"}},{\"avgts\":0,\"bytes\":{\"count\":30,\"percent\":\"35.29\"},\"cumts\":0,\"data\":\"202401010855\",\"hits\":{\"count\":3,\"percent\":\"33.33\"},\"maxts\":0,\"visitors\":{\"count\":2,\"percent\":\"66.67\"}},{\"avgts\":0,\"bytes\":{\"count\":20,\"percent\":\"23.53\"},\"cumts\":0,\"data\":\"202401010805\",\"hits\":{\"count\":2,\"percent\":\"22.22\"},\"maxts\":0,\"visitors\":{\"count\":1,\"percent\":\"33.33\"}}]}}
+
+=====
+days by their own name, and hours by theirs
+-----
+--date-spec=date|--hour-spec=hr|--ignore-panel=REQUESTS|--ignore-panel=REQUESTS_STATIC|--ignore-panel=NOT_FOUND|--ignore-panel=HOSTS|--ignore-panel=OS|--ignore-panel=BROWSERS|--ignore-panel=VIRTUAL_HOSTS|--ignore-panel=REFERRERS|--ignore-panel=REFERRING_SITES|--ignore-panel=KEYPHRASES|--ignore-panel=STATUS_CODES|--ignore-panel=REMOTE_USER|--ignore-panel=CACHE_STATUS|--ignore-panel=MIME_TYPE|--ignore-panel=TLS_TYPE|--log-format=COMMON|-o|csv|a.log
+-----
+192.0.2.1 - - [01/Jan/2024:08:05:00 +0000] \"GET /a HTTP/1.1\" 200 10
+192.0.2.1 - - [01/Jan/2024:08:55:00 +0000] \"GET /a HTTP/1.1\" 200 10
+192.0.2.1 - - [01/Jan/2024:09:10:00 +0000] \"GET /a HTTP/1.1\" 200 10
+192.0.2.2 - - [01/Jan/2024:08:55:59 +0000] \"GET /a HTTP/1.1\" 200 10
+192.0.2.1 - - [01/Jan/2024:23:59:60 +0000] \"GET /x HTTP/1.1\" 404 5
+192.0.2.1 - - [02/Jan/2024:08:05:00 +0000] \"GET /a HTTP/1.1\" 200 10
+
+-----
+0
+id,parent_id,panel,hits,hits%,visitors,visitors%,bytes,bytes%,avgts,cumts,maxts,method,protocol,data
+0,,general,6,,,,,,,,,,,total_requests
+1,,general,6,,,,,,,,,,,valid_requests
+2,,general,0,,,,,,,,,,,failed_requests
+3,,general,0,,,,,,,,,,,excluded_hits
+4,,general,3,,,,,,,,,,,unique_visitors
+5,,general,55,,,,,,,,,,,bandwidth
+0,,visitors,1,16.67,1,33.33,10,18.18,0,0,0,,,20240102
+1,,visitors,5,83.33,2,66.67,45,81.82,0,0,0,,,20240101
+0,,visit_times,4,66.67,3,100.00,40,72.73,0,0,0,,,08
+1,,visit_times,1,16.67,1,33.33,10,18.18,0,0,0,,,09
+2,,visit_times,1,16.67,0,0.00,5,9.09,0,0,0,,,23
+
+=====
+the last word on days, hours and minutes
+-----
+--date-spec=min|--hour-spec=min|--date-spec=hr|--hour-spec=hr|--ignore-panel=REQUESTS|--ignore-panel=REQUESTS_STATIC|--ignore-panel=NOT_FOUND|--ignore-panel=HOSTS|--ignore-panel=OS|--ignore-panel=BROWSERS|--ignore-panel=VIRTUAL_HOSTS|--ignore-panel=REFERRERS|--ignore-panel=REFERRING_SITES|--ignore-panel=KEYPHRASES|--ignore-panel=STATUS_CODES|--ignore-panel=REMOTE_USER|--ignore-panel=CACHE_STATUS|--ignore-panel=MIME_TYPE|--ignore-panel=TLS_TYPE|--log-format=COMMON|-o|csv|a.log
+-----
+192.0.2.1 - - [01/Jan/2024:08:05:00 +0000] \"GET /a HTTP/1.1\" 200 10
+192.0.2.1 - - [01/Jan/2024:08:55:00 +0000] \"GET /a HTTP/1.1\" 200 10
+192.0.2.1 - - [01/Jan/2024:09:10:00 +0000] \"GET /a HTTP/1.1\" 200 10
+192.0.2.2 - - [01/Jan/2024:08:55:59 +0000] \"GET /a HTTP/1.1\" 200 10
+192.0.2.1 - - [01/Jan/2024:23:59:60 +0000] \"GET /x HTTP/1.1\" 404 5
+192.0.2.1 - - [02/Jan/2024:08:05:00 +0000] \"GET /a HTTP/1.1\" 200 10
+
+-----
+0
+id,parent_id,panel,hits,hits%,visitors,visitors%,bytes,bytes%,avgts,cumts,maxts,method,protocol,data
+0,,general,6,,,,,,,,,,,total_requests
+1,,general,6,,,,,,,,,,,valid_requests
+2,,general,0,,,,,,,,,,,failed_requests
+3,,general,0,,,,,,,,,,,excluded_hits
+4,,general,3,,,,,,,,,,,unique_visitors
+5,,general,55,,,,,,,,,,,bandwidth
+0,,visitors,1,16.67,1,33.33,10,18.18,0,0,0,,,2024010208
+1,,visitors,1,16.67,0,0.00,5,9.09,0,0,0,,,2024010123
+2,,visitors,1,16.67,1,33.33,10,18.18,0,0,0,,,2024010109
+3,,visitors,3,50.00,2,66.67,30,54.55,0,0,0,,,2024010108
+0,,visit_times,4,66.67,3,100.00,40,72.73,0,0,0,,,08
+1,,visit_times,1,16.67,1,33.33,10,18.18,0,0,0,,,09
+2,,visit_times,1,16.67,0,0.00,5,9.09,0,0,0,,,23
+
+=====
+one hour of many
+-----
+--date-spec=hr|--hour-spec=min|--max-items=1|--ignore-panel=REQUESTS|--ignore-panel=REQUESTS_STATIC|--ignore-panel=NOT_FOUND|--ignore-panel=HOSTS|--ignore-panel=OS|--ignore-panel=BROWSERS|--ignore-panel=VIRTUAL_HOSTS|--ignore-panel=REFERRERS|--ignore-panel=REFERRING_SITES|--ignore-panel=KEYPHRASES|--ignore-panel=STATUS_CODES|--ignore-panel=REMOTE_USER|--ignore-panel=CACHE_STATUS|--ignore-panel=MIME_TYPE|--ignore-panel=TLS_TYPE|--log-format=COMMON|-o|csv|a.log
+-----
+192.0.2.1 - - [01/Jan/2024:08:05:00 +0000] \"GET /a HTTP/1.1\" 200 10
+192.0.2.1 - - [01/Jan/2024:08:55:00 +0000] \"GET /a HTTP/1.1\" 200 10
+192.0.2.1 - - [01/Jan/2024:09:10:00 +0000] \"GET /a HTTP/1.1\" 200 10
+192.0.2.2 - - [01/Jan/2024:08:55:59 +0000] \"GET /a HTTP/1.1\" 200 10
+192.0.2.1 - - [01/Jan/2024:23:59:60 +0000] \"GET /x HTTP/1.1\" 404 5
+192.0.2.1 - - [02/Jan/2024:08:05:00 +0000] \"GET /a HTTP/1.1\" 200 10
+
+-----
+0
+id,parent_id,panel,hits,hits%,visitors,visitors%,bytes,bytes%,avgts,cumts,maxts,method,protocol,data
+0,,general,6,,,,,,,,,,,total_requests
+1,,general,6,,,,,,,,,,,valid_requests
+2,,general,0,,,,,,,,,,,failed_requests
+3,,general,0,,,,,,,,,,,excluded_hits
+4,,general,3,,,,,,,,,,,unique_visitors
+5,,general,55,,,,,,,,,,,bandwidth
+0,,visitors,1,16.67,1,33.33,10,18.18,0,0,0,,,2024010208
+0,,visit_times,2,33.33,2,66.67,20,36.36,0,0,0,,,08:00
+
+=====
+hours where VISITORS isn't shown
+-----
+--date-spec=hr|--ignore-panel=VISITORS|--ignore-panel=REQUESTS|--ignore-panel=REQUESTS_STATIC|--ignore-panel=NOT_FOUND|--ignore-panel=OS|--ignore-panel=BROWSERS|--ignore-panel=VIRTUAL_HOSTS|--ignore-panel=REFERRERS|--ignore-panel=REFERRING_SITES|--ignore-panel=KEYPHRASES|--ignore-panel=STATUS_CODES|--ignore-panel=REMOTE_USER|--ignore-panel=CACHE_STATUS|--ignore-panel=MIME_TYPE|--ignore-panel=TLS_TYPE|--log-format=COMMON|-o|csv|a.log
+-----
+192.0.2.1 - - [01/Jan/2024:08:05:00 +0000] \"GET /a HTTP/1.1\" 200 10
+192.0.2.1 - - [01/Jan/2024:08:55:00 +0000] \"GET /a HTTP/1.1\" 200 10
+192.0.2.1 - - [01/Jan/2024:09:10:00 +0000] \"GET /a HTTP/1.1\" 200 10
+192.0.2.2 - - [01/Jan/2024:08:55:59 +0000] \"GET /a HTTP/1.1\" 200 10
+192.0.2.1 - - [01/Jan/2024:23:59:60 +0000] \"GET /x HTTP/1.1\" 404 5
+192.0.2.1 - - [02/Jan/2024:08:05:00 +0000] \"GET /a HTTP/1.1\" 200 10
+
+-----
+0
+id,parent_id,panel,hits,hits%,visitors,visitors%,bytes,bytes%,avgts,cumts,maxts,method,protocol,data
+0,,general,6,,,,,,,,,,,total_requests
+1,,general,6,,,,,,,,,,,valid_requests
+2,,general,0,,,,,,,,,,,failed_requests
+3,,general,0,,,,,,,,,,,excluded_hits
+4,,general,3,,,,,,,,,,,unique_visitors
+5,,general,55,,,,,,,,,,,bandwidth
+0,,hosts,5,83.33,2,66.67,45,81.82,0,0,0,,,192.0.2.1
+1,,hosts,1,16.67,1,33.33,10,18.18,0,0,0,,,192.0.2.2
+0,,visit_times,4,66.67,3,100.00,40,72.73,0,0,0,,,08
+1,,visit_times,1,16.67,1,33.33,10,18.18,0,0,0,,,09
+2,,visit_times,1,16.67,0,0.00,5,9.09,0,0,0,,,23
+
+=====
+hours of lines without a time of day
+-----
+--log-format=%h %^[%d:%^] \"%r\" %s %b|--date-spec=hr|--hour-spec=min|-o|csv|a.log
+-----
+192.0.2.1 - - [01/Jan/2024:08:05:00 +0000] \"GET /a HTTP/1.1\" 200 10
+192.0.2.1 - - [01/Jan/2024:08:55:00 +0000] \"GET /a HTTP/1.1\" 200 10
+192.0.2.1 - - [01/Jan/2024:09:10:00 +0000] \"GET /a HTTP/1.1\" 200 10
+
+-----
+0
+id,parent_id,panel,hits,hits%,visitors,visitors%,bytes,bytes%,avgts,cumts,maxts,method,protocol,data
+0,,general,3,,,,,,,,,,,total_requests
+1,,general,3,,,,,,,,,,,valid_requests
+2,,general,0,,,,,,,,,,,failed_requests
+3,,general,0,,,,,,,,,,,excluded_hits
+4,,general,1,,,,,,,,,,,unique_visitors
+5,,general,30,,,,,,,,,,,bandwidth
+0,,requests,3,100.00,1,100.00,30,100.00,0,0,0,GET,HTTP/1.1,/a
+0,,hosts,3,100.00,1,100.00,30,100.00,0,0,0,,,192.0.2.1
+0,,status_codes,3,100.00,1,100.00,30,100.00,0,0,0,,,2xx Success
+1,0,status_codes,3,100.00,1,100.00,30,100.00,0,0,0,,,200
+
+=====
+minutes of the generator's lines
+-----
+--generate=50|--date-spec=min|--hour-spec=min
+-----
+
+-----
+0
+generated 50
+valid 50
+failed 0
+visitors 45
+bandwidth 1225
+report e36d76c464f62a679f85cfc45c993601323c5463dab18443b10c4e5bab422335
+
+=====
 the last of several outputs
 -----
 --log-format=COMMON|-o|json|--db-path=x|--output|csv|--ignore-panel=VISITORS|--ignore-panel=REQUESTS|--ignore-panel=REQUESTS_STATIC|--ignore-panel=NOT_FOUND|--ignore-panel=OS|--ignore-panel=BROWSERS|--ignore-panel=VISIT_TIMES|--ignore-panel=VIRTUAL_HOSTS|--ignore-panel=REFERRERS|--ignore-panel=REFERRING_SITES|--ignore-panel=KEYPHRASES|--ignore-panel=STATUS_CODES|--ignore-panel=REMOTE_USER|--ignore-panel=CACHE_STATUS|--ignore-panel=MIME_TYPE|--ignore-panel=TLS_TYPE|a.log

@@ -1,5 +1,5 @@
 -- The lines of the tests may be counted.
-use Rattle.std.proofs.Common.{◌≡◌, ℕ, ◌+◌, ◌≤◌, Bool, true, false, cond, List, [], ◌∷◌, Option, refl, sym, ◌∙◌, arith}
+use Rattle.std.proofs.Common.{◌≡◌, ℕ, ◌+◌, ◌≤◌, Bool, true, false, cond, List, [], ◌∷◌, Option, refl, sym, ◌∙◌, inl, arith}
 use Rattle.std.specs.List.Sorted.{IsStrictlySortedBy}
 use Rattle.std.specs.Option.{ForSome}
 use Rattle.std.proofs.lemmas.List.Elements.{All-from_recursion}
@@ -31,8 +31,8 @@ may_count label by bytes micros dated b m = record {
   rising = rising label;
   dated = All-from_recursion (λ (key : Key). key.date ≡ TEST_DAY) (day_key TEST_DAY ∷ host_key label ∷ []) (refl, (refl, tt));
   formed = All-from_recursion HasForm (day_key TEST_DAY ∷ host_key label ∷ []) (
-    record { date = (omega arith, omega arith); parent = (λ _. refl, λ _. refl); label = λ _. refl; request = λ _. (refl, refl) },
-    (record { date = (omega arith, omega arith); parent = (λ _. refl, λ _. refl); label = λ e. absurd (Visitors≢Hosts (sym e)); request = λ _. (refl, refl) }, tt),
+    record { date = (omega arith, omega arith); visit = λ _. inl (refl, refl); parent = λ other. absurd (other refl); request = λ _. (refl, refl) },
+    (record { date = (omega arith, omega arith); visit = λ e. absurd (Visitors≢Hosts (sym e)); parent = λ _. (λ _. refl, λ _. refl); request = λ _. (refl, refl) }, tt),
   );
   day = (0, omega arith, refl);
   layers = λ layer. at_most_one (in_layer layer (day_key TEST_DAY)) (in_layer layer (host_key label)) (λ p q. Visitors≢Hosts (same_panel Visitors layer.panel (both_true _ _ p).0 ∙ sym (same_panel Hosts layer.panel (both_true _ _ q).0)));

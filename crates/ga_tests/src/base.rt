@@ -2,7 +2,10 @@
 
 ghost use Rattle.std.specs.Prelude.{◌≡◌, ◌<◌};
 
-use ga_base::{BIG, Bytes, Counter, LIMIT, NoMemory, Panel, PanelSet, Steps, Text, Texts};
+use ga_base::{
+    BIG, Bytes, Counter, DateSpec, HourSpec, Key, LIMIT, NoMemory, Panel, PanelSet, Steps, Text,
+    Texts,
+};
 use std::alloc::Global;
 use std::sync::ledger::{Blank, Ledger};
 
@@ -26,6 +29,12 @@ pub const PANELS: [Panel; 17] = [
     Panel::MimeType,
     Panel::TlsType,
 ];
+
+/// How finely days are told.
+pub const DATE_SPECS: [DateSpec; 3] = [DateSpec::Date, DateSpec::Hour, DateSpec::Minute];
+
+/// How finely the time of the day is told.
+pub const HOUR_SPECS: [HourSpec; 2] = [HourSpec::Hour, HourSpec::Tens];
 
 /// The counters that can be full.
 pub const COUNTERS: [Counter; 4] = [
@@ -73,6 +82,11 @@ pub fn push(texts: &mut Texts, text: Text) -> Result<(), NoMemory> {
 /// The items of a list.
 pub fn items(texts: &Texts) -> &[Text] {
     texts.items()
+}
+
+/// Whether a key is a day's.
+pub fn is_day(key: &Key) -> bool {
+    key.is_day()
 }
 
 /// All panels.

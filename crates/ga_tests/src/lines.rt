@@ -3,7 +3,10 @@
 ghost use Rattle.ga_panels.specs.Facts.{CanHaveKeys};
 
 use ga_agents::Rules;
-use ga_base::{Key, Keys, Line, NoMemory, Panel, PanelSet, Record, Statuses, Text, Texts, Visitor};
+use ga_base::{
+    DateSpec, HourSpec, Key, Keys, Line, NoMemory, Panel, PanelSet, Record, Statuses, Text, Texts,
+    Visitor,
+};
 use ga_dates::{DateFormat, TimeFormat};
 use ga_format::Format;
 use ga_hosts::Ranges;
@@ -42,6 +45,8 @@ pub fn panel_setup(
         panels,
         count_4xx: false,
         as_404: false,
+        date_spec: DateSpec::Date,
+        hour_spec: HourSpec::Hour,
     }
 }
 

@@ -8,15 +8,19 @@ ghost use Rattle.ga_summary.specs.Outcomes.{hit_of};
 ghost use Rattle.ga_summary.specs.Sound.{IsCountable};
 
 use ga_base::{
-    Amounts, Bytes, Counter, Key, Keys, Name, Names, NoMemory, PanelSet, Record, Sums, Text,
-    Totals, Visitor,
+    Amounts, Bytes, Counter, DateSpec, Key, Keys, Name, Names, NoMemory, PanelSet, Record, Sums,
+    Text, Totals, Visitor,
 };
 use ga_print::{csv, json};
 use ga_report::{
-    General, Item, Items, PanelList, PanelLists, Report, Row, RowList, hundredths, rows,
+    General, Item, Items, PanelList, PanelLists, Report, Row, RowList, RowSource, hundredths, rows,
+    rows_from,
 };
-use ga_summary::{MergeFault, NotSound, PartRow, PartRows, RowView, Summary, SummaryParts};
+use ga_summary::{
+    MergeFault, NotSound, PartRow, PartRows, RowView, Summary, SummaryParts, totals_fit,
+};
 use std::alloc::Global;
+use std::thread::Threads;
 
 /// The faults of parts.
 pub const SUM_FAULTS: [NotSound; 2] = [NotSound::NotSound { at: 0 }, NotSound::NoMemory];
@@ -52,6 +56,11 @@ pub fn totals_of_one() -> Totals {
         bytes: 0,
         micros: 0,
     }
+}
+
+/// Whether no counter of totals is above the limit.
+pub fn fit(totals: Totals) -> bool {
+    totals_fit(totals)
 }
 
 /// A row of one hit.
@@ -138,6 +147,16 @@ pub fn merge(sum: &mut Summary, other: &Summary) -> Result<(), MergeFault> {
     sum.merge(other)
 }
 
+/// The sum of two.
+pub fn join(sum: Summary, other: Summary) -> Result<Summary, MergeFault> {
+    sum.join(other)
+}
+
+/// Keeps its last days.
+pub fn trim(sum: &mut Summary, keep: u32) {
+    sum.trim(keep)
+}
+
 /// A copy.
 pub fn copy(sum: &Summary) -> Result<Summary, NoMemory> {
     sum.copy()
@@ -149,8 +168,22 @@ pub fn report(
     sum: &Summary,
     panels: &PanelSet,
     max_items: u64,
+    spec: DateSpec,
 ) -> Result<Report, NoMemory> {
-    rows(alloc, sum, panels, max_items)
+    rows(alloc, sum, panels, max_items, spec)
+}
+
+/// The report on rows from elsewhere.
+pub fn report_from<R: Threads + Sync, T: RowSource + Sync>(
+    rt: &R,
+    alloc: Global,
+    source: &T,
+    panels: &PanelSet,
+    max_items: u64,
+    spec: DateSpec,
+    jobs: u32,
+) -> Result<Report, NoMemory> {
+    rows_from(rt, alloc, source, panels, max_items, spec, jobs)
 }
 
 /// The general numbers of a report.

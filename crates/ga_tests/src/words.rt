@@ -30,6 +30,8 @@ pub fn logs_of(settings: &Settings) -> usize {
         ignore_crawlers: _,
         ignore_status: _,
         panels: _,
+        date_spec: _,
+        hour_spec: _,
         no_ip_validation: _,
         strict_status: _,
         count_4xx: _,
