@@ -80,7 +80,7 @@ def date_text(rng, pieces):
     if rng.random() < 0.08:
         year, month, day = rng.choice([(2024, 2, 29), (2023, 2, 29), (1900, 2, 29), (2000, 2, 29), (999, 1, 1), (9999, 12, 31), (2024, 4, 31), (2024, 0, 1),
                                        (2024, 13, 1), (2024, 1, 0), (2024, 1, 32), (0, 1, 1)])
-    hour, minute, second = rng.choice([0, 8, 9, 23]), rng.choice([0, 5, 59]), rng.choice([0, 9, 59, 60])
+    hour, minute, second = rng.choice([0, 8, 9, 23]), rng.choice([0, 5, 9, 10, 49, 50, 59]), rng.choice([0, 9, 59, 60])
     if rng.random() < 0.03:
         hour, minute, second = rng.choice([(24, 0, 0), (0, 60, 0), (0, 0, 61), (99, 99, 99)])
     out = bytearray()
@@ -307,6 +307,17 @@ def option(rng):
     return name, rng.choice(wrong if bad else good), False
 
 
+SPECS = {b"--date-spec": [b"date", b"hr", b"hr", b"min", b"min"], b"--hour-spec": [b"hr", b"min", b"min"]}
+BAD_SPECS = [b"", b"day", b"HR", b"hour", b"minute", b"hr ", b"min=", b"dat", b"1"]
+
+
+def finer(rng):
+    """What VISITORS and VISIT_TIMES count by, in a third of the runs each."""
+    for name, values in SPECS.items():
+        if rng.random() < 0.35:
+            yield spelt(rng, name, pick(rng, values, BAD_SPECS if name == b"--date-spec" else [*BAD_SPECS, b"date"], 0.02))
+
+
 def spelt(rng, name, value, flag_with_value=False):
     if value is None:
         return [name + rng.choice([b"=", b"=1"])] if flag_with_value else [name]
@@ -327,6 +338,7 @@ def settings(rng, text, date, time):
         units.append(spelt(rng, rng.choice([b"-o", b"-o", b"--output"]), output))
     for _ in range(rng.choice([0, 1, 1, 2, 3, 5, 8])):
         units.append(spelt(rng, *option(rng)))
+    units += finer(rng)
     if rng.random() < 0.25:
         keep = rng.sample(oracle.PANELS, rng.randint(0, 4))
         units += [[b"--ignore-panel=" + panel] for panel in oracle.PANELS if panel not in keep]

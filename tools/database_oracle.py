@@ -428,6 +428,9 @@ def self_test():
     long_entry = by_hand("#2 0088 " + hashlib.sha256(ended).hexdigest() + " #136 1000 a2e659dacb4691e887ac0139f8893d04764ee197d70fb73d3190d56113d18e3e #5001")
     check("a long log", entries_bytes(db.entries), long_entry)
     check("two days after one", [key[1] for key in sorted(db.summary.rows) if key[0] == 5], [20240101])
+    fine = Database()
+    over(fine, "--persist --date-spec=hr a.log", {b"a.log": ended})
+    check("a day and an hour", [key[1:4] for key in sorted(fine.summary.rows) if key[0] == 1], [(20240101, b"", b"20240101"), (20240101, b"20240101", b"2024010100")])
     torn = db.sides[1][: db.slot] + b"\x37" + b"torn" * 200
     db.sides[1] = torn
     over(db, tracked, {b"a.log": ended})

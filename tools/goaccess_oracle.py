@@ -17,6 +17,7 @@ import copy
 import hashlib
 import json
 import os
+import re
 import stat
 import sys
 
@@ -201,6 +202,8 @@ class Settings:
         self.ignore_crawlers = False
         self.ignore_status = set()
         self.panels = set(PANELS)
+        self.date_spec = b"date"
+        self.hour_spec = b"hr"
         self.no_ip_validation = False
         self.strict_status = True
         self.count_4xx = False
@@ -229,6 +232,12 @@ def number_in(value, low, high):
 
 def name_in(value):
     if value == b"":
+        raise BadValue
+    return value
+
+
+def one_of(value, *texts):
+    if value not in texts:
         raise BadValue
     return value
 
@@ -275,6 +284,8 @@ VALUED = {
     b"--ignore-status": take_status,
     b"--ignore-panel": lambda s, v: take_panel(s, v, False),
     b"--enable-panel": lambda s, v: take_panel(s, v, True),
+    b"--date-spec": lambda s, v: setattr(s, "date_spec", one_of(v, b"date", b"hr", b"min")),
+    b"--hour-spec": lambda s, v: setattr(s, "hour_spec", one_of(v, b"hr", b"min")),
     b"--max-items": lambda s, v: setattr(s, "max_items", number_in(v, 1, 4_294_967_295)),
     b"--jobs": lambda s, v: setattr(s, "jobs", number_in(v, 1, 16)),
     b"--chunk-size": lambda s, v: setattr(s, "chunk", number_in(v, 1, 32_768)),
@@ -807,9 +818,26 @@ def read_line(setup, line):
 # ------------------------------------------------------------------------------------------------ counting
 
 
+def part_of_day(s, rec):
+    """The digits of the record's hour, or of its hour and minute; none where days are counted, or without a time."""
+    if s.date_spec == b"date" or rec.minute is None:
+        return b""
+    hour, minute = divmod(rec.minute, 60)
+    return b"%02d" % hour if s.date_spec == b"hr" else b"%02d%02d" % (hour, minute)
+
+
+def time_of_day(s, rec):
+    """The record's hour, or its tens of minutes."""
+    hour, minute = divmod(rec.minute, 60)
+    return b"%02d" % hour if s.hour_spec == b"hr" else b"%02d:%d0" % (hour, minute // 10)
+
+
 def keys_of(s, rules, rec):
     """The panel, parent, data, method and protocol of each key but those of parents alone; the date is the record's."""
-    keys = [(b"VISITORS", b"", num(rec.date), b"", b"")]
+    day, part = num(rec.date), part_of_day(s, rec)
+    keys = [(b"VISITORS", b"", day, b"", b"")]
+    if part:
+        keys.append((b"VISITORS", day, day + part, b"", b""))
 
     def key(panel, data, parent=b"", method=b"", protocol=b""):
         if panel in s.panels:
@@ -824,7 +852,7 @@ def keys_of(s, rules, rec):
         key(b"OS", system, group)
         key(b"BROWSERS", browser, category)
     if rec.minute is not None:
-        key(b"VISIT_TIMES", b"%02d" % (rec.minute // 60))
+        key(b"VISIT_TIMES", time_of_day(s, rec))
     for panel, value in ((b"VIRTUAL_HOSTS", rec.vhost), (b"REFERRERS", rec.referrer),
                          (b"REFERRING_SITES", referring_site(rec.referrer)), (b"KEYPHRASES", keyphrase(rec.referrer)),
                          (b"REMOTE_USER", rec.user), (b"CACHE_STATUS", rec.cache), (b"TLS_TYPE", rec.tls)):
@@ -872,7 +900,8 @@ class Summary:
     def __init__(self):
         self.lines = self.failed = self.excluded = self.bytes = self.micros = 0
         self.all = Sums()
-        self.rows = {panel: {} for panel in PANELS}  # (parent or data, method, protocol) -> (Sums, children)
+        # (parent or data, method, protocol) -> (Sums, children); of VISITORS (data, method, protocol), for days and parts of days
+        self.rows = {panel: {} for panel in PANELS}
 
     def count(self, s, rules, setup, line):
         found = outcome_of(s, rules, setup, line)
@@ -921,13 +950,25 @@ def ordered(panel, rows, most):
     return [(name, *rows[name]) for name in names[:most]]
 
 
+# how long the data of VISITORS is that a report shows
+SHOWN = {b"date": 8, b"hr": 10, b"min": 12}
+
+
+def shown_rows(s, summary, panel):
+    """The rows of a panel that a report may show."""
+    rows = summary.rows[panel]
+    if panel != b"VISITORS":
+        return rows
+    return {name: row for name, row in rows.items() if len(name[0]) == SHOWN[s.date_spec]}
+
+
 def report_of(s, summary):
     """The general numbers, and for each panel shown its rows, each with its children."""
     general = [(b"total_requests", summary.lines), (b"valid_requests", summary.all.hits), (b"failed_requests", summary.failed),
                (b"excluded_hits", summary.excluded), (b"unique_visitors", len(summary.all.visitors)),
                (b"bandwidth", summary.all.bytes)]
     panels = [(panel, [(name, sums, ordered(panel, children, s.max_items))
-                       for name, sums, children in ordered(panel, summary.rows[panel], s.max_items)])
+                       for name, sums, children in ordered(panel, shown_rows(s, summary, panel), s.max_items)])
               for panel in PANELS if panel in s.panels]
     return general, panels, summary.all
 
@@ -1163,8 +1204,8 @@ def main(words):
 # ------------------------------------------------------------------------------------------------ self-test
 
 
-def line_of(url, status, size, date=b"01/Jan/2024", host=b"192.0.2.1", end=b"\n"):
-    return host + b" - - [" + date + b':00:00:00 +0000] "GET ' + url + b' HTTP/1.1" ' + num(status) + b" " + size + end
+def line_of(url, status, size, date=b"01/Jan/2024", host=b"192.0.2.1", end=b"\n", clock=b"00:00:00"):
+    return host + b" - - [" + date + b":" + clock + b' +0000] "GET ' + url + b' HTTP/1.1" ' + num(status) + b" " + size + end
 
 
 ONE_LINE = b"""id,parent_id,panel,hits,hits%,visitors,visitors%,bytes,bytes%,avgts,cumts,maxts,method,protocol,data
@@ -1346,6 +1387,34 @@ def self_test():
     one = [b"--ignore-panel=HOSTS", b"--enable-panel=HOSTS"]
     check("a panel shown", b",hosts," in shows("panels", [*one, *common], {b"a.log": a}), True)
     check("a panel not shown", b",hosts," in shows("panels", [*one[::-1], *common], {b"a.log": a}), False)
+
+    # days, hours and minutes
+    def visitors(out):
+        return re.findall(rb"^\d+,,visitors,(.*)$", out, re.M)
+
+    day = b"".join(line_of(b"/a", 200, b"10", clock=clock) for clock in (b"08:05:00", b"08:55:00", b"09:10:00"))
+    fine = [b"0,,visitors,1,33.33,1,100.00,10,33.33,0,0,0,,,2024010109", b"1,,visitors,2,66.67,1,100.00,20,66.67,0,0,0,,,2024010108"]
+    out = shows("hours of a day", [b"--date-spec=hr", *common], {b"a.log": day}, *fine)
+    check("hours of a day, general", general(out), [3, 3, 0, 0, 1, 30])
+    check("hours of a day, rows", len(visitors(out)), 2)
+    out = shows("minutes of a day", [b"--date-spec", b"min", *common], {b"a.log": day})
+    check("minutes of a day, rows", [row[-12:] for row in visitors(out)], [b"20240101" + part for part in (b"0910", b"0855", b"0805")])
+    shows("tens of minutes", [b"--hour-spec=min", *common], {b"a.log": day},
+          *(b"%d,,visit_times,1,33.33,1,100.00,10,33.33,0,0,0,,,%s" % place for place in enumerate((b"08:00", b"08:50", b"09:10"))))
+    for text in ("--date-spec=day", "--date-spec=HR", "--hour-spec=date", "--date-spec="):
+        refused("words", words(text), 1, b"word 0: bad value")
+    refused("words", words("--hour-spec"), 1, b"word 0: value missing")
+    untimed = [b'--log-format=%h %^[%d:%^] "%r" %s %b', b"--date-spec=hr", b"-o", b"csv", b"a.log"]
+    out = shows("no time of day", untimed, {b"a.log": day})
+    check("no time of day, rows", (general(out), visitors(out)), ([3, 3, 0, 0, 1, 30], []))
+    db = Database()
+    whole = general(run([*tracked, b"a.log"], {b"a.log": day}, db)[1])
+    out = run(words("-o csv --restore --date-spec=hr"), {}, db)[1]
+    check("kept days, shown by hours", (general(out), visitors(out)), (whole, []))
+    out = run([*tracked, b"--date-spec=hr", b"b.log"], {b"b.log": line_of(b"/b", 200, b"20", clock=b"08:59:00")}, db)[1]
+    check("kept days and hours", (general(out), visitors(out)), ([4, 4, 0, 0, 1, 50], [b"1,25.00,1,100.00,20,40.00,0,0,0,,,2024010108"]))
+    out = run(words("-o csv --restore"), {}, db)[1]
+    check("kept days and hours, shown by days", visitors(out), [b"4,100.00,1,100.00,50,100.00,0,0,0,,,20240101"])
 
     # odd cases
     for text, said in {"%h %h%d": "log format, byte 3: repeated", "%h%h": "log format, byte 0: no delimiter",

@@ -78,6 +78,10 @@ EVERY_LOG = '''www.example.org alice HIT 192.0.2.1 [2024-01-01 08:05:09] GET /a 
 - - - 192.0.2.1 [2024-01-01 08:05:10] get /b.css ?y HTTP/9 200 10 "" "" - - -
 www.example.org bob MISS ::1 [2024-01-01 09:00:00] HEAD /c - HTTP/2 204 0 "-" "-" TLSv1.2 /x 500
 '''
+# times of one day, and of the next
+MOMENTS = line(clock="08:05:00") + line(clock="08:55:00") + line(clock="09:10:00")
+MORE_MOMENTS = MOMENTS + line(clock="08:55:59", host="192.0.2.2") + line("/x", 404, "5", clock="23:59:60") + line(date="02/Jan/2024", clock="08:05:00")
+TIMES = only("VISITORS", "VISIT_TIMES")
 FAULTS = [
     ("an option that there isn't", ["--bogus"], {}),
     ("an option without its value", ["--jobs"], {}),
@@ -87,6 +91,11 @@ FAULTS = [
     ("an empty word", [""], {}),
     ("nothing to read", ["-o", "csv"], {}),
     ("words that can't stand together", ["--generate=5", "--persist"], {}),
+    ("days under another name", ["--date-spec=day"], {}),
+    ("hours in capitals, in the word after its option", ["--date-spec", "HR", "a"], {}),
+    ("no word for what VISITORS counts by", ["--date-spec=", "a"], {}),
+    ("days for what VISIT_TIMES counts by", ["--hour-spec=date", "a"], {}),
+    ("nothing after what VISIT_TIMES counts by", ["--hour-spec"], {}),
     ("a format of the generator's lines without a date", ["--generate=2", "--log-format=%h"], {}),
 ]
 
@@ -153,6 +162,15 @@ OVER_WORDS = [
     of("a line of a browsers file that is no rule", ["--browsers-file=agents.txt", *CSV], A, None, "# x\nFoo\n"),
     of("virtual hosts", ["--log-format=VCOMMON", *only("VIRTUAL_HOSTS"), "-o", "csv", "a.log"], VHOSTS),
     of("every field", [EVERY, "--date-format=%Y-%m-%d", "--time-format= %H:%M:%S", "--output=csv", "a.log"], EVERY_LOG),
+    of("hours of a day", ["--date-spec=hr", *CSV], MOMENTS),
+    of("tens of minutes", ["--hour-spec=min", *CSV], MOMENTS),
+    of("minutes of days, in two logs", ["--date-spec", "min", "--hour-spec", "min", *TIMES, COMMON, "-o", "json", "a.log", "b.log"], MOMENTS, MORE_MOMENTS),
+    of("days by their own name, and hours by theirs", ["--date-spec=date", "--hour-spec=hr", *TIMES, *CSV], MORE_MOMENTS),
+    of("the last word on days, hours and minutes", ["--date-spec=min", "--hour-spec=min", "--date-spec=hr", "--hour-spec=hr", *TIMES, *CSV], MORE_MOMENTS),
+    of("one hour of many", ["--date-spec=hr", "--hour-spec=min", "--max-items=1", *TIMES, *CSV], MORE_MOMENTS),
+    of("hours where VISITORS isn't shown", ["--date-spec=hr", *only("HOSTS", "VISIT_TIMES"), *CSV], MORE_MOMENTS),
+    of("hours of lines without a time of day", ['--log-format=%h %^[%d:%^] "%r" %s %b', "--date-spec=hr", "--hour-spec=min", "-o", "csv", "a.log"], MOMENTS),
+    of("minutes of the generator's lines", ["--generate=50", "--date-spec=min", "--hour-spec=min"]),
     of("the last of several outputs", [COMMON, "-o", "json", "--db-path=x", "--output", "csv", *only("HOSTS"), "a.log"], TWO_DAYS),
     of("a thousand lines of the generator", ["--generate=1000"]),
     of("the generator with options", ["--generate", "30", "-o", "r.csv", "--ignore-status=404", "--browsers-file=agents.txt", "--max-items=2"], "", None, "Firefox\tCrawlers\n"),
@@ -241,6 +259,7 @@ def write_words(folder):
 TRACKED = [COMMON, "-o", "csv", "--restore", "--persist"]
 HIDDEN = [*TRACKED, "--ignore-panel=REQUESTS"]
 LONG = line("/" + "x" * 5000)
+SHOWN = ["-o", "csv", "--restore", *TIMES]
 HISTORIES = [
     ("logs that are rotated between the runs",
      [("a.log", line("/a") + line("/b")), [*TRACKED, "a.log"], ("a.log", line("/c")), ("a.log", "a.log.1"), ("a.log", line("/d")),
@@ -256,6 +275,12 @@ HISTORIES = [
     ("a run that stops keeps nothing",
      [("a.log", A), [*TRACKED, "a.log", "gone.log"], [*TRACKED, "a.log"], ("a.log", line(size=BIG) * 5), [*TRACKED, "a.log"], [COMMON, "-o", "csv", "--restore"],
      [COMMON, "--date-format=%d", "--restore"], [*TRACKED, "--browsers-file=gone.txt"]]),
+    ("days that were kept, shown by hours",
+     [("a.log", MOMENTS), [*TRACKED, "a.log"], [*SHOWN, "--date-spec=hr"], [*SHOWN, "--hour-spec=min"], [*SHOWN, "--date-spec=date"]]),
+    ("hours, minutes and days that were kept, each shown by itself",
+     [("a.log", MOMENTS), [*TRACKED, *TIMES, "--date-spec=hr", "a.log"], ("b.log", MORE_MOMENTS), [*TRACKED, *TIMES, "--date-spec=min", "--hour-spec=min", "b.log"],
+     ("a.log", A), [*TRACKED, *TIMES, "a.log"], *([*SHOWN, f"--date-spec={spec}"] for spec in ("date", "hr", "min")),
+     [*TRACKED, "--date-spec=hr", "--ignore-panel=VISITORS"], [COMMON, "-o", "csv", "--persist", "--date-spec=hr", "b.log"], [*SHOWN, "--date-spec=min"]]),
     ("tracked runs without a log",
      [TRACKED, ("a.log", A), [*TRACKED, "a.log"], TRACKED, [COMMON, "-o", "csv", "--restore"]]),
     ("nothing stored, and logs of which no line was ended",
