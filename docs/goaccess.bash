@@ -3,7 +3,8 @@
 _goaccess() {
     # the options with a value, and those without one
     local valued='--log-format --date-format --time-format --browsers-file --exclude-ip --ignore-status --static-file -o --output
-        --date-spec --hour-spec --max-items --ignore-panel --enable-panel --jobs --chunk-size --generate --db-path'
+        --date-spec --hour-spec --max-items --keep-last --ignore-panel --enable-panel --jobs --chunk-size --generate
+        --db-path'
     local flags='--ignore-crawlers --no-ip-validation --no-strict-status --no-query-string --double-decode-url --all-static-files
         --4xx-to-unique-count --444-as-404 --persist --restore'
     local formats='COMMON COMBINED VCOMMON VCOMBINED'

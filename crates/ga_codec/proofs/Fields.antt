@@ -9,13 +9,15 @@ use Rattle.ga_base.specs.declared.panel.Panel.{Panel}
 use Rattle.ga_base.specs.declared.panel.Panel.TheVariants.{Visitors}
 use Rattle.ga_base.specs.Panels.{panel_number}
 use Rattle.ga_summary.specs.SummaryRows.{SummaryRow, SummaryValue}
+use Rattle.ga_codec.specs.declared.snapshot_start.Start.{Start}
 use Rattle.ga_codec.specs.Values.{EntryValue, SnapshotValue, DeltaValue}
-use Rattle.ga_codec.specs.Spelling.{two_bytes, four_bytes, eight_bytes, text_bytes, list_bytes, panel_bytes, key_bytes, sums_bytes, name_bytes, summary_bytes, entry_bytes, version_bytes}
+use Rattle.ga_codec.specs.Spelling.{two_bytes, four_bytes, eight_bytes, text_bytes, list_bytes, panel_bytes, key_bytes, sums_bytes, name_bytes, summary_bytes, entry_bytes, version_bytes, snapshot_head}
 use Rattle.ga_codec.specs.Steps.Parts.{Part, followed_by, listed}
-use Rattle.ga_codec.specs.Steps.Grammar.{any_bytes, number, utf8, text, version, generation, totals, panel, key, sums, name, row, summary, entry, snapshot, delta}
+use Rattle.ga_codec.specs.Steps.Grammar.{any_bytes, number, utf8, text, version, snapshot_start, totals, panel, key, sums, name, row, summary, entry, snapshot, delta}
 use Rattle.ga_codec.proofs.PartLaws.{IsPart, IsMade, made_is_part, followed_is_part}
 use Rattle.ga_codec.proofs.Numbers.{wide16, wide32, wide64, number_is_part, any_is_part, listed_is_part}
 use Rattle.ga_codec.proofs.Texts.{utf8_is_part}
+use Rattle.ga_codec.proofs.Starts.{version_is_part, snapshot_start_is_part}
 
 -- one part after another, whatever the first says
 abbrev pub beside : {A B : Type 0} → Part A → Part B → Part (A × B)
@@ -262,17 +264,6 @@ entry_is_part = made_is_part entry entry_inner entry_of entry_made (beside_is_pa
 pub entries_are_part : IsPart (listed entry)
 entries_are_part = listed_is_part entry entry_is_part
 
--- ---- versions and generations
-
-pub version_is_part : IsPart version
-version_is_part = record { one = λ a b x y f g e. refl; some = (tt, tt) }
-
-pub generation_is_part : IsPart generation
-generation_is_part = record {
-  one = λ a b x y f g e. n64_is_part.one a b x y (omega (arith, f.last)) (omega (arith, g.last)) e;
-  some = (1, record { first = omega arith; last = omega arith });
-}
-
 -- ---- wholes
 
 abbrev pub body : Part (SummaryValue × List EntryValue)
@@ -281,30 +272,28 @@ body = beside summary (listed entry)
 pub body_is_part : IsPart body
 body_is_part = beside_is_part summary (listed entry) summary_is_part entries_are_part
 
-abbrev pub snapshot_2 : Part (ℕ × (SummaryValue × List EntryValue))
-snapshot_2 = beside generation body
+abbrev pub snapshot_inner : Part (Start × (SummaryValue × List EntryValue))
+snapshot_inner = beside snapshot_start body
 
-abbrev pub snapshot_inner : Part (Unit {0} × (ℕ × (SummaryValue × List EntryValue)))
-snapshot_inner = beside version snapshot_2
-
-pub is_snapshot_2 : IsPart snapshot_2
-is_snapshot_2 = beside_is_part generation body generation_is_part body_is_part
-
-abbrev pub snapshot_of : Unit {0} × (ℕ × (SummaryValue × List EntryValue)) → SnapshotValue
-snapshot_of v = record { generation = v.1.0; summary = v.1.1.0; entries = v.1.1.1 }
+abbrev pub snapshot_of : Start × (SummaryValue × List EntryValue) → SnapshotValue
+snapshot_of v = record { generation = v.0.generation; keep = v.0.keep; summary = v.1.0; entries = v.1.1 }
 
 pub snapshot_made : IsMade snapshot snapshot_inner snapshot_of
 unfolding followed_by
 snapshot_made = record {
   completes = λ v f. (
-    record { generation = f.1.0; summary = f.1.1.0; entries = f.1.1.1 },
-    append_assoc (version_bytes ++ eight_bytes v.1.0) (summary_bytes v.1.1.0) (list_bytes entry_bytes v.1.1.1),
+    record { generation = f.0.0; keep = f.0.1; summary = f.1.0; entries = f.1.1 },
+    append_assoc (snapshot_head v.0.generation v.0.keep) (summary_bytes v.1.0) (list_bytes entry_bytes v.1.1),
   );
-  comes = λ s f. ((tt, (s.generation, (s.summary, s.entries))), (tt, (f.generation, (f.summary, f.entries))), refl);
+  comes = λ s f. (
+    (record { generation = s.generation; keep = s.keep }, (s.summary, s.entries)),
+    ((f.generation, f.keep), (f.summary, f.entries)),
+    refl,
+  );
 }
 
 pub snapshot_is_part : IsPart snapshot
-snapshot_is_part = made_is_part snapshot snapshot_inner snapshot_of snapshot_made (beside_is_part version snapshot_2 version_is_part is_snapshot_2)
+snapshot_is_part = made_is_part snapshot snapshot_inner snapshot_of snapshot_made (beside_is_part snapshot_start body snapshot_start_is_part body_is_part)
 
 abbrev pub delta_inner : Part (Unit {0} × (SummaryValue × List EntryValue))
 delta_inner = beside version body

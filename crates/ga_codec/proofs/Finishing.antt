@@ -69,13 +69,14 @@ module _ (f : BodyFront) (piece : List ℕ) (front : IsFront f) (full : is_full 
       (same : value_of body.summary ≡ record { totals = h.totals; rows = f.rows })
       (t : Takes (listed entry) (map shape_value body.entries.items) (start piece) new) where
     snapshot_taken : f.is_snapshot ≡ true
-        → Takes snapshot (record { generation = h.generation; summary = value_of body.summary; entries = map shape_value body.entries.items })
+        → Takes snapshot
+        (record { generation = h.generation; keep = h.keep; summary = value_of body.summary; entries = map shape_value body.entries.items })
         (start (front_bytes f ++ piece)) (record { place = length (bytes_read true (Some h) f.rows) + new.place; rest = new.rest })
     snapshot_taken kind =
         let entries = map shape_value body.entries.items in
         let end : Cursor = record { place = length (bytes_read true (Some h) f.rows) + new.place; rest = new.rest } in
         let first = start (front_bytes f ++ piece) in
-        subst (λ (s : SummaryValue). Takes snapshot (record { generation = h.generation; summary = s; entries = entries }) first end)
+        subst (λ (s : SummaryValue). Takes snapshot (record { generation = h.generation; keep = h.keep; summary = s; entries = entries }) first end)
         (sym same) (whole_taken snapshot true snapshot_from snapshot_split f piece h entries new (is_full_at true h f front full kind e) t)
 
     delta_taken : f.is_snapshot ≡ false → Takes delta (record { summary = value_of body.summary; entries = map shape_value body.entries.items })
@@ -101,10 +102,10 @@ module _ (f : BodyFront) (piece : List ℕ) (front : IsFront f) (full : is_full 
     module _ (end : new.rest ≡ []) (good : AreGood body) (summary : SummaryValue) (entries : List EntryValue) (is : summary ≡ value_of body.summary)
         (are : entries ≡ map shape_value body.entries.items) where
       pub snapshot_of : f.is_snapshot ≡ true
-          → SpellSnapshot (front_bytes f ++ piece) (record { generation = h.generation; summary = summary; entries = entries })
+          → SpellSnapshot (front_bytes f ++ piece) (record { generation = h.generation; keep = h.keep; summary = summary; entries = entries })
       snapshot_of kind =
           let family = λ (v : SnapshotValue). SpellSnapshot (front_bytes f ++ piece) v in
-          subst family (λ i. record { generation = h.generation; summary = sym is i; entries = sym are i })
+          subst family (λ i. record { generation = h.generation; keep = h.keep; summary = sym is i; entries = sym are i })
           (is_snapshot (front_bytes f ++ piece) _ _ (snapshot_taken kind) end good.summary good.entries)
 
       pub delta_of : f.is_snapshot ≡ false → SpellDelta (front_bytes f ++ piece) (record { summary = summary; entries = entries })

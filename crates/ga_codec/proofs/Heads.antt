@@ -1,55 +1,47 @@
 -- Heads of bodies, and bodies as a head, rows and entries.
-use Rattle.std.proofs.Common.{◌≡◌, ℕ, ◌^◌, ◌<◌, Bool, true, false, List, ◌++◌, length, refl, sym, ap, ◌∙◌, subst, append_assoc}
+use Rattle.std.proofs.Common.{◌≡◌, ℕ, ◌^◌, ◌<◌, Bool, true, false, List, ◌++◌, length, None, refl, sym, ap, ◌∙◌, subst, append_assoc}
 use Rattle.std.specs.List.{flat_map}
 use Rattle.std.specs.Int.{w64}
 use Rattle.ga_base.specs.declared.counts.Totals.{Totals}
 use Rattle.ga_summary.specs.SummaryRows.{SummaryRow}
-use Rattle.ga_codec.specs.Pieces.{HeadValue, generation_bytes}
+use Rattle.ga_codec.specs.declared.snapshot_start.Start.{Start}
+use Rattle.ga_codec.specs.Pieces.{HeadValue, start_bytes}
 use Rattle.ga_codec.specs.Shapes.{FitsSummary}
-use Rattle.ga_codec.specs.Spelling.{eight_bytes, entry_bytes, list_bytes, row_bytes, totals_bytes, version_bytes}
-use Rattle.ga_codec.specs.Steps.Grammar.{delta, entry, number, row, snapshot, totals, version}
+use Rattle.ga_codec.specs.Spelling.{eight_bytes, entry_bytes, list_bytes, row_bytes, snapshot_head, totals_bytes, version_bytes}
+use Rattle.ga_codec.specs.Steps.Grammar.{delta, entry, number, row, snapshot, totals}
 use Rattle.ga_codec.specs.Steps.Parts.{Part, followed_by, listed, times}
-use Rattle.ga_codec.specs.Steps.Pieces.{FitsHead, generation_of, head}
+use Rattle.ga_codec.specs.Steps.Pieces.{FitsHead, head, start}
 use Rattle.ga_codec.specs.Values.{EntryValue, SnapshotValue, DeltaValue}
 use Rattle.ga_codec.proofs.PartLaws.{IsPart, IsMade, made_is_part}
-use Rattle.ga_codec.proofs.Fields.{beside, beside_is_part, generation_is_part, n64_is_part, totals_is_part, version_is_part}
+use Rattle.ga_codec.proofs.Fields.{beside, beside_is_part, n64_is_part, totals_is_part}
+use Rattle.ga_codec.proofs.Starts.{start_is_part}
 
 -- ---- heads
 
-pub generation_of_is_part : (b : Bool) → IsPart (generation_of b)
-generation_of_is_part true = generation_is_part
-generation_of_is_part false = record { one = λ g h x y f e _. f ∙ sym e; some = (0, refl) }
+abbrev pub head_2 : Part (Totals × ℕ)
+head_2 = beside totals (number w64)
 
-abbrev pub head_3 : Part (Totals × ℕ)
-head_3 = beside totals (number w64)
+abbrev pub head_inner : Bool → Part (Start × (Totals × ℕ))
+head_inner b = beside (start b) head_2
 
-abbrev pub head_2 : Bool → Part (ℕ × (Totals × ℕ))
-head_2 b = beside (generation_of b) head_3
+pub is_head_2 : IsPart head_2
+is_head_2 = beside_is_part totals (number w64) totals_is_part n64_is_part
 
-abbrev pub head_inner : Bool → Part (Unit {0} × (ℕ × (Totals × ℕ)))
-head_inner b = beside version (head_2 b)
-
-pub is_head_3 : IsPart head_3
-is_head_3 = beside_is_part totals (number w64) totals_is_part n64_is_part
-
-pub is_head_2 : (b : Bool) → IsPart (head_2 b)
-is_head_2 b = beside_is_part (generation_of b) head_3 (generation_of_is_part b) is_head_3
-
-abbrev pub head_from : Unit {0} × (ℕ × (Totals × ℕ)) → HeadValue
-head_from v = record { generation = v.1.0; totals = v.1.1.0; count = v.1.1.1 }
+abbrev pub head_from : Start × (Totals × ℕ) → HeadValue
+head_from v = record { generation = v.0.generation; keep = v.0.keep; totals = v.1.0; count = v.1.1 }
 
 pub head_made : (b : Bool) → IsMade (head b) (head_inner b) head_from
 unfolding followed_by
 head_made b = record {
   completes = λ v f. (
-    record { generation = f.1.0; totals = f.1.1.0; count = f.1.1.1 },
-    append_assoc (version_bytes ++ generation_bytes b v.1.0) (totals_bytes v.1.1.0) (eight_bytes v.1.1.1),
+    record { start = f.0; totals = f.1.0; count = f.1.1 },
+    append_assoc (start_bytes b v.0.generation v.0.keep) (totals_bytes v.1.0) (eight_bytes v.1.1),
   );
-  comes = λ h f. ((tt, (h.generation, (h.totals, h.count))), (tt, (f.generation, (f.totals, f.count))), refl);
+  comes = λ h f. ((record { generation = h.generation; keep = h.keep }, (h.totals, h.count)), (f.start, (f.totals, f.count)), refl);
 }
 
 pub head_is_part : (b : Bool) → IsPart (head b)
-head_is_part b = made_is_part (head b) (head_inner b) head_from (head_made b) (beside_is_part version (head_2 b) version_is_part (is_head_2 b))
+head_is_part b = made_is_part (head b) (head_inner b) head_from (head_made b) (beside_is_part (start b) head_2 (start_is_part b) is_head_2)
 
 -- ---- bodies
 
@@ -60,7 +52,7 @@ abbrev pub body_inner : Bool → Part (HeadValue × (List SummaryRow × List Ent
 body_inner b = followed_by (head b) (λ h. rows_and_entries h.count)
 
 abbrev pub snapshot_from : HeadValue × (List SummaryRow × List EntryValue) → SnapshotValue
-snapshot_from v = record { generation = v.0.generation; summary = record { totals = v.0.totals; rows = v.1.0 }; entries = v.1.1 }
+snapshot_from v = record { generation = v.0.generation; keep = v.0.keep; summary = record { totals = v.0.totals; rows = v.1.0 }; entries = v.1.1 }
 
 abbrev pub delta_from : HeadValue × (List SummaryRow × List EntryValue) → DeltaValue
 delta_from v = record { summary = record { totals = v.0.totals; rows = v.1.0 }; entries = v.1.1 }
@@ -89,13 +81,16 @@ pub snapshot_split : IsMade snapshot (body_inner true) snapshot_from
 unfolding followed_by times
 snapshot_split = record {
   completes = λ v f. (
-    record { generation = f.0.generation; summary = summary_fits true v.0 v.1.0 f.0 f.1.0; entries = f.1.1 },
-    body_bytes (version_bytes ++ eight_bytes v.0.generation) (totals_bytes v.0.totals) v.0.count v.1.0 v.1.1 f.1.0.0,
+    record { generation = f.0.start.0; keep = f.0.start.1; summary = summary_fits true v.0 v.1.0 f.0 f.1.0; entries = f.1.1 },
+    body_bytes (snapshot_head v.0.generation v.0.keep) (totals_bytes v.0.totals) v.0.count v.1.0 v.1.1 f.1.0.0,
   );
   comes = λ s f. (
-    (record { generation = s.generation; totals = s.summary.totals; count = length s.summary.rows }, (s.summary.rows, s.entries)),
     (
-      record { generation = f.generation; totals = f.summary.totals; count = f.summary.rows.number },
+      record { generation = s.generation; keep = s.keep; totals = s.summary.totals; count = length s.summary.rows },
+      (s.summary.rows, s.entries),
+    ),
+    (
+      record { start = (f.generation, f.keep); totals = f.summary.totals; count = f.summary.rows.number },
       ((refl, f.summary.rows.each), f.entries),
     ),
     refl,
@@ -110,9 +105,9 @@ delta_split = record {
     body_bytes version_bytes (totals_bytes v.0.totals) v.0.count v.1.0 v.1.1 f.1.0.0,
   );
   comes = λ d f. (
-    (record { generation = 0; totals = d.summary.totals; count = length d.summary.rows }, (d.summary.rows, d.entries)),
+    (record { generation = 0; keep = None; totals = d.summary.totals; count = length d.summary.rows }, (d.summary.rows, d.entries)),
     (
-      record { generation = refl; totals = f.summary.totals; count = f.summary.rows.number },
+      record { start = (refl, refl); totals = f.summary.totals; count = f.summary.rows.number },
       ((refl, f.summary.rows.each), f.entries),
     ),
     refl,

@@ -3,6 +3,7 @@ pub mod Going
 pub mod Numbers
 pub mod Chars
 pub mod Texts
+pub mod Starts
 pub mod Fields
 pub mod Looping
 pub mod Generations

@@ -1,5 +1,5 @@
 -- Writing one part after another.
-use Rattle.std.proofs.Common.{◌≡◌, ℕ, zero, suc, ◌+◌, ◌<◌, List, [], ◌∷◌, ◌++◌, length, map, take, get_or, Some, refl, sym, ap, ◌∙◌, subst, append_assoc, arith}
+use Rattle.std.proofs.Common.{◌≡◌, ℕ, zero, suc, ◌+◌, ◌<◌, List, [], ◌∷◌, ◌++◌, length, map, take, get_or, Option, Some, refl, sym, ap, ◌∙◌, subst, append_assoc, arith}
 use Rattle.std.specs.Prelude.{slice_get}
 use Rattle.std.specs.Int.{w64}
 use Rattle.std.specs.List.{flat_map, AllByRecursion}
@@ -12,9 +12,9 @@ use Rattle.ga_summary.specs.Sound.{IsSummary}
 use Rattle.ga_summary.specs.SummaryRows.{SummaryValue}
 use Rattle.ga_codec.specs.Appending.{AppendsDelta, AppendsSnapshot}
 use Rattle.ga_codec.specs.Values.{entry_value}
-use Rattle.ga_codec.specs.Shapes.{IsEntry, IsGeneration}
+use Rattle.ga_codec.specs.Shapes.{IsEntry}
 use Rattle.ga_codec.specs.Steps.Parts.{Part, Writes, followed_by, times, listed}
-use Rattle.ga_codec.specs.Steps.Grammar.{number, panel, version, generation, snapshot, delta}
+use Rattle.ga_codec.specs.Steps.Grammar.{number, panel, version, snapshot, delta}
 use Rattle.ga_codec.proofs.PartLaws.{IsMade}
 use Rattle.ga_codec.proofs.Numbers.{listed_made}
 use Rattle.ga_codec.proofs.Entries.{all_push}
@@ -92,13 +92,10 @@ wrote_list {A = A} part n i items all old mid new e size v w =
 pub wrote_version : (old new : List ℕ) → new ≡ old ++ 1 ∷ [] → Writes version tt old new
 wrote_version old new e = record { fits = tt; bytes = e }
 
-pub wrote_generation : (g : ℕ) (old new : List ℕ) → IsGeneration g → Writes (number w64) g old new → Writes generation g old new
-wrote_generation g old new is w = record { fits = is; bytes = w.bytes }
-
-pub appended_snapshot : (g : ℕ) (s : SummaryValue) (entries : List Entry) (old new : List ℕ) → Writes snapshot (record { generation = g; summary = s; entries = map entry_value entries }) old new → IsSummary s
-    → AppendsSnapshot g s entries old new
-appended_snapshot g s entries old new w sound = record {
-  bytes = snapshot.spell (record { generation = g; summary = s; entries = map entry_value entries });
+pub appended_snapshot : (g : ℕ) (keep : Option ℕ) (s : SummaryValue) (entries : List Entry) (old new : List ℕ) → Writes snapshot (record { generation = g; keep = keep; summary = s; entries = map entry_value entries }) old new → IsSummary s
+    → AppendsSnapshot g keep s entries old new
+appended_snapshot g keep s entries old new w sound = record {
+  bytes = snapshot.spell (record { generation = g; keep = keep; summary = s; entries = map entry_value entries });
   spells = record { spelled = refl; fits = w.fits; summary = sound; entries = entries_good entries };
   appended = w.bytes;
 }

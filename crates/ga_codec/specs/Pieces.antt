@@ -4,13 +4,15 @@ use Rattle.std.specs.List.{flat_map}
 use Rattle.ga_base.specs.declared.counts.Totals.{Totals}
 use Rattle.ga_summary.specs.SummaryRows.{SummaryRow}
 use Rattle.ga_codec.specs.Shapes.{SpellDelta, SpellSnapshot}
-use Rattle.ga_codec.specs.Spelling.{eight_bytes, row_bytes, totals_bytes, version_bytes}
+use Rattle.ga_codec.specs.Spelling.{eight_bytes, row_bytes, snapshot_head, totals_bytes, version_bytes}
 use Rattle.ga_codec.specs.Values.{DeltaValue, SnapshotValue}
 
 -- what a body says before its rows
 pub record HeadValue : Type 0 where
   -- the number of a snapshot, 0 in a run record
   pub generation : ℕ
+  -- how many of the last days a snapshot keeps, where it says so; None in a run record
+  pub keep : Option ℕ
   pub totals : Totals
   -- the number of the summary's rows
   pub count : ℕ
@@ -22,12 +24,13 @@ pub record BodyFront : Type 0 where
   pub head : Option HeadValue
   pub rows : List SummaryRow
 
-abbrev pub generation_bytes : Bool → ℕ → List ℕ
-generation_bytes true generation = eight_bytes generation
-generation_bytes false generation = []
+-- what is before the summary
+abbrev pub start_bytes : Bool → ℕ → Option ℕ → List ℕ
+start_bytes true generation keep = snapshot_head generation keep
+start_bytes false generation keep = version_bytes
 
 abbrev pub head_bytes : Bool → HeadValue → List ℕ
-head_bytes is_snapshot h = version_bytes ++ generation_bytes is_snapshot h.generation ++ totals_bytes h.totals ++ eight_bytes h.count
+head_bytes is_snapshot h = start_bytes is_snapshot h.generation h.keep ++ totals_bytes h.totals ++ eight_bytes h.count
 
 abbrev pub bytes_read : Bool → Option HeadValue → List SummaryRow → List ℕ
 bytes_read is_snapshot None rows = []

@@ -2,7 +2,7 @@
 --
 -- A shape is the spelling of any value whose numbers fit their bytes and whose texts are UTF-8. What is read has a shape,
 -- and further is in order and sound.
-use Rattle.std.specs.Prelude.{◌≡◌, ℕ, ◌<◌, ◌≤◌, ◌^◌, List, ◌++◌, length, take, min}
+use Rattle.std.specs.Prelude.{◌≡◌, ℕ, ◌<◌, ◌≤◌, ◌^◌, List, ◌++◌, length, take, min, IfSome}
 use Rattle.std.specs.List.{AllByRecursion}
 use Rattle.std.specs.Str.{IsUtf8}
 use Rattle.ga_base.specs.declared.counts.TheConstants.{LIMIT}
@@ -76,6 +76,7 @@ pub record IsGeneration (generation : ℕ) : Type 0 where
 
 pub record FitsSnapshot (s : SnapshotValue) : Type 0 where
   pub generation : IsGeneration s.generation
+  pub keep : IfSome s.keep (λ n. n < 2 ^ 32)
   pub summary : FitsSummary s.summary
   pub entries : FitsList FitsEntry s.entries
 

@@ -1,5 +1,5 @@
 -- The one spelling of each snapshot and each run record. Numbers are big-endian.
-use Rattle.std.specs.Prelude.{ℕ, ◌+◌, List, [], ◌∷◌, ◌++◌, length}
+use Rattle.std.specs.Prelude.{ℕ, ◌+◌, List, [], ◌∷◌, ◌++◌, length, Option, None, Some}
 use Rattle.std.specs.List.{flat_map}
 use Rattle.std.specs.Int.{w16, w32, w64, to_be_bytes}
 use Rattle.ga_base.specs.declared.counts.Sums.{Sums}
@@ -53,12 +53,21 @@ summary_bytes s = totals_bytes s.totals ++ list_bytes row_bytes s.rows
 abbrev pub entry_bytes : EntryValue → List ℕ
 entry_bytes e = two_bytes e.lead ++ e.digest ++ eight_bytes e.offset
 
--- the version of the database
+-- the version of a run record, and of a snapshot that doesn't say how many days it keeps
 abbrev pub version_bytes : List ℕ
 version_bytes = 1 ∷ []
 
+-- the version of a snapshot that says how many days it keeps
+abbrev pub keep_version_bytes : List ℕ
+keep_version_bytes = 2 ∷ []
+
+-- a snapshot's version, its generation, and how many days it keeps where it says so
+abbrev pub snapshot_head : ℕ → Option ℕ → List ℕ
+snapshot_head generation None = version_bytes ++ eight_bytes generation
+snapshot_head generation (Some keep) = keep_version_bytes ++ eight_bytes generation ++ four_bytes keep
+
 abbrev pub snapshot_bytes : SnapshotValue → List ℕ
-snapshot_bytes s = version_bytes ++ eight_bytes s.generation ++ summary_bytes s.summary ++ list_bytes entry_bytes s.entries
+snapshot_bytes s = snapshot_head s.generation s.keep ++ summary_bytes s.summary ++ list_bytes entry_bytes s.entries
 
 abbrev pub delta_bytes : DeltaValue → List ℕ
 delta_bytes d = version_bytes ++ summary_bytes d.summary ++ list_bytes entry_bytes d.entries

@@ -6,7 +6,7 @@ ghost use Rattle.ga_codec.specs.Pieces.{BeginsNone, GoesOn, HasNone, front_bytes
 ghost use Rattle.ga_codec.specs.Shapes.{SpellDelta, SpellSnapshot};
 ghost use Rattle.ga_codec.specs.Steps.Grammar.{entry};
 ghost use Rattle.ga_codec.specs.Steps.Parts.{Reads, listed};
-ghost use Rattle.ga_codec.specs.Steps.Pieces.{IsFront, ReadsHead, ReadsRows, generation_of, head, head_value};
+ghost use Rattle.ga_codec.specs.Steps.Pieces.{IsFront, ReadsHead, ReadsRows, head, head_value};
 ghost use Rattle.ga_codec.specs.Steps.Shapes.{shape_value};
 ghost use Rattle.ga_codec.specs.Values.{delta_value, snapshot_value};
 
@@ -34,6 +34,8 @@ pub struct BodyReader {
 struct Head {
     /// The number of a snapshot, 0 in a run record.
     generation: u64,
+    /// How many of the last days a snapshot keeps, where it says so.
+    keep: Option<u32>,
     totals: Totals,
     /// The number of rows.
     count: u64,
@@ -119,6 +121,7 @@ impl BodyReader {
         requires full { is_full self ≡ true }
         ensures read { IfOk result (λ s. SpellSnapshot (front_bytes self ++ piece.now) (snapshot_value s)) }
         ensures generation { IfOk result (λ s. option_map (λ h. h.generation) self.head ≡ Some s.generation) }
+        ensures keep { IfOk result (λ s. option_map (λ h. h.keep) self.head ≡ Some s.keep) }
         ensures refused { (at : ℕ) → IsErrOf result (CodecFault.NotInGrammar at) → HasNone true (front_bytes self ++ piece.now) }
     {
         let mut cursor = Cursor::of(piece);
@@ -126,6 +129,7 @@ impl BodyReader {
         let (summary, entries) = body.finish(alloc, &cursor)?;
         Ok(Snapshot {
             generation: head.generation,
+            keep: head.keep,
             summary,
             entries,
         })
@@ -192,25 +196,15 @@ impl<'a> Cursor<'a> {
     fn read_head(&mut self, is_snapshot: bool) -> Result<Head, CodecFault>
         ensures { Reads (head is_snapshot) head_value self.old self.new result }
     {
-        self.read_version()?;
-        let generation = self.read_generation_of(is_snapshot)?;
+        let start = self.read_start(is_snapshot)?;
         let totals = self.read_totals()?;
         let count = self.read_u64()?;
         Ok(Head {
-            generation,
+            generation: start.generation,
+            keep: start.keep,
             totals,
             count,
         })
-    }
-
-    /// Reads the generation of a snapshot. A run record has none, which is told as 0.
-    fn read_generation_of(&mut self, is_snapshot: bool) -> Result<u64, CodecFault>
-        ensures { Reads (generation_of is_snapshot) (λ g. g) self.old self.new result }
-    {
-        if is_snapshot {
-            return self.read_generation();
-        }
-        Ok(0)
     }
 
     /// Reads rows up to this number, as many as there are whole, and answers the place after them.

@@ -12,6 +12,7 @@ pub mod laws;
 mod sizes;
 mod snapshot;
 mod snapshot_reading;
+mod snapshot_start;
 mod summary_reading;
 mod text_reading;
 mod utf8;

@@ -9,15 +9,22 @@ use ga_summary::{RowView, Summary};
 /// The bytes of a snapshot beside its summary and its entries: a version and a generation.
 const SNAPSHOT_HEAD: usize = 9;
 
+/// The bytes of the number of days that a snapshot keeps, where it says so.
+const KEEP_SIZE: usize = 4;
+
 /// The bytes of a run record beside these: a version.
 const DELTA_HEAD: usize = 1;
 
 /// Six totals, and the numbers of rows and of entries.
 const COUNTS: usize = 64;
 
-/// The number of bytes of a snapshot with this summary and these entries.
-pub fn snapshot_size(summary: &Summary, entries: &[Entry]) -> usize {
-    body_size(summary, entries).saturating_add(SNAPSHOT_HEAD)
+/// The number of bytes of a snapshot that keeps this many days, with this summary and these entries.
+pub fn snapshot_size(keep: Option<u32>, summary: &Summary, entries: &[Entry]) -> usize {
+    let head = match keep {
+        Some(_) => SNAPSHOT_HEAD + KEEP_SIZE,
+        None => SNAPSHOT_HEAD,
+    };
+    body_size(summary, entries).saturating_add(head)
 }
 
 /// The number of bytes of a run record with these.

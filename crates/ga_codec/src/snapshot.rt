@@ -6,6 +6,8 @@ use ga_summary::Summary;
 pub struct Snapshot {
     /// The number of the snapshot, from 1 to `LIMIT`. A later one has a greater number.
     pub generation: u64,
+    /// How many of the last days it keeps, 0 for all. None in a snapshot of version 1, which doesn't say it.
+    pub keep: Option<u32>,
     /// What was counted.
     pub summary: Summary,
     /// How far each log was counted.

@@ -3,21 +3,18 @@ ghost use Rattle.std.specs.List.{AllByRecursion};
 ghost use Rattle.ga_summary.specs.SummaryParts.{value_of};
 ghost use Rattle.ga_summary.specs.Sound.{IsSummary};
 ghost use Rattle.ga_codec.specs.Shapes.{IsEntry, IsNoDelta, IsNoSnapshot, SpellDelta, SpellSnapshot};
-ghost use Rattle.ga_codec.specs.Steps.Grammar.{delta, generation, snapshot, version};
+ghost use Rattle.ga_codec.specs.Steps.Grammar.{delta, snapshot};
 ghost use Rattle.ga_codec.specs.Steps.Parts.{Reads};
 ghost use Rattle.ga_codec.specs.Steps.Shapes.{AreGood, delta_shape, shape_value, snapshot_shape};
 ghost use Rattle.ga_codec.specs.Values.{delta_value, entry_value, snapshot_value};
 
 use crate::cursor::Cursor;
 use crate::entry_shape::EntryShape;
-use crate::writing::VERSION;
+use crate::snapshot_start::Start;
 use crate::{CodecFault, Delta, Snapshot};
 use ga_base::{Entries, NoMemory};
 use ga_summary::{NotSound, Summary, SummaryParts};
 use std::alloc::Global;
-
-/// The greatest first byte of a generation, that of `LIMIT`.
-const MOST_FIRST: u8 = 0x3F;
 
 /// A summary and entries as they are spelled, whether they are sound or not.
 #[derive(Debug, Drop)]
@@ -34,10 +31,11 @@ pub fn read_snapshot(alloc: Global, bytes: &[u8]) -> Result<Snapshot, CodecFault
     ensures refused { (at : ℕ) → IsErrOf result (CodecFault.NotInGrammar at) → IsNoSnapshot bytes.now at }
 {
     let mut cursor = Cursor::of(bytes);
-    let (generation, body) = cursor.read_snapshot(alloc)?;
+    let (start, body) = cursor.read_snapshot(alloc)?;
     let (summary, entries) = body.finish(alloc, &cursor)?;
     Ok(Snapshot {
-        generation,
+        generation: start.generation,
+        keep: start.keep,
         summary,
         entries,
     })
@@ -57,14 +55,13 @@ pub fn read_delta(alloc: Global, bytes: &[u8]) -> Result<Delta, CodecFault>
 }
 
 impl<'a> Cursor<'a> {
-    fn read_snapshot(&mut self, alloc: Global) -> Result<(u64, Body), CodecFault>
+    fn read_snapshot(&mut self, alloc: Global) -> Result<(Start, Body), CodecFault>
         ensures { Reads snapshot (λ s. snapshot_shape s.0 s.1) self.old self.new result }
     {
-        self.read_version()?;
-        let generation = self.read_generation()?;
+        let start = self.read_snapshot_start()?;
         let summary = self.read_summary(alloc)?;
         let entries = self.read_entries(alloc)?;
-        Ok((generation, Body { summary, entries }))
+        Ok((start, Body { summary, entries }))
     }
 
     fn read_delta(&mut self, alloc: Global) -> Result<Body, CodecFault>
@@ -74,30 +71,6 @@ impl<'a> Cursor<'a> {
         let summary = self.read_summary(alloc)?;
         let entries = self.read_entries(alloc)?;
         Ok(Body { summary, entries })
-    }
-
-    pub(crate) fn read_version(&mut self) -> Result<(), CodecFault>
-        ensures { Reads version (λ v. v) self.old self.new result }
-    {
-        if self.peek()? != VERSION {
-            return Err(self.fault(0));
-        }
-        self.skip(1);
-        Ok(())
-    }
-
-    pub(crate) fn read_generation(&mut self) -> Result<u64, CodecFault>
-        ensures { Reads generation (λ g. g) self.old self.new result }
-    {
-        if self.peek()? > MOST_FIRST {
-            return Err(self.fault(0));
-        }
-        let generation = self.read_u64()?;
-        if generation == 0 {
-            let last = self.place() - 1;
-            return Err(CodecFault::NotInGrammar { at: last });
-        }
-        Ok(generation)
     }
 }
 

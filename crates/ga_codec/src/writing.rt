@@ -10,13 +10,11 @@ ghost use Rattle.ga_codec.specs.Steps.Shapes.{viewed_row};
 ghost use Rattle.ga_codec.specs.Values.{delta_value, entry_value, snapshot_value};
 
 use crate::sizes::{delta_size, snapshot_size};
+use crate::snapshot_start::{KEEP_VERSION, VERSION};
 use crate::{Delta, Snapshot};
 use ga_base::{Bytes, Entry, Key, Name, NoMemory, Panel, Sums, Text, Totals};
 use ga_summary::{RowView, Summary};
 use std::alloc::Global;
-
-/// The version of the database.
-pub(crate) const VERSION: u8 = 1;
 
 /// The bytes of a snapshot.
 pub fn write_snapshot(alloc: Global, snapshot: &Snapshot) -> Result<Bytes, NoMemory>
@@ -24,8 +22,9 @@ pub fn write_snapshot(alloc: Global, snapshot: &Snapshot) -> Result<Bytes, NoMem
     ensures { IfOk result (λ bytes. SpellSnapshot bytes (snapshot_value snapshot.now)) }
 {
     let entries = snapshot.entries.items();
-    let mut out = Vec::with_capacity(alloc, snapshot_size(&snapshot.summary, entries))?;
-    push_snapshot(&mut out, snapshot.generation, &snapshot.summary, entries)?;
+    let (generation, keep, summary) = (snapshot.generation, snapshot.keep, &snapshot.summary);
+    let mut out = Vec::with_capacity(alloc, snapshot_size(keep, summary, entries))?;
+    push_snapshot(&mut out, generation, keep, summary, entries)?;
     Ok(Bytes::from(out))
 }
 
@@ -39,18 +38,19 @@ pub fn write_delta(alloc: Global, delta: &Delta) -> Result<Bytes, NoMemory>
     Ok(Bytes::from(out))
 }
 
-/// Appends the bytes of a snapshot of this generation, which has this summary and these entries.
+/// Appends the bytes of a snapshot of this generation, which keeps this many of the last days, and has this summary and these
+/// entries. It says how many days it keeps where there is such a number.
 pub fn push_snapshot(
     out: &mut Vec<u8>,
     generation: u64,
+    keep: Option<u32>,
     summary: &Summary,
     entries: &[Entry],
 ) -> Result<(), NoMemory>
     requires { IsGeneration generation }
-    ensures { OnOk result (AppendsSnapshot generation summary.now entries.now out.old.items out.new.items) }
+    ensures { OnOk result (AppendsSnapshot generation keep summary.now entries.now out.old.items out.new.items) }
 {
-    out.push(VERSION)?;
-    put_u64(out, generation)?;
+    put_snapshot_start(out, generation, keep)?;
     put_summary(out, summary)?;
     put_entries(out, entries)?;
     Ok(())
@@ -64,6 +64,26 @@ pub fn push_delta(out: &mut Vec<u8>, summary: &Summary, entries: &[Entry]) -> Re
     put_summary(out, summary)?;
     put_entries(out, entries)?;
     Ok(())
+}
+
+/// Appends what is before the summary of a snapshot.
+fn put_snapshot_start(out: &mut Vec<u8>, generation: u64, keep: Option<u32>) -> Result<(), NoMemory>
+    requires { IsGeneration generation }
+    ensures { OnOk result (Writes grammar.snapshot_start (record { generation = generation; keep = keep }) out.old.items out.new.items) }
+{
+    match keep {
+        Some(keep) => {
+            out.push(KEEP_VERSION)?;
+            put_u64(out, generation)?;
+            put_u32(out, keep)?;
+            Ok(())
+        }
+        None => {
+            out.push(VERSION)?;
+            put_u64(out, generation)?;
+            Ok(())
+        }
+    }
 }
 
 fn put_u16(out: &mut Vec<u8>, n: u16) -> Result<(), NoMemory>

@@ -40,7 +40,7 @@ pub record Misses (s : Settings) (disk disk' : DiskView) (images images' : Image
 
 -- why a run wasn't kept: the disk failed, its generation would be above the limit, or memory ran out before the disk was touched
 abbrev pub IsUnkept : Settings → DbValue → SummaryValue → List Entry → DiskView → DiskView → Images → Images → StoreFault → Type 0
-IsUnkept s stored whole entries disk disk' images images' DiskFault = FailsKeeping stored whole entries disk disk' images images'
+IsUnkept s stored whole entries disk disk' images images' DiskFault = FailsKeeping s.keep stored whole entries disk disk' images images'
 IsUnkept s stored whole entries disk disk' images images' (Damaged side at) = ⊥
 IsUnkept s stored whole entries disk disk' images images' (CounterFull which total) =
     (which ≡ Generations) × (total ≡ LIMIT + 1) × (passes_generations (mode_of s) stored ≡ true) × IsUntouched disk disk' images images'

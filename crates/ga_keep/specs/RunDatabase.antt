@@ -1,5 +1,5 @@
 -- The database of a run: what the settings say of it, what the run starts from, and what it leaves.
-use Rattle.std.specs.Prelude.{◌≡◌, ◌⊎◌, ℕ, ◌+◌, ◌||◌, ◌&&◌, Bool, true, false, not, if◌then◌else◌, List, Some, IfSome, map}
+use Rattle.std.specs.Prelude.{◌≡◌, ◌⊎◌, ℕ, ◌+◌, ◌==◌, ◌||◌, ◌&&◌, Bool, true, false, not, if◌then◌else◌, List, Option, None, Some, IfSome, map}
 use Rattle.std.specs.Option.{unwrap_or}
 use Rattle.ga_base.specs.declared.entry.Entry.{Entry}
 use Rattle.ga_codec.specs.Values.{entry_value}
@@ -10,7 +10,7 @@ use Rattle.ga_resume.specs.declared.follow.Follow.{Follow}
 use Rattle.ga_resume.specs.declared.follow.Follow.TheVariants.{Whole, ToEnd, ToLastLine}
 use Rattle.ga_resume.specs.declared.start.Start.{Start}
 use Rattle.ga_counters.specs.Counts.{raised}
-use Rattle.ga_store.specs.Commit.{IsLater, MergesBy, adds_record, closing_calls, other_side, passes_generations, position_of, tail_calls}
+use Rattle.ga_store.specs.Commit.{Agrees, IsLater, MergesBy, adds_record, closing_calls, other_side, passes_generations, position_of, tail_calls}
 use Rattle.ga_store.specs.Commits.{AllHave, Frames, HasEither, Takes}
 use Rattle.ga_store.specs.Database.{DbOf, DbValue, empty_db}
 use Rattle.ga_store.specs.Database.Reading.{stored as reads_as}
@@ -19,6 +19,7 @@ use Rattle.ga_store.specs.Store.{recovery_calls}
 use Rattle.ga_store.specs.declared.mode.Mode.{Mode}
 use Rattle.ga_store.specs.declared.mode.Mode.TheVariants.{Append, Overwrite}
 use Rattle.ga_store.specs.declared.position.Position.{Position}
+use Rattle.ga_summary.specs.LastDays.{trimmed}
 use Rattle.ga_summary.specs.SummaryRows.{SummaryValue}
 use Rattle.ga_summary.specs.Sums.{IsMerged}
 use Rattle.ga_words.specs.declared.settings.Settings.{Settings}
@@ -45,19 +46,29 @@ mode_of s = if s.restore then Append else Overwrite
 abbrev pub AreBase : Settings → DbValue → List Entry → Type 0
 AreBase s stored entries = map entry_value entries ≡ (base_of s stored).entries
 
--- what a run shows: what it counted, after what it restored
+-- what a run shows: the last days of what it counted, after what it restored
 abbrev pub IsWhole : Settings → DbValue → SummaryValue → SummaryValue → Type 0
-IsWhole s stored run whole = MergesBy (mode_of s) stored.summary run whole
+IsWhole s stored run whole = MergesBy (mode_of s) s.keep stored.summary run whole
+
+-- a number, where it is another than this
+abbrev pub other_than : ℕ → Option ℕ → Option ℕ
+other_than keep None = None
+other_than keep (Some number) = if number == keep then None else Some number
+
+-- how many days what is stored keeps, where a run restores it and keeps another number of days
+abbrev pub differing : Settings → DbValue → Option ℕ
+differing s stored = if s.restore then other_than s.keep stored.keep else None
 
 -- the base has what this database has
 pub record IsBaseOf (db : DbValue) (base : Base) : Type 0 where
   pub summary : base.summary ≡ db.summary
   pub entries : map entry_value base.entries ≡ db.entries
 
--- how the base's summary grows by a run: it is merged with the run where that restores, and stays else
-abbrev pub GrowsBy : Bool → SummaryValue → SummaryValue → SummaryValue → Type 0
-GrowsBy true old run new = IsMerged old run new
-GrowsBy false old run new = new ≡ old
+-- how the base's summary grows by a run, and what is left of the run's: where the run restores, the base becomes the last days
+-- of both, and the run stays; else the base stays, and of the run its last days are left
+abbrev pub GrowsBy : Bool → ℕ → SummaryValue → SummaryValue → SummaryValue → SummaryValue → Type 0
+GrowsBy true keep old run new run' = (both : SummaryValue) × IsMerged old run both × (new ≡ trimmed keep both) × (run' ≡ run)
+GrowsBy false keep old run new run' = (new ≡ old) × (run' ≡ trimmed keep run)
 
 -- the whole that a run shows, by what its base grew to
 abbrev pub whole_of : Settings → SummaryValue → SummaryValue → SummaryValue
@@ -133,17 +144,18 @@ SidesHave s sides stored =
 
 -- ---- what it leaves
 
--- the database after a run that persists: the whole sum and all entries
-pub record IsAfter (whole : SummaryValue) (counted : List Entry) (new : DbValue) : Type 0 where
+-- the database after a run that persists: the whole sum, all entries, and how many days it keeps
+pub record IsAfter (whole : SummaryValue) (counted : List Entry) (keep : ℕ) (new : DbValue) : Type 0 where
   pub summary : new.summary ≡ whole
   pub entries : new.entries ≡ map entry_value counted
+  pub number : new.keep ≡ Some keep
 
 -- it is stored as one record more of the same generation, or as the next generation, without records
 pub record IsNextBy (adds : Bool) (stored new : DbValue) : Type 0 where
   pub generation : new.generation ≡ (if adds then stored.generation else stored.generation + 1)
   pub records : new.records ≡ (if adds then stored.records + 1 else 0)
 
--- as a record where it restores and a side is there that has room for one
+-- as a record where it restores, and a side is there that says how many days it keeps and has room for one
 abbrev pub IsNext : Mode → DbValue → DbValue → Type 0
 IsNext mode stored new = IsNextBy (adds_record mode stored) stored new
 
@@ -192,12 +204,13 @@ pub record MayKeep (stored new : DbValue) (disk disk' : DiskView) (images images
 pub record ComesAfter (s : Settings) (stored : DbValue) (position : Position) (run whole : SummaryValue) (disk : DiskView) (images : Images) : Type 0 where
   pub stands : position_of stored ≡ position
   pub holds : Holds disk images stored
+  pub agrees : Agrees (mode_of s) s.keep stored
   pub is_whole : IsWhole s stored run whole
 
 -- the run was kept
 pub record IsKept (s : Settings) (stored : DbValue) (whole : SummaryValue) (entries : List Entry) (disk disk' : DiskView) (images images' : Images) : Type 0 where
   pub new : DbValue
-  pub after : IsAfter whole entries new
+  pub after : IsAfter whole entries s.keep new
   pub next : IsNext (mode_of s) stored new
   pub room : passes_generations (mode_of s) stored ≡ false
   pub keeps : IfSome disk.seen (λ seen. Keeps stored new disk disk' images images')
@@ -207,9 +220,9 @@ pub record IsKept (s : Settings) (stored : DbValue) (whole : SummaryValue) (entr
   pub frames : Frames disk disk'
 
 -- a call of the disk failed while it was
-pub record FailsKeeping (stored : DbValue) (whole : SummaryValue) (entries : List Entry) (disk disk' : DiskView) (images images' : Images) : Type 0 where
+pub record FailsKeeping (keep : ℕ) (stored : DbValue) (whole : SummaryValue) (entries : List Entry) (disk disk' : DiskView) (images images' : Images) : Type 0 where
   pub new : DbValue
-  pub after : IsAfter whole entries new
+  pub after : IsAfter whole entries keep new
   pub may : IfSome disk.seen (λ seen. MayKeep stored new disk disk' images images')
   pub fault : disk'.counts.faults ≡ raised disk.counts.faults 1
   pub frames : Frames disk disk'

@@ -2,7 +2,7 @@ ghost use Rattle.std.specs.Prelude.{◌≡◌, IfOk, IfErr};
 ghost use Rattle.ga_disk.specs.Trace.{DiskTrace};
 ghost use Rattle.ga_store.specs.Store.{db_value};
 ghost use Rattle.ga_keep.specs.RunDatabase as spec;
-ghost use Rattle.ga_keep.specs.RunDatabase.{Finds};
+ghost use Rattle.ga_keep.specs.RunDatabase.{Finds, differing};
 ghost use Rattle.ga_keep.specs.Faults.{Misses};
 
 use ga_base::Text;
@@ -35,4 +35,25 @@ pub fn find<R: Threads + Sync, D: Disk>(
     }
     disk.open(&settings.db_path)?;
     recover_with(rt, alloc, disk, settings.jobs)
+}
+
+/// How many days what is stored keeps, where the run restores it and keeps another number of days.
+pub fn differs(settings: &Settings, stored: &Db) -> Option<u32>
+    ensures { result ≡ differing settings.now (db_value stored.now) }
+{
+    if settings.restore {
+        other_than(settings.keep, stored.keep)
+    } else {
+        None
+    }
+}
+
+/// A number, where it is another than this.
+fn other_than(keep: u32, number: Option<u32>) -> Option<u32>
+    ensures { result ≡ spec.other_than keep number }
+{
+    match number {
+        None => None,
+        Some(number) => { if number == keep { None } else { Some(number) } }
+    }
 }

@@ -11,8 +11,8 @@ use ga_summary::Summary;
 use ga_words::Settings;
 use std::alloc::Global;
 
-/// Keeps a run after the database that stands at a position: what the run counted, the whole with what it restored, and how far
-/// each log was counted. All memory is taken before the disk is touched.
+/// Keeps a run after the database that stands at a position: what the run counted, the last days of the whole with what it
+/// restored, and how far each log was counted. All memory is taken before the disk is touched.
 pub fn keep<D: Disk>(
     alloc: Global,
     settings: &Settings,
@@ -30,7 +30,15 @@ pub fn keep<D: Disk>(
         → IsUnkept settings.now stored whole.now entries.now (D.view disk.old) (D.view disk.new) (D.images disk.old) (D.images disk.new) fault) }
     ensures calls { DiskTrace (D.view disk.old) (D.view disk.new) }
 {
-    let work = prepare_at(alloc, position, run, whole, entries, mode(settings))?;
+    let work = prepare_at(
+        alloc,
+        position,
+        run,
+        whole,
+        entries,
+        settings.keep,
+        mode(settings),
+    )?;
     commit(disk, work)
 }
 

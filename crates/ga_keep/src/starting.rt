@@ -1,6 +1,7 @@
-ghost use Rattle.std.specs.Prelude.{◌≡◌, None, OnOk};
+ghost use Rattle.std.specs.Prelude.{◌≡◌, None, IfOk, OnOk, true};
 ghost use Rattle.ga_base.specs.Totals.{LinesAdd, TotalsFit, totals_plus};
 ghost use Rattle.ga_summary.specs.Limits.{passes};
+ghost use Rattle.ga_summary.specs.Sums.{IsMerged};
 ghost use Rattle.ga_store.specs.Commit.{position_of};
 ghost use Rattle.ga_store.specs.Store.{db_value};
 ghost use Rattle.ga_keep.specs.RunDatabase.{GrowsBy, IsBaseOf, follow_of, whole_of};
@@ -57,33 +58,49 @@ fn follow(settings: &Settings) -> Follow
     }
 }
 
-/// Adds what a run counted to what it restored, where it restores. After an `Err` the base may have no summary.
+/// Adds what a run counted to what it restored, where it restores, and keeps the last days of both; else it keeps those of the
+/// run. After an `Err` the base may have no summary.
 pub fn add_run(
     alloc: Global,
     settings: &Settings,
     base: &mut Base,
-    run: &Summary,
+    run: &mut Summary,
 ) -> Result<(), NoMemory>
-    requires { passes (totals_plus base.old.summary.totals run.now.totals) ≡ None }
-    ensures grown { OnOk result (GrowsBy settings.now.restore base.old.summary run.now base.new.summary) }
+    requires { passes (totals_plus base.old.summary.totals run.old.totals) ≡ None }
+    ensures grown { OnOk result (GrowsBy settings.now.restore settings.now.keep base.old.summary run.old base.new.summary run.new) }
     ensures entries { base.new.entries ≡ base.old.entries }
 {
     if !settings.restore {
+        run.trim(settings.keep);
         return Ok(());
     }
     let more = run.copy()?;
     let none = Summary::empty(alloc);
     let restored = replace(&mut base.summary, none);
+    base.summary = last_days_of(restored, more, settings.keep)?;
+    Ok(())
+}
+
+/// The last days of both together, this many.
+fn last_days_of(restored: Summary, more: Summary, keep: u32) -> Result<Summary, NoMemory>
+    ensures { IfOk result (λ whole. GrowsBy true keep restored more whole more) }
+{
+    let mut whole = joined(restored, more)?;
+    whole.trim(keep);
+    Ok(whole)
+}
+
+/// Both together.
+fn joined(restored: Summary, more: Summary) -> Result<Summary, NoMemory>
+    ensures { IfOk result (IsMerged restored more) }
+{
     match restored.join(more) {
-        Ok(grown) => {
-            base.summary = grown;
-            Ok(())
-        }
+        Ok(both) => Ok(both),
         Err(_) => Err(NoMemory),
     }
 }
 
-/// What a run shows and keeps: what it counted, after what it restored. The run was added to its base.
+/// What a run shows and keeps: the last days of what it counted, after what it restored. The run was added to its base.
 pub fn whole<'a>(settings: &Settings, base: &'a Base, run: &'a Summary) -> &'a Summary
     ensures { result.now ≡ whole_of settings.now base.now.summary run.now }
 {

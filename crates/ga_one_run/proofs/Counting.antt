@@ -23,23 +23,27 @@ use Rattle.ga_resume.specs.declared.fault.PlaceFault.TheVariants.{NoMemory as Pl
 use Rattle.ga_store.specs.Database.{DbValue, empty_db}
 use Rattle.ga_summary.specs.Limits.{or_else, over, passes}
 use Rattle.ga_base.specs.Totals.{totals_plus, TotalsFit}
+use Rattle.ga_summary.specs.LastDays.{trimmed}
 use Rattle.ga_summary.specs.Outcomes.{Hit, Outcome, Counted, hits_of, totals_of}
 use Rattle.ga_summary.specs.Outcomes as outcomes
 use Rattle.ga_summary.specs.SummaryRows.{SummaryValue}
 use Rattle.ga_summary.specs.Sound.{AllCountable, IsSummary}
 use Rattle.ga_summary.specs.Sums.{IsMerged, IsSumOf}
+use Rattle.ga_summary.proofs.LastDays.{trimmed-twice}
+use Rattle.ga_summary.proofs.SoundSums.{IsSound-sum}
 use Rattle.ga_logs.specs.Counting.{AreInTotal}
 use Rattle.ga_tallies.specs.Tallies.{IsTallyOf, TallySeen}
 use Rattle.ga_totals.specs.Totals.{IsOfCountable}
 use Rattle.ga_words.specs.declared.settings.Settings.{Settings}
 use Rattle.ga_one_run.specs.Inputs.{Walks}
-use Rattle.ga_keep.specs.RunDatabase.{IsWhole, uses_database}
+use Rattle.ga_keep.specs.RunDatabase.{IsWhole, differing, other_than, uses_database}
+use Rattle.ga_keep.proofs.Kept.{agrees-with}
 use Rattle.ga_store.specs.Commit.{MergesBy}
 use Rattle.ga_store.specs.declared.mode.Mode.TheVariants.{Append, Overwrite}
 use Rattle.std.proofs.lemmas.Bool.{true≢false}
 use Rattle.ga_one_run.specs.declared.status.Status.{Status}
 use Rattle.ga_one_run.specs.declared.status.Status.TheVariants.{NoMemory}
-use Rattle.ga_one_run.specs.Steps.Run.{AreSums, CountsFrom, CountsOn, CountsRun, EndsAlone, EndsInputs, EndsLast, EndsReport, EndsTold, EndsUntold, HasPanels, IsOfLines, IsReady, IsSetUp, NoFileFailed, StopsAlone, StopsCounting, StopsFrom, StopsHungry, StopsPanels, WalksLogs, status_of_count, whole_in}
+use Rattle.ga_one_run.specs.Steps.Run.{AreSums, CountsFrom, CountsOn, CountsRun, Differs, EndsAlone, EndsInputs, EndsLast, EndsReport, EndsTold, EndsUntold, HasPanels, IsOfLines, IsReady, IsSetUp, NoFileFailed, StopsAlone, StopsCounting, StopsFrom, StopsHungry, StopsPanels, WalksLogs, status_of_count, whole_in}
 use Rattle.ga_one_run.proofs.Asking.{miss-counts, same-all, same-none, same-some, walks-all, walks-miss, walks-some}
 use Rattle.ga_one_run.proofs.InputsEnds.{ends-count, ends-hungry, ends-last, ends-rules, looked-at, untouched}
 use Rattle.ga_one_run.proofs.Moments.{OnlyNow}
@@ -121,14 +125,25 @@ pub of-lines : (setup : Setup) (s : Settings) (base : SummaryValue) (start : Sta
     → IsOfLines base.totals total
 of-lines setup s base start lines total is h = record { setup = setup; lines = lines; are = subst (λ (x : Start). AreInTotal setup x.totals lines total) is h }
 
--- the whole is what the base grew to, where the run restores
-whole-is : (s : Settings) (stored : DbValue) (base run grown : SummaryValue) → base ≡ (base_of s stored).summary → GrowsBy s.restore base run grown → IsWhole s stored run (whole_of s grown run)
-whole-is s stored base run grown = by s.restore
+-- the whole is what the base grew to, where the run restores, and else what is left of the run's own sum
+whole-is : (s : Settings) (stored : DbValue) (base run grown left : SummaryValue) → base ≡ (base_of s stored).summary → GrowsBy s.restore s.keep base run grown left → IsWhole s stored run (whole_of s grown left)
+whole-is s stored base run grown left = by s.restore
   where
-    by : (b : Bool) → base ≡ (if b then stored else empty_db).summary → GrowsBy b base run grown
-        → MergesBy (if b then Append else Overwrite) stored.summary run (if b then grown else run)
-    by true same h = subst (λ (v : SummaryValue). IsMerged v run grown) same h
-    by false same h = refl
+    by : (b : Bool) → base ≡ (if b then stored else empty_db).summary → GrowsBy b s.keep base run grown left
+        → MergesBy (if b then Append else Overwrite) s.keep stored.summary run (if b then grown else left)
+    by true same (both, merged, new, own) = (both, subst (λ (v : SummaryValue). IsMerged v run both) same merged, new)
+    by false same (still, own) = own
+
+-- and so it is of what is left of that sum
+left-is : (s : Settings) (stored : DbValue) (base run grown left : SummaryValue) → IsSummary run → base ≡ (base_of s stored).summary → GrowsBy s.restore s.keep base run grown left
+    → IsWhole s stored left (whole_of s grown left)
+left-is s stored base run grown left sound = by s.restore
+  where
+    by : (b : Bool) → base ≡ (if b then stored else empty_db).summary → GrowsBy b s.keep base run grown left
+        → MergesBy (if b then Append else Overwrite) s.keep stored.summary left (if b then grown else left)
+    by true same (both, merged, new, own) =
+        (both, subst (λ (v : SummaryValue). IsMerged v left both) same (subst (λ (v : SummaryValue). IsMerged base v both) (sym own) merged), new)
+    by false same (still, own) = own ∙ sym (trimmed-twice s.keep run sound) ∙ ap (trimmed s.keep) (sym own)
 
 module _ (setup : Setup) (s : Settings) (files files' : FilesView) (stored : DbValue) (base : Base) (is : IsBaseOf (base_of s stored) base) (start : Start) (start-is : start ≡ begins s base.summary) where
   here : start ≡ start_of s stored
@@ -153,14 +168,14 @@ module _ (setup : Setup) (s : Settings) (files files' : FilesView) (stored : DbV
   pub hungry-here : (entries' : List Entry) (total : TallySeen) → CountsLogs setup start s.generate s.logs base.entries entries' files files' total → StopsAlone setup s stored files files' NoMemory
   hungry-here entries' total h = inr (refl, record { total = total; entries' = entries'; counted = counted-here entries' total h })
 
-  lines-here : (lines : List (List ℕ)) (total : TallySeen) (run grown : SummaryValue) → AreSums s base.summary grown total run → AreInTotal setup (start_of s stored).totals lines total
-      → CountsLines setup (start_of s stored).totals lines run
-  lines-here lines total run grown sums in-total =
-      subst (λ (v : SummaryValue). AreInTotal setup v.totals lines total → CountsLines setup v.totals lines run) is.summary (sums.counts setup lines) in-total
+  lines-here : (lines : List (List ℕ)) (total : TallySeen) (left grown : SummaryValue) (sums : AreSums s base.summary grown total left) → AreInTotal setup (start_of s stored).totals lines total
+      → CountsLines setup (start_of s stored).totals lines sums.run
+  lines-here lines total left grown sums in-total =
+      subst (λ (v : SummaryValue). AreInTotal setup v.totals lines total → CountsLines setup v.totals lines sums.run) is.summary (sums.counts setup lines) in-total
 
-  pub counts-on : (entries' : List Entry) (total : TallySeen) (run : SummaryValue) (base' : Base) → CountsLogs setup start s.generate s.logs base.entries entries' files files' total
-      → AreSums s base.summary base'.summary total run → base'.entries ≡ entries' → CountsOn setup s stored files files' run base'
-  counts-on entries' total run base' h sums same =
+  pub counts-on : (entries' : List Entry) (total : TallySeen) (left : SummaryValue) (base' : Base) → CountsLogs setup start s.generate s.logs base.entries entries' files files' total
+      → AreSums s base.summary base'.summary total left → base'.entries ≡ entries' → CountsOn setup s stored files files' left base'
+  counts-on entries' total left base' h sums same =
       let counted = counts-here entries' total h in
       record {
         has = record {
@@ -169,12 +184,13 @@ module _ (setup : Setup) (s : Settings) (files files' : FilesView) (stored : DbV
           entries' = entries';
           portions = counted.portions;
           read = counted.read;
-          run = run;
-          counts = lines-here (counted_lines s.generate (start_of s stored).follow counted.portions) total run base'.summary sums counted.counts;
-          whole = whole_of s base'.summary run;
-          is_whole = whole-is s stored base.summary run base'.summary is.summary sums.grown;
+          run = sums.run;
+          is_summary = sums.is_summary;
+          counts = lines-here (counted_lines s.generate (start_of s stored).follow counted.portions) total left base'.summary sums counted.counts;
+          whole = whole_of s base'.summary left;
+          is_whole = whole-is s stored base.summary sums.run base'.summary left is.summary sums.grown;
         };
-        run_is = refl;
+        is_whole = left-is s stored base.summary sums.run base'.summary left sums.is_summary is.summary sums.grown;
         whole_is = refl;
         entries_are = sym same;
       }
@@ -189,16 +205,16 @@ empty-base s base is = by s.restore
 
 -- ---- the calls
 
-module _ (setup : Setup) (s : Settings) (files files' : FilesView) (d d' : DiskView) (i i' : Images) (stored : DbValue) (finds : Finds s d d' i i' stored) (entries : List Entry)
-    (begin : AreBase s stored entries) where
+module _ (setup : Setup) (s : Settings) (files files' : FilesView) (d d' : DiskView) (i i' : Images) (stored : DbValue) (finds : Finds s d d' i i' stored) (agrees : differing s stored ≡ None)
+    (entries : List Entry) (begin : AreBase s stored entries) where
   walked : (count : ℕ) × Walks (start_of s stored).follow s.logs entries files files' count → WalksLogs s d files files'
   walked h = record { stored = stored; is_stored = there-in s d d' stored (found-there s d d' i i' stored finds); entries = entries; begin = begin; count = h.0; walks = h.1 }
 
   pub stops-as : (fault : CountFault) → StopsLogs setup (start_of s stored) s.generate s.logs entries files files' fault → StopsCounting setup s files files' d d' i i' (status_of_count fault)
-  stops-as (LogFailed place) h = record { found = record { stored = stored; finds = finds; entries = entries; begin = begin }; misses = h }
-  stops-as (LogShort place at) h = record { found = record { stored = stored; finds = finds; entries = entries; begin = begin }; misses = h }
+  stops-as (LogFailed place) h = record { found = record { stored = stored; finds = finds; agrees = agrees; entries = entries; begin = begin }; misses = h }
+  stops-as (LogShort place at) h = record { found = record { stored = stored; finds = finds; agrees = agrees; entries = entries; begin = begin }; misses = h }
   stops-as (Full which total) h =
-      record { found = record { stored = stored; finds = finds; entries = entries; begin = begin }; portions = h.portions; read = h.read; fills = h.fills }
+      record { found = record { stored = stored; finds = finds; agrees = agrees; entries = entries; begin = begin }; portions = h.portions; read = h.read; fills = h.fills }
   stops-as CountNoMemory (inl (place, portions, h)) = record {
     looks = looked-at s d d' i i' stored finds;
     asks = inr (walked (walks-miss h));
@@ -210,22 +226,53 @@ module _ (setup : Setup) (s : Settings) (files files' : FilesView) (d d' : DiskV
   pub hungry-last : (entries' : List Entry) (total : TallySeen) → CountsLogs setup (start_of s stored) s.generate s.logs entries entries' files files' total → StopsHungry s files files' d d' i i'
   hungry-last entries' total h = record { looks = looked-at s d d' i i' stored finds; asks = inr (walked (walks-all h.read)); faults = same-all h.read }
 
-module _ (setup : Setup) (s : Settings) (files files' : FilesView) (d d' : DiskView) (i i' : Images) (stored : DbValue) (finds : Finds s d d' i i' stored) where
+module _ (setup : Setup) (s : Settings) (files files' : FilesView) (d d' : DiskView) (i i' : Images) (stored : DbValue) (finds : Finds s d d' i i' stored) (agrees : differing s stored ≡ None) where
   abbrev Stops : Status → Type 0
   Stops status = StopsCounting setup s files files' d d' i i' status
 
   -- the logs weren't all counted, or they were, and memory ran out then
   pub stops-on : (status : Status) → StopsAlone setup s stored files files' status → StopsCounting setup s files files' d d' i i' status
-  stops-on status (inl h) = subst Stops (sym h.status_is) (stops-as setup s files files' d d' i i' stored finds h.entries h.begin h.fault h.stops)
-  stops-on status (inr (is, h)) = subst Stops (sym is) (hungry-last setup s files files' d d' i i' stored finds h.counted.entries h.counted.begin h.entries' h.total h.counted.counts)
+  stops-on status (inl h) = subst Stops (sym h.status_is) (stops-as setup s files files' d d' i i' stored finds agrees h.entries h.begin h.fault h.stops)
+  stops-on status (inr (is, h)) = subst Stops (sym is) (hungry-last setup s files files' d d' i i' stored finds agrees h.counted.entries h.counted.begin h.entries' h.total h.counted.counts)
+
+-- what was found keeps another number of days
+pub stops-differs : (setup : Setup) (s : Settings) (files : FilesView) (d d' : DiskView) (i i' : Images) (stored : DbValue) → Finds s d d' i i' stored → (status : Status) → Differs s stored status
+    → StopsCounting setup s files files d d' i i' status
+stops-differs setup s files d d' i i' stored finds status (number, differs, is) =
+    subst (λ (x : Status). StopsCounting setup s files files d d' i i' x) (sym is) (record { stored = stored; finds = finds; differs = differs; given_is = refl }, refl)
+
+pub differs-unread : (s : Settings) (stored : DbValue) (status : Status) → Differs s stored status → NoFileFailed status
+differs-unread s stored status (number, differs, is) = subst NoFileFailed (sym is) tt
 
 -- ---- a run that uses no database
 
--- its own sum is the whole
-pub overwrites : (s : Settings) (stored : DbValue) (run : SummaryValue) → uses_database s ≡ false → IsWhole s stored run run
+-- nothing that is stored has another number
+none-differs : (s : Settings) → differing s empty_db ≡ None
+none-differs s = by s.restore
+  where
+    by : (b : Bool) → (if b then other_than s.keep None else None) ≡ None
+    by true = refl
+    by false = refl
+
+pub empty-fits : (s : Settings) → TotalsFit (start_of s empty_db).totals
+empty-fits s = by s.restore
+  where
+    by : (b : Bool) → TotalsFit (if b then empty_db else empty_db).summary.totals
+    by true = record { lines = omega arith; bytes = omega arith; micros = omega arith }
+    by false = record { lines = omega arith; bytes = omega arith; micros = omega arith }
+
+-- the sum of lines is a summary, where they pass no limit
+pub sum-sound : (start : Totals) (outcomes : List Outcome) (sum : SummaryValue) → AllCountable outcomes → over start outcomes ≡ None → TotalsFit start → IsSumOf outcomes sum → IsSummary sum
+sum-sound start outcomes sum countable fits fit is =
+    let whole : TotalsFit (totals_plus start (totals_of outcomes)) = fits-on start outcomes fit fits in
+    let own : TotalsFit (totals_of outcomes) = record { lines = omega (arith, whole.lines); bytes = omega (arith, whole.bytes); micros = omega (arith, whole.micros) } in
+    record { ordered = is.ordered; sound = IsSound-sum outcomes sum countable own is }
+
+-- the last days of its own sum are the whole
+pub overwrites : (s : Settings) (stored : DbValue) (run : SummaryValue) → uses_database s ≡ false → IsWhole s stored run (trimmed s.keep run)
 overwrites s stored run alone = by s.persist s.restore alone
   where
-    by : (persist restore : Bool) → (persist || restore) ≡ false → MergesBy (if restore then Append else Overwrite) stored.summary run run
+    by : (persist restore : Bool) → (persist || restore) ≡ false → MergesBy (if restore then Append else Overwrite) s.keep stored.summary run (trimmed s.keep run)
     by true restore h = absurd (true≢false h)
     by false true h = absurd (true≢false h)
     by false false h = refl
@@ -262,11 +309,11 @@ ends-alone {line} {s} {start} {files} {files'} {setup} {d} {i} {o} {o'} {status}
     by : EndsTold (setup_of line s is.rules) s files files' o o' status ⊎ EndsUntold (setup_of line s is.rules) s files files' o o' status → EndsInputs line s (outside start d i o) (outside files' d i o') status
     by (inl t) =
         let counted = t.is_text.has in
-        ends-last line s start d i o files files' is.rules is.has_rules empty_db d i finding counted only d i o' went no_disk_call status
+        ends-last line s start d i o files files' is.rules is.has_rules empty_db d i finding (none-differs s) counted only d i o' went no_disk_call status
         (alone-last s empty_db counted.whole counted.entries' d i o o' alone t.text t.is_text.is_text status t.ends t.errors t.outs_trace)
     by (inr u) =
         subst (λ (outs : OutsView). EndsInputs line s (outside start d i o) (outside files' d i outs) status) (sym u.quiet)
-        (ends-count line s start d i o files files' is.rules is.has_rules d i went no_disk_call is.stay status (stops-on (setup_of line s is.rules) s files files' d d i i empty_db finding status u.stops) u.sure)
+        (ends-count line s start d i o files files' is.rules is.has_rules d i went no_disk_call is.stay status (stops-on (setup_of line s is.rules) s files files' d d i i empty_db finding (none-differs s) status u.stops) u.sure)
 
 -- ---- a run that uses the database
 
@@ -285,7 +332,8 @@ ready {setup} {s} {counted} {files} {files'} {d} {d'} {i} {i'} h uses = by h.fin
       after = record {
         stands = h.stands;
         holds = r.holds;
-        is_whole = subst (λ (run : SummaryValue). IsWhole s h.stored run (whole_in s counted)) h.run_is (subst (λ (whole : SummaryValue). IsWhole s h.stored h.has.run whole) h.whole_is h.has.is_whole);
+        agrees = agrees-with s h.stored h.agrees;
+        is_whole = h.is_whole;
       };
     }
     by (inr (none, left, empty)) = absurd (true≢false (sym uses ∙ none))
@@ -300,7 +348,7 @@ module _ {line : LineSetup} {s : Settings} {start files : FilesView} {setup : Se
   ends-so : EndsSo (setup_of line s is.rules)
   unfolding EndsSo
   ends-so h went dwent ends =
-      ends-last line s start d i o files files' is.rules is.has_rules h.stored d' i' h.finds h.has only d'' i'' o' (files_then is.files_trace went) dwent status
+      ends-last line s start d i o files files' is.rules is.has_rules h.stored d' i' h.finds h.agrees h.has only d'' i'' o' (files_then is.files_trace went) dwent status
       (subst (λ (whole : SummaryValue). EndsLast s h.stored whole h.has.entries' d' d'' i' i'' o o' status) (sym h.whole_is)
       (subst (λ (entries : List Entry). EndsLast s h.stored (whole_in s counted) entries d' d'' i' i'' o o' status) (sym h.entries_are) ends))
 

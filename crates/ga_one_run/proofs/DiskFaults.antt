@@ -16,7 +16,7 @@ use Rattle.ga_one_run.specs.Outside.{Outside}
 use Rattle.ga_one_run.specs.declared.status.Input.{Input}
 use Rattle.ga_one_run.specs.declared.status.Input.TheVariants.{Rules, Log}
 use Rattle.ga_one_run.specs.declared.status.Status.{Status}
-use Rattle.ga_one_run.specs.declared.status.Status.TheVariants.{Done, BadWords, BadFormat, BadRules, FileFault, FileShort, DiskFault, DbDamaged, OutFault, CounterFull, NoMemory}
+use Rattle.ga_one_run.specs.declared.status.Status.TheVariants.{Done, BadWords, BadFormat, BadRules, FileFault, FileShort, DiskFault, DbDamaged, KeepDiffers, OutFault, CounterFull, NoMemory}
 
 -- ---- faults
 
@@ -63,6 +63,7 @@ module _ (line : LineSetup) (s : Settings) (old new : Outside) where
   disk-faults-by DiskFault (inr h, quiet) =
       h.fails.fault ∙ ap (λ (n : ℕ). raised n 1) (found-faults s old.disk h.found h.come.stored h.come.finds)
   disk-faults-by (DbDamaged side at) ends = ends.0.misses.cause.faults
+  disk-faults-by (KeepDiffers number given) ends = of-finds ends.0.stored ends.0.finds
   disk-faults-by (OutFault to at) ends = of-report ends.has
   disk-faults-by (CounterFull which total) (inl h, quiet) = of-finds h.begun.stored h.begun.finds
   disk-faults-by (CounterFull which total) (inr h, quiet) = found-faults s old.disk new.disk h.come.stored h.come.finds
@@ -114,6 +115,7 @@ module _ (line : LineSetup) (s : Settings) (old new : Outside) where
     alone-by DiskFault (inl h, quiet) = not-used h.misses.uses
     alone-by DiskFault (inr h, quiet) = not-kept h.persists
     alone-by (DbDamaged side at) ends = not-used ends.0.misses.uses
+    alone-by (KeepDiffers number given) ends = alone-finds ends.0.stored ends.0.finds
     alone-by (OutFault to at) ends = alone-report ends.has
     alone-by (CounterFull which total) (inl h, quiet) = alone-finds h.begun.stored h.begun.finds
     alone-by (CounterFull which total) (inr h, quiet) = alone-there new.disk h.come.stored h.come.finds

@@ -34,7 +34,7 @@ use Rattle.ga_one_run.specs.Outside.{Outside, outside_of as outside}
 use Rattle.ga_one_run.specs.declared.status.Input.{Input}
 use Rattle.ga_one_run.specs.declared.status.Input.TheVariants.{Rules, Log}
 use Rattle.ga_one_run.specs.declared.status.Status.{Status}
-use Rattle.ga_one_run.specs.declared.status.Status.TheVariants.{Done, BadWords, BadFormat, BadRules, FileFault, FileShort, DiskFault, DbDamaged, OutFault, CounterFull, NoMemory}
+use Rattle.ga_one_run.specs.declared.status.Status.TheVariants.{Done, BadWords, BadFormat, BadRules, FileFault, FileShort, DiskFault, DbDamaged, KeepDiffers, OutFault, CounterFull, NoMemory}
 use Rattle.ga_one_run.proofs.DiskFaults.{found-faults}
 use Rattle.ga_one_run.proofs.Takes.{takes-nil}
 use Rattle.ga_one_run.proofs.Telling.{kept-rules}
@@ -80,6 +80,7 @@ module _ (line : LineSetup) (s : Settings) (old : Outside) (f : FilesView) (d : 
   written DiskFault (inl h, quiet) = (inl (record { rules = h.rules; has_rules = h.has_rules; misses = h.misses }), says quiet)
   written DiskFault (inr h, quiet) = (inr (record { found = h.found; come = h.come; persists = h.persists; fails = h.fails }), says quiet)
   written (DbDamaged side at) (h, quiet) = (record { rules = h.rules; has_rules = h.has_rules; misses = h.misses }, says quiet)
+  written (KeepDiffers number given) (h, quiet) = (record { rules = h.rules; has_rules = h.has_rules; stored = h.stored; finds = h.finds; differs = h.differs; given_is = h.given_is }, says quiet)
   written (OutFault to at) h = record {
     target_is = h.target_is;
     has = has-written h.has;
@@ -105,6 +106,7 @@ module _ (line : LineSetup) (s : Settings) (old : Outside) (f : FilesView) (d : 
   followed-written DiskFault (inl h, quiet) entries e = absurd e
   followed-written DiskFault (inr h, quiet) entries e = e
   followed-written (DbDamaged side at) h entries e = absurd e
+  followed-written (KeepDiffers number given) h entries e = absurd e
   followed-written (OutFault to at) h entries e = e
   followed-written (CounterFull which total) (inl h, quiet) entries e = e
   followed-written (CounterFull which total) (inr h, quiet) entries e = e
@@ -189,6 +191,7 @@ complete-by line s old new DiskFault (inl h, quiet) counted served disk took goo
 complete-by line s old new DiskFault (inr h, quiet) counted served disk took good =
     absurd (disk (rose-at _ _ (h.fails.fault ∙ ap (λ (n : ℕ). raised n 1) (found-faults s old.disk h.found h.come.stored h.come.finds))))
 complete-by line s old new (DbDamaged side at) ends counted served disk took good = absurd (good.database side at refl)
+complete-by line s old new (KeepDiffers number given) ends counted served disk took good = absurd (good.number number given refl)
 complete-by line s old new (OutFault to at) ends counted served disk took good = absurd (stopped-not line s old new to at ends took)
 complete-by line s old new (CounterFull which total) ends counted served disk took good = absurd (good.counters which total refl)
 complete-by line s old new NoMemory ends counted served disk took good = inr refl
@@ -245,6 +248,7 @@ module _ (line : LineSetup) (s : Settings) (old new : Outside) where
     absent-by (FileShort file at) ends = false≢true (sym (ap (is_absent name) (short-untold line s old new file at ends.0)) ∙ gone)
     absent-by DiskFault ends = tt
     absent-by (DbDamaged side at) ends = tt
+    absent-by (KeepDiffers number given) ends = tt
     absent-by (OutFault to at) ends = passed-not new.files old.disk ends.has.found ends.has.come
     absent-by (CounterFull which total) ends = tt
     absent-by NoMemory ends = tt
@@ -264,6 +268,7 @@ refused-by line s old new (FileFault file) ends undone none = ends.1
 refused-by line s old new (FileShort file at) ends undone none = ends.1
 refused-by line s old new DiskFault ends undone none = ends.1
 refused-by line s old new (DbDamaged side at) ends undone none = ends.1
+refused-by line s old new (KeepDiffers number given) ends undone none = ends.1
 refused-by line s old new (OutFault to at) ends undone none = absurd (none to at refl)
 refused-by line s old new (CounterFull which total) ends undone none = ends.1
 refused-by line s old new NoMemory ends undone none = ends.1
@@ -293,6 +298,7 @@ named words s says old new (FileShort file at) (inl early) = absurd early.0
 named words s says old new (FileShort file at) (inr (line, is, ended)) = input-named words line s says old new file (PlaceShort at) ended.ends.0
 named words s says old new DiskFault ends = refl
 named words s says old new (DbDamaged side at) ends = refl
+named words s says old new (KeepDiffers number given) ends = refl
 named words s says old new (OutFault to at) (inl early) = absurd early.0
 named words s says old new (OutFault to at) (inr (line, is, ended)) = (s, says, ended.ends.target_is, refl)
 named words s says old new (CounterFull which total) ends = refl
@@ -308,6 +314,7 @@ early-faults s counts (FileFault file) h = absurd h
 early-faults s counts (FileShort file at) h = absurd h
 early-faults s counts DiskFault h = absurd h
 early-faults s counts (DbDamaged side at) h = absurd h
+early-faults s counts (KeepDiffers number given) h = absurd h
 early-faults s counts (OutFault to at) h = absurd h
 early-faults s counts (CounterFull which total) h = absurd h
 early-faults s counts NoMemory h = record { faults = refl; shorts = refl; short_at = refl }

@@ -16,7 +16,7 @@ use Rattle.ga_words.specs.declared.settings.Settings.{Settings}
 use Rattle.ga_one_run.specs.Reports.{IsTextOf}
 use Rattle.ga_one_run.specs.Steps.Run.{EndsKeeping, EndsLast, EndsReport, status_of_store}
 use Rattle.ga_one_run.specs.declared.status.Status.{Status}
-use Rattle.ga_one_run.specs.declared.status.Status.TheVariants.{Done, BadWords, BadFormat, BadRules, FileFault, FileShort, DiskFault, DbDamaged, OutFault, CounterFull, NoMemory}
+use Rattle.ga_one_run.specs.declared.status.Status.TheVariants.{Done, BadWords, BadFormat, BadRules, FileFault, FileShort, DiskFault, DbDamaged, KeepDiffers, OutFault, CounterFull, NoMemory}
 
 module _ (s : Settings) (stored : DbValue) (whole : SummaryValue) (entries : List Entry) (d d' : DiskView) (i i' : Images) (o : OutsView) where
   -- the run wasn't kept
@@ -42,6 +42,7 @@ module _ (s : Settings) (stored : DbValue) (whole : SummaryValue) (entries : Lis
   delivers o' text is kept (FileShort file at) h = absurd h
   delivers o' text is kept DiskFault h = absurd h
   delivers o' text is kept (DbDamaged side at) h = absurd h
+  delivers o' text is kept (KeepDiffers number given) h = absurd h
   delivers o' text is kept (OutFault to at) h = record { text = text; is_text = is; kept = kept; report = h }
   delivers o' text is kept (CounterFull which total) h = absurd h
   delivers o' text is kept NoMemory h = absurd h

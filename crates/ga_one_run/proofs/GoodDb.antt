@@ -1,17 +1,20 @@
 -- The rows of what two sides say are in order, and its entries are those of logs.
-use Rattle.std.proofs.Common.{◌≡◌, ℕ, Bool, true, false, if◌then◌else◌, List, [], ◌∷◌, refl, ap, sym, subst, inl, inr, arith, map}
+use Rattle.std.proofs.Common.{◌≡◌, ℕ, ◌==◌, Bool, true, false, if◌then◌else◌, List, [], ◌∷◌, refl, ap, sym, subst, inl, inr, arith, map}
 use Rattle.std.specs.List.{AllByRecursion}
+use Rattle.std.specs.Option.{unwrap_or}
 use Rattle.std.specs.List.Sorted.{IsStrictlySortedBy}
 use Rattle.ga_base.specs.declared.entry.Entry.{Entry}
 use Rattle.ga_codec.specs.Shapes.{IsEntry}
 use Rattle.ga_codec.specs.Values.{EntryValue, SnapshotValue, entry_value}
 use Rattle.ga_disk.specs.Sides.{Sides}
 use Rattle.ga_keep.specs.RunDatabase.{AreBase, SidesHave, base_of}
-use Rattle.ga_store.specs.Database.{DbOf, DbValue, HasSnapshot, Reading, ReadsOn, TakesOn, empty_db, of_snapshot}
+use Rattle.ga_store.specs.Database.{DbOf, DbValue, HasSnapshot, Reading, ReadsOn, TakesOn, empty_db, of_snapshot, with_last_days}
 use Rattle.ga_store.specs.Database.DbOf.{chosen0, chosen1, equal, lacks0, lacks1, nothing}
 use Rattle.ga_store.specs.Database.Reading.{damaged, stored as reads_as}
 use Rattle.ga_store.specs.Database.ReadsOn.{breaks, ends, goes_on}
-use Rattle.ga_summary.specs.SummaryRows.{IsInOrder}
+use Rattle.ga_summary.specs.LastDays.{is_among_last, last_rows, trimmed}
+use Rattle.ga_summary.specs.SummaryRows.{IsInOrder, SummaryValue}
+use Rattle.ga_summary.proofs.LastDays.{filter-ordered}
 use Rattle.ga_words.specs.declared.settings.Settings.{Settings}
 
 pub record IsGoodDb (db : DbValue) : Type 0 where
@@ -34,13 +37,23 @@ next-good side old new t = record {
   entries = subst (AllByRecursion IsEntry) (sym (ap (λ (db : DbValue). db.entries) t.others)) t.spells.entries;
 }
 
+trimmed-ordered : (n : ℕ) (s : SummaryValue) → IsInOrder s.rows → IsInOrder (trimmed n s).rows
+trimmed-ordered n s ordered = by (n == 0)
+  where
+    by : (all : Bool) → IsInOrder (if all then s else record s { rows = last_rows n s.rows }).rows
+    by true = ordered
+    by false = filter-ordered (λ row. is_among_last n s.rows row.key.date) s.rows ordered
+
+last-good : (db : DbValue) → IsGoodDb db → IsGoodDb (with_last_days db)
+last-good db good = record { ordered = trimmed-ordered (unwrap_or db.keep 0) db.summary good.ordered; entries = good.entries }
+
 -- where the sides say a database, it is a good one
 abbrev SaysGood : Reading → Type 0
 SaysGood (reads_as db) = IsGoodDb db
 SaysGood (damaged side at) = Unit {0}
 
 good-on : (number : ℕ) (side : List ℕ) (db : DbValue) (reading : Reading) → IsGoodDb db → ReadsOn number side db reading → SaysGood reading
-good-on number side db reading good (ends gate) = good
+good-on number side db reading good (ends gate) = last-good db good
 good-on number side db reading good (goes_on {new = new} takes on) = good-on number side new reading (next-good side db new takes) on
 good-on number side db reading good (breaks gate none) = tt
 

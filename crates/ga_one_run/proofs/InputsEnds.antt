@@ -9,7 +9,7 @@ use Rattle.ga_disk.specs.Images.{Images, LeavesOnly, OnlyImage}
 use Rattle.ga_disk.specs.Sides.{Sides}
 use Rattle.ga_disk.specs.Trace.{DiskTrace}
 use Rattle.ga_disk.specs.Trace.DiskTrace.{no_disk_call, disk_then}
-use Rattle.ga_keep.specs.RunDatabase.{AreBase, FailsKeeping, Finds, IsUntouched, Keeps, KeptIf, LooksAtMost, MayKeep, OnlyLooks, Recovered, finding_calls, follow_of, lacks_generation, mode_of, uses_database}
+use Rattle.ga_keep.specs.RunDatabase.{AreBase, FailsKeeping, Finds, IsUntouched, Keeps, KeptIf, LooksAtMost, MayKeep, OnlyLooks, Recovered, differing, finding_calls, follow_of, lacks_generation, mode_of, uses_database}
 use Rattle.ga_line.specs.declared.setup.LineSetup.{LineSetup}
 use Rattle.ga_logs.specs.Following.{CanServe, MissesLog}
 use Rattle.ga_resume.specs.declared.follow.Follow.TheVariants.{Whole}
@@ -41,7 +41,7 @@ use Rattle.ga_one_run.specs.declared.rules.RulesFault.{RulesFault}
 use Rattle.ga_one_run.specs.declared.rules.RulesFault.TheVariants.{Unread, Bad}
 use Rattle.ga_one_run.specs.declared.status.Input.TheVariants.{Rules, Log}
 use Rattle.ga_one_run.specs.declared.status.Status.{Status}
-use Rattle.ga_one_run.specs.declared.status.Status.TheVariants.{Done, BadWords, BadFormat, BadRules, FileFault, FileShort, DiskFault, DbDamaged, OutFault, CounterFull, NoMemory}
+use Rattle.ga_one_run.specs.declared.status.Status.TheVariants.{Done, BadWords, BadFormat, BadRules, FileFault, FileShort, DiskFault, DbDamaged, KeepDiffers, OutFault, CounterFull, NoMemory}
 use Rattle.ga_one_run.proofs.Asking.{Asked, miss-counts, miss-rules, same-all, same-files, same-read, same-rules, same-some, same-then, walks-all, walks-behind, walks-miss, walks-rules, walks-some}
 use Rattle.ga_one_run.proofs.Moments.{OnlyNow, leaves-still, leaves-then, untouched-leaves}
 use Rattle.ga_one_run.proofs.Telling.{found-there, there-in}
@@ -132,7 +132,7 @@ module _ (s : Settings) (d d' : DiskView) (i i' : Images) (only : OnlyNow i) (st
       stays = h.stays;
     }
 
-    pub fails-since : FailsKeeping stored whole entries d' d'' i' i'' → FailsSince stored whole entries d' d'' i i''
+    pub fails-since : FailsKeeping s.keep stored whole entries d' d'' i' i'' → FailsSince s.keep stored whole entries d' d'' i i''
     fails-since h = record { new = h.new; after = h.after; may = if_some-map _ _ d'.seen (λ seen. may-since h.new) h.may; fault = h.fault; frames = h.frames }
 
     -- no side was changed after it
@@ -232,7 +232,7 @@ module _ (line : LineSetup) (s : Settings) (files : FilesView) (d : DiskView) (i
 
     module _ (d' : DiskView) (i' : Images) (went : FilesTrace files files') (dwent : DiskTrace d d') where
       abbrev begun : HasFound s d d' i i' → HasBegun s (outside files d i o) mid d' i'
-      begun found = record { rules = rules; has_rules = has; stored = found.stored; finds = found.finds; entries = found.entries; begin = found.begin }
+      begun found = record { rules = rules; has_rules = has; stored = found.stored; finds = found.finds; agrees = found.agrees; entries = found.entries; begin = found.begin }
 
       none-asked : {Followed : List Entry → Type 0} → files' ≡ mid → Asked s Followed files files'
       none-asked same = walks-rules s s.browsers_file refl files files' rules (subst (λ (v : FilesView). HasRules s.browsers_file files v rules) (sym same) has)
@@ -263,6 +263,11 @@ module _ (line : LineSetup) (s : Settings) (files : FilesView) (d : DiskView) (i
           stopped files' d' i' went dwent DiskFault (inl (record { rules = rules; has_rules = rules-still same; misses = misses }), refl) (none-asked same) (same-then same-before (same-files same))
       ends-count stay (DbDamaged side at) (misses, same) sure =
           stopped files' d' i' went dwent (DbDamaged side at) (record { rules = rules; has_rules = rules-still same; misses = misses }, refl) (none-asked same) (same-then same-before (same-files same))
+      ends-count stay (KeepDiffers number given) (other, same) sure =
+          stopped files' d' i' went dwent (KeepDiffers number given) (
+            record { rules = rules; has_rules = rules-still same; stored = other.stored; finds = other.finds; differs = other.differs; given_is = other.given_is },
+            refl,
+          ) (none-asked same) (same-then same-before (same-files same))
       ends-count stay (OutFault to at) h sure = absurd h
       ends-count stay (CounterFull which total) h sure =
           stopped files' d' i' went dwent (CounterFull which total) (inl (record { mid = mid; begun = begun h.found; portions = h.portions; read = h.read; fills = h.fills }), refl)
@@ -275,7 +280,7 @@ module _ (line : LineSetup) (s : Settings) (files : FilesView) (d : DiskView) (i
 
     -- ---- after the counting
 
-    module _ (stored : DbValue) (d' : DiskView) (i' : Images) (finding : Finds s d d' i i' stored) (counted : HasCounted (setup_of line s rules) s stored mid files') where
+    module _ (stored : DbValue) (d' : DiskView) (i' : Images) (finding : Finds s d d' i i' stored) (agrees : differing s stored ≡ None) (counted : HasCounted (setup_of line s rules) s stored mid files') where
       all-asked : {Followed : List Entry → Type 0} → Followed counted.entries → Asked s Followed files files'
       all-asked followed = asks-logs counted.entries followed (walks-all counted.read)
 
@@ -283,7 +288,7 @@ module _ (line : LineSetup) (s : Settings) (files : FilesView) (d : DiskView) (i
       all-same = same-then same-before (same-all counted.read)
 
       abbrev come : (d'' : DiskView) → FindsThere s d d'' stored → ReachesReport line s files files' d d''
-      come d'' finds = record { rules = rules; mid = mid; has_rules = has; stored = stored; finds = finds; counted = counted }
+      come d'' finds = record { rules = rules; mid = mid; has_rules = has; stored = stored; finds = finds; agrees = agrees; counted = counted }
 
       there : FindsThere s d d' stored
       there = found-there s d d' i i' stored finding
@@ -324,6 +329,7 @@ module _ (line : LineSetup) (s : Settings) (files : FilesView) (d : DiskView) (i
           all-same,
         )
         ends-as (DbDamaged side at) h = absurd h
+        ends-as (KeepDiffers number given) h = absurd h
         ends-as (OutFault to at) h = (record { target_is = h.report.target_is; has = has-report h; stops = h.report.stops; unsure = h.report.unsure }, all-asked refl, all-same)
         ends-as (CounterFull which total) (persists, counter, value-is, passes, left, quiet) =
             let finds = finds-still s d i stored d' d'' i' i'' left finding in (

@@ -19,7 +19,7 @@ use Rattle.ga_one_run.specs.Outside.{Outside}
 use Rattle.ga_one_run.specs.declared.status.Input.{Input}
 use Rattle.ga_one_run.specs.declared.status.Input.TheVariants.{Rules, Log}
 use Rattle.ga_one_run.specs.declared.status.Status.{Status}
-use Rattle.ga_one_run.specs.declared.status.Status.TheVariants.{Done, BadWords, BadFormat, BadRules, FileFault, FileShort, DiskFault, DbDamaged, OutFault, CounterFull, NoMemory}
+use Rattle.ga_one_run.specs.declared.status.Status.TheVariants.{Done, BadWords, BadFormat, BadRules, FileFault, FileShort, DiskFault, DbDamaged, KeepDiffers, OutFault, CounterFull, NoMemory}
 use Rattle.ga_one_run.proofs.InputsEnds.{looked-at}
 use Rattle.ga_one_run.proofs.Moments.{OnlyNow, untouched-leaves}
 use Rattle.ga_one_run.proofs.Telling.{seen-same}
@@ -135,6 +135,7 @@ module _ (line : LineSetup) (s : Settings) (old new : Outside) (only : OnlyNow o
   leaves-by DiskFault (inl h, quiet) = inl (of-looks h.misses.looks)
   leaves-by DiskFault (inr h, quiet) = of-fault h
   leaves-by (DbDamaged side at) ends = inl (of-looks ends.0.misses.looks)
+  leaves-by (KeepDiffers number given) ends = inl (of-finds ends.0.stored ends.0.finds)
   leaves-by (OutFault to at) ends = of-report (OutFault to at) (λ stored after h. h) ends.has
   leaves-by (CounterFull which total) (inl h, quiet) = inl (of-finds h.begun.stored h.begun.finds)
   leaves-by (CounterFull which total) (inr h, quiet) = inl (of-full which total h)

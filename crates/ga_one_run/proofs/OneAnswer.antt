@@ -11,7 +11,7 @@ use Rattle.ga_base.specs.declared.counts.Totals.{Totals}
 use Rattle.ga_base.specs.declared.entry.Entry.{Entry}
 use Rattle.ga_codec.specs.Values.{EntryValue, entry_value}
 use Rattle.ga_disk.specs.Sides.{Sides}
-use Rattle.ga_keep.specs.RunDatabase.{AreBase, SidesHave, follow_of, lacks_generation, mode_of, start_of, uses_database}
+use Rattle.ga_keep.specs.RunDatabase.{AreBase, SidesHave, differing, follow_of, lacks_generation, mode_of, start_of, uses_database}
 use Rattle.ga_line.specs.Lines.{lines}
 use Rattle.ga_line.specs.declared.setup.LineSetup.{LineSetup}
 use Rattle.ga_outcomes.specs.LineOutcomes.{CountsLines, FillsAmong}
@@ -28,15 +28,16 @@ use Rattle.ga_store.specs.Database.{DbOf, DbValue, Reading}
 use Rattle.ga_store.specs.Database.Reading.{damaged, stored as reads_as}
 use Rattle.ga_store.specs.declared.mode.Mode.{Mode}
 use Rattle.ga_store.specs.declared.mode.Mode.TheVariants.{Append, Overwrite}
+use Rattle.ga_summary.specs.LastDays.{trimmed}
 use Rattle.ga_summary.specs.SummaryRows.{SummaryValue}
 use Rattle.ga_summary.proofs.Unique.{one_merged}
 use Rattle.ga_words.specs.declared.settings.Settings.{Settings}
 use Rattle.ga_one_run.specs.Reports.{IsTextOf}
 use Rattle.ga_one_run.specs.Setups.{setup_of}
 use Rattle.ga_one_run.specs.Told.{Answers, CountsTold, FillsTold, HasBadLine, RulesAreTold, Yield}
-use Rattle.ga_one_run.specs.Told.Answers.{answers_rules, answers_damage, answers_full, answers_generation, answers_done}
+use Rattle.ga_one_run.specs.Told.Answers.{answers_rules, answers_damage, answers_differs, answers_full, answers_generation, answers_done}
 use Rattle.ga_one_run.specs.declared.status.Status.{Status}
-use Rattle.ga_one_run.specs.declared.status.Status.TheVariants.{BadRules, CounterFull, DbDamaged}
+use Rattle.ga_one_run.specs.declared.status.Status.TheVariants.{BadRules, CounterFull, DbDamaged, KeepDiffers}
 use Rattle.ga_one_run.proofs.OneCount.{fills-longer}
 
 none-some : {A : Type 0} {a : A} → None ≡ Some a → ⊥
@@ -145,9 +146,9 @@ one-base s stored a b h k = entries-same a b (h ∙ sym k)
 
 -- ---- sums
 
-one-whole : (mode : Mode) (old run x y : SummaryValue) → MergesBy mode old run x → MergesBy mode old run y → x ≡ y
-one-whole Overwrite old run x y h k = h ∙ sym k
-one-whole Append old run x y h k = one_merged old run x y h k
+one-whole : (mode : Mode) (keep : ℕ) (old run x y : SummaryValue) → MergesBy mode keep old run x → MergesBy mode keep old run y → x ≡ y
+one-whole Overwrite keep old run x y h k = h ∙ sym k
+one-whole Append keep old run x y (both, merged, is) (both', merged', is') = is ∙ ap (trimmed keep) (one_merged old run both both' merged merged') ∙ sym is'
 
 -- ---- told logs
 
@@ -217,7 +218,7 @@ module _ (reading : OneReading) (course : OneCourse) (database : OneDatabase) (s
         (subst (λ (es : List Entry). AreTold (follow_of s) files.contents s.logs es entries h.portions) base h.told) k.told in
         let run : h.run ≡ k.run = count.total rules (start_of s stored).totals (counted_lines s.generate (follow_of s) k.portions) h.run k.run
         (subst (λ (ps : List Portion). CountsLines (setup_of line s rules) (start_of s stored).totals (counted_lines s.generate (follow_of s) ps) h.run) both.0 h.counts) k.counts in
-        (one-whole (mode_of s) stored.summary k.run whole other (subst (λ (r : SummaryValue). MergesBy (mode_of s) stored.summary r whole) run h.is_whole) k.is_whole, both.1)
+        (one-whole (mode_of s) s.keep stored.summary k.run whole other (subst (λ (r : SummaryValue). MergesBy (mode_of s) s.keep stored.summary r whole) run h.is_whole) k.is_whole, both.1)
 
     fills-same : (which which' : Counter) (total total' : ℕ) → FillsTold line s rules stored files which total → FillsTold line s rules stored files which' total' → CounterFull which total ≡ CounterFull which' total'
     fills-same which which' total total' h k =
@@ -271,44 +272,68 @@ module _ (reading : OneReading) (course : OneCourse) (database : OneDatabase) (s
     fills-as which total k =
         subst (λ (d : DbValue). FillsTold line s rules d files which total) stored-is (subst (λ (r : List Rule). FillsTold line s r stored' files which total) rules-are k)
 
+    differs-as : (o : Option ℕ) → differing s stored' ≡ o → differing s stored ≡ o
+    differs-as o k = subst (λ (d : DbValue). differing s d ≡ o) stored-is k
+
+    -- what is stored keeps one number of days
+    not-other : {number : ℕ} → differing s stored ≡ None → differing s stored' ≡ Some number → ⊥
+    not-other agrees differs = none-some (sym agrees ∙ differs-as _ differs)
+
+    but-other : {number : ℕ} → differing s stored ≡ Some number → differing s stored' ≡ None → ⊥
+    but-other differs agrees = none-some (sym (differs-as None agrees) ∙ differs)
+
     lacks-as : (b : Bool) → lacks_generation s stored' ≡ b → lacks_generation s stored ≡ b
     lacks-as b k = subst (λ (d : DbValue). lacks_generation s d ≡ b) stored-is k
 
   pub one-answer : (a b : Status) (x y : Option Yield) → Answers line s files sides a x → Answers line s files sides b y → Same a b x y
   one-answer a b x y (answers_rules h) (answers_rules k) = (ap BadRules (one-bad reading s files _ _ h k), refl)
   one-answer a b x y (answers_rules h) (answers_damage rules told uses k) = absurd (no-bad reading s files _ _ told h)
-  one-answer a b x y (answers_rules h) (answers_full rules stored told has k) = absurd (no-bad reading s files _ _ told h)
-  one-answer a b x y (answers_rules h) (answers_generation rules stored whole entries told has k lacks) = absurd (no-bad reading s files _ _ told h)
-  one-answer a b x y (answers_rules h) (answers_done rules stored told has k room is) = absurd (no-bad reading s files _ _ told h)
+  one-answer a b x y (answers_rules h) (answers_differs rules stored told has k) = absurd (no-bad reading s files _ _ told h)
+  one-answer a b x y (answers_rules h) (answers_full rules stored told has agrees k) = absurd (no-bad reading s files _ _ told h)
+  one-answer a b x y (answers_rules h) (answers_generation rules stored whole entries told has agrees k lacks) = absurd (no-bad reading s files _ _ told h)
+  one-answer a b x y (answers_rules h) (answers_done rules stored told has agrees k room is) = absurd (no-bad reading s files _ _ told h)
   one-answer a b x y (answers_damage rules told uses h) (answers_rules k) = absurd (no-bad reading s files _ _ told k)
   one-answer a b x y (answers_damage rules {side = side} {at = at} told uses h) (answers_damage rules' {side = side'} {at = at'} told' uses' k) =
       let same = damage-same (database sides (damaged side at) (damaged side' at') h k) in
       (ap (λ (n : ℕ). DbDamaged n at) same.0 ∙ ap (λ (n : ℕ). DbDamaged side' n) same.1, refl)
-  one-answer a b x y (answers_damage rules told uses h) (answers_full rules' stored' told' has k) = absurd (no-damage database s sides _ _ _ uses has h)
-  one-answer a b x y (answers_damage rules told uses h) (answers_generation rules' stored' whole' entries' told' has k lacks) = absurd (no-damage database s sides _ _ _ uses has h)
-  one-answer a b x y (answers_damage rules told uses h) (answers_done rules' stored' told' has k room is) = absurd (no-damage database s sides _ _ _ uses has h)
-  one-answer a b x y (answers_full rules stored told has h) (answers_rules k) = absurd (no-bad reading s files _ _ told k)
-  one-answer a b x y (answers_full rules stored told has h) (answers_damage rules' told' uses k) = absurd (no-damage database s sides _ _ _ uses has k)
-  one-answer a b x y (answers_full rules stored told has h) (answers_full rules' stored' told' has' k) =
+  one-answer a b x y (answers_damage rules told uses h) (answers_differs rules' stored' told' has k) = absurd (no-damage database s sides _ _ _ uses has h)
+  one-answer a b x y (answers_damage rules told uses h) (answers_full rules' stored' told' has agrees' k) = absurd (no-damage database s sides _ _ _ uses has h)
+  one-answer a b x y (answers_damage rules told uses h) (answers_generation rules' stored' whole' entries' told' has agrees' k lacks) = absurd (no-damage database s sides _ _ _ uses has h)
+  one-answer a b x y (answers_damage rules told uses h) (answers_done rules' stored' told' has agrees' k room is) = absurd (no-damage database s sides _ _ _ uses has h)
+  one-answer a b x y (answers_differs rules stored told has h) (answers_rules k) = absurd (no-bad reading s files _ _ told k)
+  one-answer a b x y (answers_differs rules stored told has h) (answers_damage rules' told' uses k) = absurd (no-damage database s sides _ _ _ uses has k)
+  one-answer a b x y (answers_differs rules stored told has h) (answers_differs rules' stored' told' has' k) =
+      (ap (λ (n : ℕ). KeepDiffers n s.keep) (some-same (sym h ∙ differs-as rules rules' stored stored' told told' has has' _ k)), refl)
+  one-answer a b x y (answers_differs rules stored told has h) (answers_full rules' stored' told' has' agrees k) = absurd (but-other rules rules' stored stored' told told' has has' h agrees)
+  one-answer a b x y (answers_differs rules stored told has h) (answers_generation rules' stored' whole' entries' told' has' agrees k lacks) =
+      absurd (but-other rules rules' stored stored' told told' has has' h agrees)
+  one-answer a b x y (answers_differs rules stored told has h) (answers_done rules' stored' told' has' agrees k room is) = absurd (but-other rules rules' stored stored' told told' has has' h agrees)
+  one-answer a b x y (answers_full rules stored told has agrees h) (answers_rules k) = absurd (no-bad reading s files _ _ told k)
+  one-answer a b x y (answers_full rules stored told has agrees h) (answers_damage rules' told' uses k) = absurd (no-damage database s sides _ _ _ uses has k)
+  one-answer a b x y (answers_full rules stored told has agrees h) (answers_differs rules' stored' told' has' k) = absurd (not-other rules rules' stored stored' told told' has has' agrees k)
+  one-answer a b x y (answers_full rules stored told has agrees h) (answers_full rules' stored' told' has' agrees' k) =
       (fills-same rules stored _ _ _ _ h (fills-as rules rules' stored stored' told told' has has' _ _ k), refl)
-  one-answer a b x y (answers_full rules stored told has h) (answers_generation rules' stored' whole' entries' told' has' k lacks) =
+  one-answer a b x y (answers_full rules stored told has agrees h) (answers_generation rules' stored' whole' entries' told' has' agrees' k lacks) =
       absurd (not-full rules stored _ _ _ _ (counts-as rules rules' stored stored' told told' has has' _ _ k) h)
-  one-answer a b x y (answers_full rules stored told has h) (answers_done rules' stored' told' has' k room is) =
+  one-answer a b x y (answers_full rules stored told has agrees h) (answers_done rules' stored' told' has' agrees' k room is) =
       absurd (not-full rules stored _ _ _ _ (counts-as rules rules' stored stored' told told' has has' _ _ k) h)
-  one-answer a b x y (answers_generation rules stored whole entries told has h lacks) (answers_rules k) = absurd (no-bad reading s files _ _ told k)
-  one-answer a b x y (answers_generation rules stored whole entries told has h lacks) (answers_damage rules' told' uses k) = absurd (no-damage database s sides _ _ _ uses has k)
-  one-answer a b x y (answers_generation rules stored whole entries told has h lacks) (answers_full rules' stored' told' has' k) =
+  one-answer a b x y (answers_generation rules stored whole entries told has agrees h lacks) (answers_rules k) = absurd (no-bad reading s files _ _ told k)
+  one-answer a b x y (answers_generation rules stored whole entries told has agrees h lacks) (answers_damage rules' told' uses k) = absurd (no-damage database s sides _ _ _ uses has k)
+  one-answer a b x y (answers_generation rules stored whole entries told has agrees h lacks) (answers_differs rules' stored' told' has' k) =
+      absurd (not-other rules rules' stored stored' told told' has has' agrees k)
+  one-answer a b x y (answers_generation rules stored whole entries told has agrees h lacks) (answers_full rules' stored' told' has' agrees' k) =
       absurd (not-full rules stored _ _ _ _ h (fills-as rules rules' stored stored' told told' has has' _ _ k))
-  one-answer a b x y (answers_generation rules stored whole entries told has h lacks) (answers_generation rules' stored' whole' entries' told' has' k lacks') = (refl, refl)
-  one-answer a b x y (answers_generation rules stored whole entries told has h lacks) (answers_done rules' stored' told' has' k room is) =
+  one-answer a b x y (answers_generation rules stored whole entries told has agrees h lacks) (answers_generation rules' stored' whole' entries' told' has' agrees' k lacks') = (refl, refl)
+  one-answer a b x y (answers_generation rules stored whole entries told has agrees h lacks) (answers_done rules' stored' told' has' agrees' k room is) =
       absurd (false≢true (sym (lacks-as rules rules' stored stored' told told' has has' false room) ∙ lacks))
-  one-answer a b x y (answers_done rules stored told has h room is) (answers_rules k) = absurd (no-bad reading s files _ _ told k)
-  one-answer a b x y (answers_done rules stored told has h room is) (answers_damage rules' told' uses k) = absurd (no-damage database s sides _ _ _ uses has k)
-  one-answer a b x y (answers_done rules stored told has h room is) (answers_full rules' stored' told' has' k) =
+  one-answer a b x y (answers_done rules stored told has agrees h room is) (answers_rules k) = absurd (no-bad reading s files _ _ told k)
+  one-answer a b x y (answers_done rules stored told has agrees h room is) (answers_damage rules' told' uses k) = absurd (no-damage database s sides _ _ _ uses has k)
+  one-answer a b x y (answers_done rules stored told has agrees h room is) (answers_differs rules' stored' told' has' k) = absurd (not-other rules rules' stored stored' told told' has has' agrees k)
+  one-answer a b x y (answers_done rules stored told has agrees h room is) (answers_full rules' stored' told' has' agrees' k) =
       absurd (not-full rules stored _ _ _ _ h (fills-as rules rules' stored stored' told told' has has' _ _ k))
-  one-answer a b x y (answers_done rules stored told has h room is) (answers_generation rules' stored' whole' entries' told' has' k lacks) =
+  one-answer a b x y (answers_done rules stored told has agrees h room is) (answers_generation rules' stored' whole' entries' told' has' agrees' k lacks) =
       absurd (false≢true (sym room ∙ lacks-as rules rules' stored stored' told told' has has' true lacks))
-  one-answer a b x y (answers_done rules stored {yield = yield} told has h room is) (answers_done rules' stored' {yield = other} told' has' k room' is') =
+  one-answer a b x y (answers_done rules stored {yield = yield} told has agrees h room is) (answers_done rules' stored' {yield = other} told' has' agrees' k room' is') =
       let both = one-counted rules stored yield.whole other.whole yield.entries other.entries h (counts-as rules rules' stored stored' told told' has has' other.whole other.entries k) in
       let text = one-text yield.whole yield.text other.text is (subst (λ (w : SummaryValue). IsTextOf s w other.text) (sym both.0) is') in
       (refl, ap Some (yield-same yield other text both.0 both.1))

@@ -30,14 +30,14 @@ use Rattle.ga_one_run.specs.Run.{AreRefused, HasGoodInput, HaveRefused, HaveSetu
 use Rattle.ga_one_run.specs.Setups.{IsLineSetup, IsRefused}
 use Rattle.ga_one_run.specs.Statuses.{fault_line, IsFaultLine, NamesFailed}
 use Rattle.ga_one_run.specs.Told.{Answers, CountsTold, HasBadLine, RulesAreTold, Yield}
-use Rattle.ga_one_run.specs.Told.Answers.{answers_rules, answers_damage, answers_full, answers_generation, answers_done}
+use Rattle.ga_one_run.specs.Told.Answers.{answers_rules, answers_damage, answers_differs, answers_full, answers_generation, answers_done}
 use Rattle.ga_base.specs.declared.formats.FormatFault.{FormatFault}
 use Rattle.ga_store.specs.declared.mode.Mode.{Mode}
 use Rattle.ga_summary.specs.SummaryRows.{SummaryValue}
 use Rattle.ga_one_run.specs.declared.status.Which.{Which}
 use Rattle.ga_one_run.specs.declared.status.Which.TheVariants.{Log, Date, Time}
 use Rattle.ga_one_run.specs.declared.status.Status.{Status}
-use Rattle.ga_one_run.specs.declared.status.Status.TheVariants.{Done, BadWords, BadFormat, BadRules, FileFault, FileShort, DiskFault, DbDamaged, OutFault, CounterFull, NoMemory}
+use Rattle.ga_one_run.specs.declared.status.Status.TheVariants.{Done, BadWords, BadFormat, BadRules, FileFault, FileShort, DiskFault, DbDamaged, KeepDiffers, OutFault, CounterFull, NoMemory}
 use Rattle.ga_one_run.proofs.Agreeing.{answers-on}
 use Rattle.ga_one_run.proofs.Endings.{stops-rose}
 use Rattle.ga_one_run.proofs.OneAnswer.{OneDatabase}
@@ -106,14 +106,15 @@ module _ (line : LineSetup) (s : Settings) (a b : FilesView) (same : Same a b (i
   answers-along : (sides : Sides) (status : Status) (yield : Option Yield) → Answers line s b sides status yield → Answers line s a sides status yield
   answers-along sides status yield (answers_rules h) = answers_rules (bad-along _ h)
   answers-along sides status yield (answers_damage rules told uses h) = answers_damage rules (told-rules rules told) uses h
-  answers-along sides status yield (answers_full rules stored told has h) = answers_full rules stored (told-rules rules told) has (record {
+  answers-along sides status yield (answers_differs rules stored told has h) = answers_differs rules stored (told-rules rules told) has h
+  answers-along sides status yield (answers_full rules stored told has agrees h) = answers_full rules stored (told-rules rules told) has agrees (record {
     entries = h.entries;
     begin = h.begin;
     portions = h.portions;
     told = some-along _ a b s.logs h.entries h.portions same-logs h.told;
     fills = h.fills;
   })
-  answers-along sides status yield (answers_generation rules stored whole entries told has h lacks) = answers_generation rules stored whole entries (told-rules rules told) has (record {
+  answers-along sides status yield (answers_generation rules stored whole entries told has agrees h lacks) = answers_generation rules stored whole entries (told-rules rules told) has agrees (record {
     entries = h.entries;
     begin = h.begin;
     portions = h.portions;
@@ -122,7 +123,7 @@ module _ (line : LineSetup) (s : Settings) (a b : FilesView) (same : Same a b (i
     counts = h.counts;
     is_whole = h.is_whole;
   }) lacks
-  answers-along sides status yield (answers_done rules stored {yield = own} told has h room is) = answers_done rules stored (told-rules rules told) has (counts-along own h) room is
+  answers-along sides status yield (answers_done rules stored {yield = own} told has agrees h room is) = answers_done rules stored (told-rules rules told) has agrees (counts-along own h) room is
 
 -- ---- how an untroubled run ended
 
@@ -139,6 +140,7 @@ nameless (FileFault file) h = absurd (h tt)
 nameless (FileShort file at) h = absurd (h tt)
 nameless DiskFault h = absurd (h tt)
 nameless (DbDamaged side at) h = λ words name e. e
+nameless (KeepDiffers number given) h = λ words name e. e
 nameless (OutFault to at) h = absurd (h tt)
 nameless (CounterFull which total) h = λ words name e. e
 nameless NoMemory h = absurd (h tt)
@@ -158,15 +160,16 @@ output-still words sides r u None = u.output
 output-still words sides r u (Some name) = u.file
 
 -- the database that a run left, by what it yields and what these sides had
-pub record IsLeftBy (mode : Mode) (sides : Sides) (yield : Yield) (db : DbValue) : Type 0 where
+pub record IsLeftBy (mode : Mode) (keep : ℕ) (sides : Sides) (yield : Yield) (db : DbValue) : Type 0 where
   pub summary : db.summary ≡ yield.whole
   pub entries : db.entries ≡ map entry_value yield.entries
+  pub number : db.keep ≡ Some keep
   pub stored : DbValue
   pub had : DbOf sides (reads_as stored)
   pub next : IsNext mode stored db
 
 abbrev LeftBy : Settings → RunView → Yield → Type 0
-LeftBy s r yield = (sides : Sides) → r.old.disk.seen ≡ Some sides → (db : DbValue) → HasDatabase r.new db → IsLeftBy (mode_of s) sides yield db
+LeftBy s r yield = (sides : Sides) → r.old.disk.seen ≡ Some sides → (db : DbValue) → HasDatabase r.new db → IsLeftBy (mode_of s) s.keep sides yield db
 
 -- what was found there is what the sides had, where the run persists
 found-had : (s : Settings) (d d' : DiskView) (stored : DbValue) → s.persist ≡ true → FindsThere s d d' stored → (sides : Sides) → d.seen ≡ Some sides → DbOf sides (reads_as stored)
@@ -194,23 +197,24 @@ module _ (law : ReadAsTold) (database : OneDatabase) (words : List (List ℕ)) (
     settled (BadWords fault) e h = h
     settled (BadFormat which fault) e h = h
     settled (BadRules at) e h = h
-    settled (FileFault file) e h = by (ends-as (record { rules = λ n f. cc; database = λ n m f. cc; counters = λ w n f. cc }))
+    settled (FileFault file) e h = by (ends-as (record { rules = λ n f. cc; database = λ n m f. cc; number = λ n m f. cc; counters = λ w n f. cc }))
       where
         by : (r.status ≡ Done) ⊎ (r.status ≡ NoMemory) → ⊥
         by (inl f) = absurd (cc e)
         by (inr f) = absurd (cc e)
-    settled (FileShort file at) e h = by (ends-as (record { rules = λ n f. cc; database = λ n m f. cc; counters = λ w n f. cc }))
+    settled (FileShort file at) e h = by (ends-as (record { rules = λ n f. cc; database = λ n m f. cc; number = λ n m f. cc; counters = λ w n f. cc }))
       where
         by : (r.status ≡ Done) ⊎ (r.status ≡ NoMemory) → ⊥
         by (inl f) = absurd (cc e)
         by (inr f) = absurd (cc e)
-    settled DiskFault e h = by (ends-as (record { rules = λ n f. cc; database = λ n m f. cc; counters = λ w n f. cc }))
+    settled DiskFault e h = by (ends-as (record { rules = λ n f. cc; database = λ n m f. cc; number = λ n m f. cc; counters = λ w n f. cc }))
       where
         by : (r.status ≡ Done) ⊎ (r.status ≡ NoMemory) → ⊥
         by (inl f) = absurd (cc e)
         by (inr f) = absurd (cc e)
     settled (DbDamaged side at) e h = h
-    settled (OutFault to at) e h = by (ends-as (record { rules = λ n f. cc; database = λ n m f. cc; counters = λ w n f. cc }))
+    settled (KeepDiffers number given) e h = h
+    settled (OutFault to at) e h = by (ends-as (record { rules = λ n f. cc; database = λ n m f. cc; number = λ n m f. cc; counters = λ w n f. cc }))
       where
         by : (r.status ≡ Done) ⊎ (r.status ≡ NoMemory) → ⊥
         by (inl f) = absurd (cc e)
@@ -233,6 +237,7 @@ module _ (law : ReadAsTold) (database : OneDatabase) (words : List (List ℕ)) (
             record {
               summary = ap (λ (v : DbValue). v.summary) same ∙ k.after.summary ∙ sym whole;
               entries = ap (λ (v : DbValue). v.entries) same ∙ k.after.entries ∙ ap (map entry_value) (sym entries);
+              number = ap (λ (v : DbValue). v.keep) same ∙ k.after.number;
               stored = h.come.stored;
               had = found-had s r.old.disk h.found h.come.stored persists h.come.finds seen reads;
               next = subst (λ (v : DbValue). IsNext (mode_of s) h.come.stored v) (sym same) k.next;
@@ -248,7 +253,7 @@ module _ (law : ReadAsTold) (database : OneDatabase) (words : List (List ℕ)) (
     -- an answer without a yield
     by-refusal : (status : Status) → ((yield : Option Yield) × Answers line s r.old.files sides status yield) → status ≢ Done → SaysOnly r.old r.new → r.new.disk.seen ≡ r.old.disk.seen → Ending status
     by-refusal status (None, h) undone quiet still = (None, h, (quiet, still))
-    by-refusal status (Some yield, answers_done rules stored told has h room is') undone quiet still = absurd (undone refl)
+    by-refusal status (Some yield, answers_done rules stored told has agrees h room is') undone quiet still = absurd (undone refl)
 
     untroubled : (status : Status) → ¬ IsTrouble status → IsTrouble status ⊎ ((yield : Option Yield) × Answers line s r.old.files sides status yield)
         → (yield : Option Yield) × Answers line s r.old.files sides status yield
@@ -267,6 +272,8 @@ module _ (law : ReadAsTold) (database : OneDatabase) (words : List (List ℕ)) (
     ending DiskFault fine h = absurd (fine tt)
     ending (DbDamaged side at) fine h = by-refusal (DbDamaged side at) (untroubled (DbDamaged side at) fine (answers law line s r.old r.new sides u.told_all (u.told_sides s says) (DbDamaged side at) h)) (λ e. cc)
         h.1 (ap (λ (v : DiskView). v.seen) h.0.misses.looks.view)
+    ending (KeepDiffers number given) fine h = by-refusal (KeepDiffers number given) (untroubled (KeepDiffers number given) fine (answers law line s r.old r.new sides u.told_all (u.told_sides s says) (KeepDiffers number given) h)) (λ e. cc)
+        h.1 (seen-same s r.old.disk r.new.disk h.0.stored (found-there s r.old.disk r.new.disk r.old.images r.new.images h.0.stored h.0.finds))
     ending (OutFault to at) fine h = absurd (fine tt)
     ending (CounterFull which total) fine (inl h, quiet) =
         by-refusal (CounterFull which total) (untroubled (CounterFull which total) fine (answers law line s r.old r.new sides u.told_all (u.told_sides s says) (CounterFull which total) (inl h, quiet))) (λ e. cc)
@@ -292,6 +299,7 @@ still-same database sides sides' agree a b h k reads reads' db db' (x, is, has) 
     record {
       summary = ap (λ (v : DbValue). v.summary) same;
       entries = ap (λ (v : DbValue). v.entries) same;
+      number = ap (λ (v : DbValue). v.keep) same;
       generation = ap (λ (v : DbValue). v.generation) same;
       records = ap (λ (v : DbValue). v.records) same;
     }
@@ -364,17 +372,18 @@ module _ (line : LineSetup) (s : Settings) (jobs chunk : ℕ) where
   answers-by : (files : FilesView) (sides : Sides) (status : Status) (yield : Option Yield) → Answers line other files sides status yield → Answers line s files sides status yield
   answers-by files sides status yield (answers_rules h) = answers_rules (record { name = h.name; named = h.named; text = h.text; told = h.told; bad = h.bad })
   answers-by files sides status yield (answers_damage rules told uses h) = answers_damage rules told uses h
-  answers-by files sides status yield (answers_full rules stored told has h) = answers_full rules stored told has (record {
+  answers-by files sides status yield (answers_differs rules stored told has h) = answers_differs rules stored told has h
+  answers-by files sides status yield (answers_full rules stored told has agrees h) = answers_full rules stored told has agrees (record {
     entries = h.entries;
     begin = h.begin;
     portions = h.portions;
     told = h.told;
     fills = h.fills;
   })
-  answers-by files sides status yield (answers_generation rules stored whole entries told has h lacks) =
-      answers_generation rules stored whole entries told has (counts-by rules stored files whole entries h) lacks
-  answers-by files sides status yield (answers_done rules stored {yield = own} told has h room is) =
-      answers_done rules stored told has (counts-by rules stored files own.whole own.entries h) room (record { report = is.report; is_report = is.is_report; written = is.written })
+  answers-by files sides status yield (answers_generation rules stored whole entries told has agrees h lacks) =
+      answers_generation rules stored whole entries told has agrees (counts-by rules stored files whole entries h) lacks
+  answers-by files sides status yield (answers_done rules stored {yield = own} told has agrees h room is) =
+      answers_done rules stored told has agrees (counts-by rules stored files own.whole own.entries h) room (record { report = is.report; is_report = is.is_report; written = is.written })
 
 refused-by : (s : Settings) (jobs chunk : ℕ) (which : Which) (fault : FormatFault) → IsRefused s which fault → IsRefused (with_workers jobs chunk s) which fault
 refused-by s jobs chunk Log fault h = h
@@ -410,6 +419,7 @@ module _ (answer : OneAnswer) (law : ReadAsTold) (database : OneDatabase) (words
             record {
               summary = x.summary ∙ sym y.summary;
               entries = x.entries ∙ sym y.entries;
+              number = x.number ∙ sym y.number;
               generation = next.0;
               records = next.1;
             }

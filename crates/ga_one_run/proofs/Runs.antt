@@ -29,7 +29,7 @@ use Rattle.ga_one_run.specs.Outside.{Outside, outside_of as outside}
 use Rattle.ga_one_run.specs.declared.setups.SetupFault.{SetupFault}
 use Rattle.ga_one_run.specs.declared.setups.SetupFault.TheVariants.{Refused}
 use Rattle.ga_one_run.specs.declared.status.Status.{Status}
-use Rattle.ga_one_run.specs.declared.status.Status.TheVariants.{Done, BadWords, BadFormat, BadRules, FileFault, FileShort, DiskFault, DbDamaged, OutFault, CounterFull, NoMemory}
+use Rattle.ga_one_run.specs.declared.status.Status.TheVariants.{Done, BadWords, BadFormat, BadRules, FileFault, FileShort, DiskFault, DbDamaged, KeepDiffers, OutFault, CounterFull, NoMemory}
 use Rattle.ga_one_run.specs.declared.status.Which.{Which}
 use Rattle.ga_one_run.proofs.Asking.{walks-as}
 use Rattle.ga_one_run.proofs.DiskFaults.{alone-by, disk-faults-by}
@@ -251,6 +251,7 @@ module _ (one : OneWords) (outcome : OneOutcome) (law : ReadAsTold) (words : Lis
   decides-early s says old new only quiet still (FileShort file place) h = absurd h
   decides-early s says old new only quiet still DiskFault h = absurd h
   decides-early s says old new only quiet still (DbDamaged side place) h = absurd h
+  decides-early s says old new only quiet still (KeepDiffers number given) h = absurd h
   decides-early s says old new only quiet still (OutFault to place) h = absurd h
   decides-early s says old new only quiet still (CounterFull which total) h = absurd h
   decides-early s says old new only quiet still NoMemory h = decides-nothing words old new only quiet still

@@ -26,15 +26,15 @@ use Rattle.ga_store.specs.declared.fault.StoreFault.TheVariants.{Damaged}
 use Rattle.ga_summary.specs.SummaryRows.{SummaryValue}
 use Rattle.ga_words.specs.declared.settings.Settings.{Settings}
 use Rattle.ga_one_run.specs.Course.{HasCounted, HasRules}
-use Rattle.ga_one_run.specs.Ends.{Ends, FillsCounter, FillsGenerations, Finishes, HasBadRule}
+use Rattle.ga_one_run.specs.Ends.{Ends, FillsCounter, FillsGenerations, FindsOther, Finishes, HasBadRule}
 use Rattle.ga_one_run.specs.Keeping.{FindsThere, KeptSince}
 use Rattle.ga_one_run.specs.Run.{IsTrouble, TellsSides}
 use Rattle.ga_one_run.specs.Setups.{setup_of}
 use Rattle.ga_one_run.specs.Told.{Answers, CountsTold, FillsTold, RulesAreTold, Yield}
-use Rattle.ga_one_run.specs.Told.Answers.{answers_rules, answers_damage, answers_full, answers_generation, answers_done}
+use Rattle.ga_one_run.specs.Told.Answers.{answers_rules, answers_damage, answers_differs, answers_full, answers_generation, answers_done}
 use Rattle.ga_one_run.specs.Outside.{Outside}
 use Rattle.ga_one_run.specs.declared.status.Status.{Status}
-use Rattle.ga_one_run.specs.declared.status.Status.TheVariants.{Done, BadWords, BadFormat, BadRules, FileFault, FileShort, DiskFault, DbDamaged, OutFault, CounterFull, NoMemory}
+use Rattle.ga_one_run.specs.declared.status.Status.TheVariants.{Done, BadWords, BadFormat, BadRules, FileFault, FileShort, DiskFault, DbDamaged, KeepDiffers, OutFault, CounterFull, NoMemory}
 
 -- what the law of told logs says
 pub record ReadAsTold : Type 0 where
@@ -155,7 +155,7 @@ module _ (law : ReadAsTold) (line : LineSetup) (s : Settings) where
     done-answers h =
         let come = h.has.come in
         answers_done come.rules come.stored (rules-told s.browsers_file old.files come.mid come.rules some come.has_rules)
-        (there-told s old.disk h.has.found come.stored sides tells come.finds)
+        (there-told s old.disk h.has.found come.stored sides tells come.finds) come.agrees
         (counted-told old new sides some tells come.mid come.rules come.has_rules new.files come.stored come.counted)
         (has-room s come.stored come.counted.whole come.counted.entries' h.has.found new.disk old.images new.images h.has.kept) h.has.report
 
@@ -176,17 +176,23 @@ module _ (law : ReadAsTold) (line : LineSetup) (s : Settings) where
           fills = h.fills;
         } in
         answers_full begun.rules begun.stored (rules-told s.browsers_file old.files h.mid begun.rules some begun.has_rules)
-        (there-told s old.disk new.disk begun.stored sides tells (found-there s old.disk new.disk old.images new.images begun.stored begun.finds)) fills
+        (there-told s old.disk new.disk begun.stored sides tells (found-there s old.disk new.disk old.images new.images begun.stored begun.finds)) begun.agrees fills
 
     lacks-answers : (which : Counter) (total : ℕ) → FillsGenerations line s old new which total → Answers line s old.files sides (CounterFull which total) None
     lacks-answers which total h =
         let come = h.come in
         let answers : Answers line s old.files sides (CounterFull Generations (LIMIT + 1)) None =
         answers_generation come.rules come.stored come.counted.whole come.counted.entries' (rules-told s.browsers_file old.files come.mid come.rules some come.has_rules)
-        (there-told s old.disk new.disk come.stored sides tells come.finds)
+        (there-told s old.disk new.disk come.stored sides tells come.finds) come.agrees
         (counted-told old new sides some tells come.mid come.rules come.has_rules new.files come.stored come.counted) h.lacks in
         subst (λ (w : Counter). Answers line s old.files sides (CounterFull w total) None) (sym h.counter)
         (subst (λ (n : ℕ). Answers line s old.files sides (CounterFull Generations n) None) (sym h.value) answers)
+
+    differs-answers : (number given : ℕ) → FindsOther s old new number given → Answers line s old.files sides (KeepDiffers number given) None
+    differs-answers number given h =
+        subst (λ (n : ℕ). Answers line s old.files sides (KeepDiffers number n) None) (sym h.given_is)
+        (answers_differs h.rules h.stored (rules-told s.browsers_file old.files new.files h.rules some h.has_rules)
+        (there-told s old.disk new.disk h.stored sides tells (found-there s old.disk new.disk old.images new.images h.stored h.finds)) h.differs)
 
     pub answers : (status : Status) → Ends line s old new status → IsTrouble status ⊎ ((yield : Option Yield) × Answers line s old.files sides status yield)
     answers Done h = inr (Some (yield-of h), done-answers h)
@@ -203,6 +209,7 @@ module _ (law : ReadAsTold) (line : LineSetup) (s : Settings) where
           answers_damage misses.rules (rules-told s.browsers_file old.files new.files misses.rules some misses.has_rules) misses.misses.uses
               (damage-told s old.disk new.disk old.images new.images side at sides tells misses.misses),
         )
+    answers (KeepDiffers number given) h = inr (None, differs-answers number given h.0)
     answers (OutFault to at) h = inl tt
     answers (CounterFull which total) (inl h, quiet) = inr (None, fills-answers which total h)
     answers (CounterFull which total) (inr h, quiet) = inr (None, lacks-answers which total h)

@@ -13,9 +13,10 @@ use Rattle.ga_outcomes.specs.declared.setup.Setup.{Setup}
 use Rattle.ga_logs.specs.declared.portion.Portion.{Portion}
 use Rattle.ga_ports.specs.Files.{FilesView}
 use Rattle.ga_store.specs.Database.{DbValue}
+use Rattle.ga_summary.specs.Sound.{IsSummary}
 use Rattle.ga_summary.specs.SummaryRows.{SummaryValue}
 use Rattle.ga_words.specs.declared.settings.Settings.{Settings}
-use Rattle.ga_keep.specs.RunDatabase.{AreBase, IsWhole, start_of}
+use Rattle.ga_keep.specs.RunDatabase.{AreBase, IsWhole, differing, start_of}
 use Rattle.ga_one_run.specs.Keeping.{FindsThere}
 use Rattle.ga_one_run.specs.Setups.{setup_of}
 
@@ -33,15 +34,18 @@ pub record HasCounted (setup : Setup) (s : Settings) (stored : DbValue) (files f
   pub read : ReadsAll (start_of s stored).follow s.logs entries entries' files files' portions
   -- the sum of the lines that the run counted, and the whole
   pub run : SummaryValue
+  pub is_summary : IsSummary run
   pub counts : CountsLines setup (start_of s stored).totals (counted_lines s.generate (start_of s stored).follow portions) run
   pub whole : SummaryValue
   pub is_whole : IsWhole s stored run whole
 
--- a run up to its report: the rules were read, the database was found and the logs were counted
+-- a run up to its report: the rules were read, the database was found, which keeps no other number of days, and the logs were
+-- counted
 pub record ReachesReport (line : LineSetup) (s : Settings) (files files' : FilesView) (disk disk' : DiskView) : Type 0 where
   pub rules : List Rule
   pub mid : FilesView
   pub has_rules : HasRules s.browsers_file files mid rules
   pub stored : DbValue
   pub finds : FindsThere s disk disk' stored
+  pub agrees : differing s stored ≡ None
   pub counted : HasCounted (setup_of line s rules) s stored mid files'

@@ -1,6 +1,6 @@
 -- How a run that the words say ended, by its status: what was read, found, counted, kept and printed before that.
 use Rattle.std.proofs.Common.{inl, inr}
-use Rattle.std.specs.Prelude.{◌≡◌, ◌⊎◌, ℕ, ◌+◌, true, List, [], length, Some}
+use Rattle.std.specs.Prelude.{◌≡◌, ◌⊎◌, ℕ, ◌+◌, true, List, [], length, Some, None}
 use Rattle.ga_agents.specs.RulesFile.{IsBadLine}
 use Rattle.ga_agents.specs.declared.row.Rule.{Rule}
 use Rattle.ga_base.specs.declared.counts.Counter.{Counter}
@@ -9,7 +9,7 @@ use Rattle.ga_base.specs.declared.counts.TheConstants.{LIMIT}
 use Rattle.ga_base.specs.declared.entry.Entry.{Entry}
 use Rattle.ga_disk.specs.Disk.{DiskView}
 use Rattle.ga_disk.specs.Images.{Images, LeavesOnly}
-use Rattle.ga_keep.specs.RunDatabase.{AreBase, Finds, IsUntouched, LooksAtMost, lacks_generation, start_of}
+use Rattle.ga_keep.specs.RunDatabase.{AreBase, Finds, IsUntouched, LooksAtMost, differing, lacks_generation, start_of}
 use Rattle.ga_keep.specs.Faults.{Misses}
 use Rattle.ga_line.specs.declared.setup.LineSetup.{LineSetup}
 use Rattle.ga_outcomes.specs.LineOutcomes.{FillsAmong}
@@ -37,7 +37,7 @@ use Rattle.ga_one_run.specs.Outside.{Outside}
 use Rattle.ga_one_run.specs.declared.status.Input.{Input}
 use Rattle.ga_one_run.specs.declared.status.Input.TheVariants.{Rules, Log}
 use Rattle.ga_one_run.specs.declared.status.Status.{Status}
-use Rattle.ga_one_run.specs.declared.status.Status.TheVariants.{Done, BadWords, BadFormat, BadRules, FileFault, FileShort, DiskFault, DbDamaged, OutFault, CounterFull, NoMemory}
+use Rattle.ga_one_run.specs.declared.status.Status.TheVariants.{Done, BadWords, BadFormat, BadRules, FileFault, FileShort, DiskFault, DbDamaged, KeepDiffers, OutFault, CounterFull, NoMemory}
 
 -- no target but standard error took a byte, and no file was made
 abbrev pub SaysOnly : Outside → Outside → Type 0
@@ -78,12 +78,13 @@ pub record HasBadRule (s : Settings) (old new : Outside) (at : ℕ) : Type 0 whe
   pub bad : IsBadLine text.bytes at
   pub disk : IsUntouched old.disk new.disk old.images new.images
 
--- the rules were read and the database was found, if it is used
+-- the rules were read and the database was found, if it is used; it keeps no other number of days
 pub record HasBegun (s : Settings) (old : Outside) (mid : FilesView) (disk' : DiskView) (images' : Images) : Type 0 where
   pub rules : List Rule
   pub has_rules : HasRules s.browsers_file old.files mid rules
   pub stored : DbValue
   pub finds : Finds s old.disk disk' old.images images' stored
+  pub agrees : differing s stored ≡ None
   pub entries : List Entry
   pub begin : AreBase s stored entries
 
@@ -132,12 +133,21 @@ pub record MissesDatabase (s : Settings) (old new : Outside) (fault : StoreFault
   pub has_rules : HasRules s.browsers_file old.files new.files rules
   pub misses : Misses s old.disk new.disk old.images new.images fault
 
+-- the database that was found keeps another number of days than the run, which restores it; no log was asked for
+pub record FindsOther (s : Settings) (old new : Outside) (number given : ℕ) : Type 0 where
+  pub rules : List Rule
+  pub has_rules : HasRules s.browsers_file old.files new.files rules
+  pub stored : DbValue
+  pub finds : Finds s old.disk new.disk old.images new.images stored
+  pub differs : differing s stored ≡ Some number
+  pub given_is : given ≡ s.keep
+
 -- the disk failed while the run was kept
 pub record FailsAtLast (line : LineSetup) (s : Settings) (old new : Outside) : Type 0 where
   pub found : DiskView
   pub come : ReachesReport line s old.files new.files old.disk found
   pub persists : s.persist ≡ true
-  pub fails : FailsSince come.stored come.counted.whole come.counted.entries' found new.disk old.images new.images
+  pub fails : FailsSince s.keep come.stored come.counted.whole come.counted.entries' found new.disk old.images new.images
 
 -- ---- by status
 
@@ -150,6 +160,7 @@ Ends line s old new (FileFault file) = FailsInput line s old new file × SaysOnl
 Ends line s old new (FileShort file at) = MissesInput line s old new file (PlaceShort at) × SaysOnly old new
 Ends line s old new DiskFault = (MissesDatabase s old new StoreFailed ⊎ FailsAtLast line s old new) × SaysOnly old new
 Ends line s old new (DbDamaged side at) = MissesDatabase s old new (Damaged side at) × SaysOnly old new
+Ends line s old new (KeepDiffers number given) = FindsOther s old new number given × SaysOnly old new
 Ends line s old new (OutFault to at) = StopsPrinting line s old new to at
 Ends line s old new (CounterFull which total) =
     (FillsCounter line s old new which total ⊎ FillsGenerations line s old new which total) × SaysOnly old new
@@ -171,6 +182,7 @@ AreFollowed line s old new (FileShort (Log place) at) ends entries = entries ≡
 AreFollowed line s old new DiskFault (inl h, quiet) entries = ⊥
 AreFollowed line s old new DiskFault (inr h, quiet) entries = entries ≡ h.come.counted.entries
 AreFollowed line s old new (DbDamaged side at) ends entries = ⊥
+AreFollowed line s old new (KeepDiffers number given) ends entries = ⊥
 AreFollowed line s old new (OutFault to at) ends entries = entries ≡ ends.has.come.counted.entries
 AreFollowed line s old new (CounterFull which total) (inl h, quiet) entries = entries ≡ h.begun.entries
 AreFollowed line s old new (CounterFull which total) (inr h, quiet) entries = entries ≡ h.come.counted.entries

@@ -1,5 +1,5 @@
 -- The database of a run, from its start on: what was found, and what became of it.
-use Rattle.std.specs.Prelude.{◌≡◌, ◌⊎◌, true, false, List, IfSome}
+use Rattle.std.specs.Prelude.{◌≡◌, ◌⊎◌, ℕ, true, false, List, IfSome}
 use Rattle.ga_base.specs.declared.entry.Entry.{Entry}
 use Rattle.ga_disk.specs.Disk.{DiskView}
 use Rattle.ga_disk.specs.Images.{Images, LeavesOnly}
@@ -45,7 +45,7 @@ pub record KeepsSince (stored new : DbValue) (disk' : DiskView) (images images' 
 pub record IsKeptSince (s : Settings) (stored : DbValue) (whole : SummaryValue) (entries : List Entry) (disk disk' : DiskView)
     (images images' : Images) : Type 0 where
   pub new : DbValue
-  pub after : IsAfter whole entries new
+  pub after : IsAfter whole entries s.keep new
   pub next : IsNext (mode_of s) stored new
   pub room : passes_generations (mode_of s) stored ≡ false
   pub keeps : IfSome disk.seen (λ seen. KeepsSince stored new disk' images images')
@@ -74,10 +74,10 @@ pub record MayKeepSince (stored new : DbValue) (disk disk' : DiskView) (images i
   pub reads : IfSome disk'.seen (HasEither stored new)
   pub stays : disk.steady ≡ true → IfSome disk'.seen (λ seen. DbOf seen (reads_as stored) → AllHave images' stored)
 
-pub record FailsSince (stored : DbValue) (whole : SummaryValue) (entries : List Entry) (disk disk' : DiskView)
+pub record FailsSince (keep : ℕ) (stored : DbValue) (whole : SummaryValue) (entries : List Entry) (disk disk' : DiskView)
     (images images' : Images) : Type 0 where
   pub new : DbValue
-  pub after : IsAfter whole entries new
+  pub after : IsAfter whole entries keep new
   pub may : IfSome disk.seen (λ seen. MayKeepSince stored new disk disk' images images')
   pub fault : disk'.counts.faults ≡ raised disk.counts.faults 1
   pub frames : Frames disk disk'

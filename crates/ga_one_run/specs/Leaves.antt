@@ -47,13 +47,13 @@ pub record LeavesEither (sides : Sides) (stored after : DbValue) (old new : Outs
   pub reads : IfSome new.disk.seen (HasEither stored after)
   pub settles : SettlesBy status stored after old new
 
--- a run that persists, and came to its report: the database after it has its whole sum and its entries
+-- a run that persists, and came to its report: the database after it has its whole sum, its entries and its number of days
 pub record LeavesKept (line : LineSetup) (s : Settings) (old new : Outside) (status : Status) : Type 0 where
   pub persists : s.persist ≡ true
   pub found : DiskView
   pub come : ReachesReport line s old.files new.files old.disk found
   pub after : DbValue
-  pub is_after : IsAfter come.counted.whole come.counted.entries' after
+  pub is_after : IsAfter come.counted.whole come.counted.entries' s.keep after
   pub leaves : IfSome old.disk.seen (λ sides. LeavesEither sides come.stored after old new status)
 
 abbrev pub Leaves : LineSetup → Settings → Outside → Outside → Status → Type 0

@@ -64,10 +64,11 @@ Wrote (Some (file, text)) old new = new ≡ but_errors new (delivered file text 
 abbrev pub HasDatabase : Outside → DbValue → Type 0
 HasDatabase outside db = (sides : Sides) × (outside.disk.seen ≡ Some sides) × DbOf sides (reads_as db)
 
--- two databases say the same, in the same generation with as many records
+-- two databases say the same and keep the same number of days, in the same generation with as many records
 pub record SayTheSame (a b : DbValue) : Type 0 where
   pub summary : a.summary ≡ b.summary
   pub entries : a.entries ≡ b.entries
+  pub number : a.keep ≡ b.keep
   pub generation : a.generation ≡ b.generation
   pub records : a.records ≡ b.records
 

@@ -27,7 +27,7 @@ use Rattle.ga_one_run.specs.Statuses.{IsFaultLine}
 use Rattle.ga_one_run.specs.Told.{Answers, Yield}
 use Rattle.ga_one_run.specs.Outside.{Outside}
 use Rattle.ga_one_run.specs.declared.status.Status.{Status}
-use Rattle.ga_one_run.specs.declared.status.Status.TheVariants.{Done, BadWords, BadFormat, BadRules, FileFault, FileShort, DiskFault, DbDamaged, OutFault, CounterFull, NoMemory}
+use Rattle.ga_one_run.specs.declared.status.Status.TheVariants.{Done, BadWords, BadFormat, BadRules, FileFault, FileShort, DiskFault, DbDamaged, KeepDiffers, OutFault, CounterFull, NoMemory}
 use Rattle.ga_one_run.specs.declared.status.Which.{Which}
 
 -- ---- the words
@@ -78,10 +78,12 @@ OutputServed line s old new = let to = target_of (report_file s.generate s.outpu
     (((has : HasReport line s old new) → OutputCanTake to (length has.text) old.outs) × ¬ Rose old.outs.starved new.outs.starved)
     ⊎ (¬ Rose (target to old.outs).faults (target to new.outs).faults)
 
--- the run ended neither for a bad rule, nor for damage, nor for a full counter
+-- the run ended neither for a bad rule, nor for damage, nor since the database keeps another number of days, nor for a full
+-- counter
 pub record HasGoodInput (status : Status) : Type 0 where
   pub rules : (line : ℕ) → status ≢ BadRules line
   pub database : (side at : ℕ) → status ≢ DbDamaged side at
+  pub number : (stored given : ℕ) → status ≢ KeepDiffers stored given
   pub counters : (which : Counter) (total : ℕ) → status ≢ CounterFull which total
 
 -- the run ended for a fault of the outside, or for lack of memory

@@ -13,12 +13,12 @@ use Rattle.ga_one_run.specs.Printing.{report_file, target_of}
 use Rattle.ga_one_run.specs.declared.status.Input.{Input}
 use Rattle.ga_one_run.specs.declared.status.Input.TheVariants.{Rules as RulesInput, Log as LogInput}
 use Rattle.ga_one_run.specs.declared.status.Status.{Status}
-use Rattle.ga_one_run.specs.declared.status.Status.TheVariants.{Done, BadWords, BadFormat, BadRules, FileFault, FileShort, DiskFault, DbDamaged, OutFault, CounterFull, NoMemory}
+use Rattle.ga_one_run.specs.declared.status.Status.TheVariants.{Done, BadWords, BadFormat, BadRules, FileFault, FileShort, DiskFault, DbDamaged, KeepDiffers, OutFault, CounterFull, NoMemory}
 use Rattle.ga_one_run.specs.declared.status.Which.{Which}
 use Rattle.ga_one_run.specs.declared.status.Which.TheVariants.{Log, Date, Time}
 
 -- 0 where all is done, 1 for the words, their formats and the rules, 2 for the files, 3 for the disk, 4 for the report's target,
--- 5 for a full counter, 6 for a damaged database, 7 for lack of memory
+-- 5 for a full counter, 6 for a damaged database, 7 for lack of memory, 8 for a database that keeps another number of days
 abbrev pub code_of : Status → ℕ
 code_of Done = 0
 code_of (BadWords fault) = 1
@@ -30,6 +30,7 @@ code_of DiskFault = 3
 code_of (OutFault to at) = 4
 code_of (CounterFull which total) = 5
 code_of (DbDamaged side at) = 6
+code_of (KeepDiffers stored given) = 8
 code_of NoMemory = 7
 
 -- pieces one after the other
@@ -75,6 +76,8 @@ fault_pieces name (FileShort file at) = codes "goaccess: " ∷ name ∷ codes ":
 fault_pieces name DiskFault = codes "goaccess: database: device failed\n" ∷ []
 fault_pieces name (DbDamaged side at) =
     codes "goaccess: database: side " ∷ decimal side ∷ codes " damaged at " ∷ decimal at ∷ codes "\n" ∷ []
+fault_pieces name (KeepDiffers stored given) =
+    codes "goaccess: keep-last: stored " ∷ decimal stored ∷ codes ", given " ∷ decimal given ∷ codes "\n" ∷ []
 fault_pieces name (OutFault to at) =
     codes "goaccess: " ∷ name ∷ codes ": write failed after " ∷ decimal at ∷ codes " bytes\n" ∷ []
 fault_pieces name (CounterFull which total) =

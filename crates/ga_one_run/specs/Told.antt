@@ -19,12 +19,12 @@ use Rattle.ga_store.specs.Database.{DbOf, DbValue}
 use Rattle.ga_store.specs.Database.Reading.{damaged}
 use Rattle.ga_summary.specs.SummaryRows.{SummaryValue}
 use Rattle.ga_words.specs.declared.settings.Settings.{Settings}
-use Rattle.ga_keep.specs.RunDatabase.{AreBase, IsWhole, SidesHave, lacks_generation, start_of, uses_database}
+use Rattle.ga_keep.specs.RunDatabase.{AreBase, IsWhole, SidesHave, differing, lacks_generation, start_of, uses_database}
 use Rattle.ga_one_run.specs.Inputs.{inputs_of}
 use Rattle.ga_one_run.specs.Reports.{IsTextOf}
 use Rattle.ga_one_run.specs.Setups.{setup_of}
 use Rattle.ga_one_run.specs.declared.status.Status.{Status}
-use Rattle.ga_one_run.specs.declared.status.Status.TheVariants.{Done, BadRules, CounterFull, DbDamaged}
+use Rattle.ga_one_run.specs.declared.status.Status.TheVariants.{Done, BadRules, CounterFull, DbDamaged, KeepDiffers}
 
 -- the contents of each file that a run reads are told
 abbrev pub InputsAreTold : Settings → FilesView → Type 0
@@ -73,11 +73,15 @@ pub data Answers (line : LineSetup) (s : Settings) (files : FilesView) (sides : 
   answers_rules : {at : ℕ} → HasBadLine s files at → Answers line s files sides (BadRules at) None
   answers_damage : (rules : List Rule) {side at : ℕ} → RulesAreTold s.browsers_file files rules → uses_database s ≡ true
       → DbOf sides (damaged side at) → Answers line s files sides (DbDamaged side at) None
+  answers_differs : (rules : List Rule) (stored : DbValue) {number : ℕ} → RulesAreTold s.browsers_file files rules
+      → SidesHave s sides stored → differing s stored ≡ Some number → Answers line s files sides (KeepDiffers number s.keep) None
   answers_full : (rules : List Rule) (stored : DbValue) {which : Counter} {total : ℕ} → RulesAreTold s.browsers_file files rules
-      → SidesHave s sides stored → FillsTold line s rules stored files which total → Answers line s files sides (CounterFull which total) None
+      → SidesHave s sides stored → differing s stored ≡ None → FillsTold line s rules stored files which total
+      → Answers line s files sides (CounterFull which total) None
   answers_generation : (rules : List Rule) (stored : DbValue) (whole : SummaryValue) (entries : List Entry)
-      → RulesAreTold s.browsers_file files rules → SidesHave s sides stored → CountsTold line s rules stored files whole entries
-      → lacks_generation s stored ≡ true → Answers line s files sides (CounterFull Generations (LIMIT + 1)) None
+      → RulesAreTold s.browsers_file files rules → SidesHave s sides stored → differing s stored ≡ None
+      → CountsTold line s rules stored files whole entries → lacks_generation s stored ≡ true → Answers line s files sides (CounterFull Generations (LIMIT + 1)) None
   answers_done : (rules : List Rule) (stored : DbValue) {yield : Yield} → RulesAreTold s.browsers_file files rules
-      → SidesHave s sides stored → CountsTold line s rules stored files yield.whole yield.entries → lacks_generation s stored ≡ false
+      → SidesHave s sides stored → differing s stored ≡ None → CountsTold line s rules stored files yield.whole yield.entries
+      → lacks_generation s stored ≡ false
       → IsTextOf s yield.whole yield.text → Answers line s files sides Done (Some yield)

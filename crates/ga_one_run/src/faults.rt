@@ -31,6 +31,7 @@ pub fn tell<O: Outs>(outs: &mut O, name: &[u8], status: &Status)
         Status::FileShort { at, .. } => tell_place(outs, name, b": short at ", *at, b"\n"),
         Status::DiskFault => say(outs, &[b"goaccess: database: device failed\n"]),
         Status::DbDamaged { side, at } => tell_damage(outs, *side, *at),
+        Status::KeepDiffers { stored, given } => tell_days(outs, *stored, *given),
         Status::OutFault { at, .. } => {
             tell_place(outs, name, b": write failed after ", *at, b" bytes\n")
         }
@@ -99,6 +100,21 @@ fn tell_damage<O: Outs>(outs: &mut O, side: u32, at: u64)
     let side = sides.format(side).as_bytes();
     let text = b"goaccess: database: side ";
     say(outs, &[text, side, b" damaged at ", at, b"\n"])
+}
+
+/// Writes the fault line of a database that keeps another number of days.
+fn tell_days<O: Outs>(outs: &mut O, stored: u32, given: u32)
+    ensures line { TakesOrStops (joined (codes "goaccess: keep-last: stored " ∷ decimal stored ∷ codes ", given " ∷ decimal given ∷ codes "\n" ∷ [])) (O.view outs.old).stderr (O.view outs.new).stderr }
+    ensures others { ChangesOnly Stderr (O.view outs.old) (O.view outs.new) }
+    ensures starved { (O.view outs.old).starved ≤ (O.view outs.new).starved }
+    ensures calls { OutsTrace (O.view outs.old) (O.view outs.new) }
+{
+    let mut numbers = Buffer::new();
+    let mut others = Buffer::new();
+    let stored = numbers.format(stored).as_bytes();
+    let given = others.format(given).as_bytes();
+    let text = b"goaccess: keep-last: stored ";
+    say(outs, &[text, stored, b", given ", given, b"\n"])
 }
 
 /// Writes the fault line of words.

@@ -1,18 +1,20 @@
-ghost use Rattle.std.specs.Prelude.{◌≡◌, false, IfOk, IfErr, IsTrue, option_map};
+ghost use Rattle.std.specs.Prelude.{◌≡◌, None, false, IfOk, IfErr, IsTrue, OnOk, option_map};
 ghost use Rattle.std.specs.Option.{option_copied};
 ghost use Rattle.ga_disk.specs.Trace.{DiskTrace};
 ghost use Rattle.ga_ports.specs.Trace.{FilesTrace, OutsTrace};
 ghost use Rattle.ga_generate.specs.Summary.{summary_text};
 ghost use Rattle.ga_keep.specs.RunDatabase as database;
-ghost use Rattle.ga_keep.specs.RunDatabase.{IsBaseOf};
+ghost use Rattle.ga_keep.specs.RunDatabase.{IsBaseOf, differing};
 ghost use Rattle.ga_base.specs.Totals.{LinesAdd, TotalsFit};
 ghost use Rattle.ga_line.specs.declared.setup.LineSetup.{LineSetup};
 ghost use Rattle.ga_logs.specs.Following.{CanServe};
 ghost use Rattle.ga_logs.specs.Logs.{CountsLogs};
 ghost use Rattle.ga_ports.specs.Files.{FilesView};
 ghost use Rattle.ga_print.specs.Json.{json_text};
+ghost use Rattle.ga_report.specs.LastDays.{trimmed_source};
 ghost use Rattle.ga_report.specs.Printable.{IsPrintable};
 ghost use Rattle.ga_store.specs.Database.{DbValue, empty_db};
+ghost use Rattle.ga_store.specs.Store.{db_value};
 ghost use Rattle.ga_workers.specs.Workers.{AreWorkers};
 ghost use Rattle.ga_summary.specs.Sound.{IsSummary};
 ghost use Rattle.ga_one_run.specs.Printing.{report_file, target_of};
@@ -21,7 +23,7 @@ ghost use Rattle.ga_one_run.specs.Run.{IsRun};
 ghost use Rattle.ga_one_run.specs.Statuses.{target_name};
 ghost use Rattle.ga_one_run.specs.Outside.{outside_of};
 ghost use Rattle.ga_totals.specs.Totals.{IsOfCountable};
-ghost use Rattle.ga_one_run.specs.Steps.Run.{AreSums, CountsOn, CountsRun, EndsAlone, EndsInputs, EndsLast, EndsReport, EndsRun, HasPanels, IsOfLines, IsReady, IsSetUp, IsTextAlone, IsTextOfTotal, NoFileFailed, StopsAlone, StopsCounting, StopsFrom, StopsPanels, failed_name, input_name, whole_in, workers_said};
+ghost use Rattle.ga_one_run.specs.Steps.Run.{AreSums, CountsOn, CountsRun, Differs, EndsAlone, EndsInputs, EndsLast, EndsReport, EndsRun, HasPanels, IsOfLines, IsReady, IsSetUp, IsTextAlone, IsTextOfTotal, NoFileFailed, StopsAlone, StopsCounting, StopsFrom, StopsPanels, failed_name, input_name, whole_in, workers_said};
 
 use crate::faults::tell;
 use crate::printing::deliver;
@@ -31,7 +33,7 @@ use crate::{Input, Status, laws};
 use ga_base::{Bytes, Entries, NoMemory, Text};
 use ga_disk::Disk;
 use ga_generate::summary;
-use ga_keep::{Base, add_run, base_of, find, keep, start, uses_database, whole};
+use ga_keep::{Base, add_run, base_of, differs, find, keep, start, uses_database, whole};
 use ga_line::LineSetup;
 use ga_logs::count_logs;
 use ga_logs::laws::read_as_told;
@@ -40,9 +42,9 @@ use ga_panels::PanelSetup;
 use ga_ports::laws::files_stay;
 use ga_ports::{Files, Gate, Outs, To};
 use ga_print::{csv, json_with};
-use ga_report::{Report, RowSource, rows_from};
+use ga_report::{Report, RowSource, last_days, rows_from};
 use ga_resume::Start;
-use ga_store::Position;
+use ga_store::{Db, Position};
 use ga_summary::Summary;
 use ga_totals::Total;
 use ga_words::laws::one_reading;
@@ -68,7 +70,7 @@ struct RunCounts {
     position: Position,
     /// What the run counted on from, grown by what it counted.
     base: Base,
-    /// The sum of its own lines.
+    /// The sum of its own lines; their last days, where it doesn't restore.
     run: Summary,
 }
 
@@ -287,11 +289,29 @@ fn text_of_total<R: Threads + Sync>(
 {
     let jobs = workers_of(settings).jobs;
     let told = total.source(rt, alloc, jobs)?;
-    let text = text_of(rt, alloc, settings, &told)?;
+    let text = text_of_last_days(rt, alloc, settings, &told)?;
     Ok(text)
 }
 
-/// Finds the database, and counts the logs from there on.
+/// What is printed of the report on the last days of what is told, as many as the settings say.
+fn text_of_last_days<R: Threads + Sync, T: RowSource + Sync>(
+    rt: &R,
+    alloc: Global,
+    settings: &Settings,
+    told: &T,
+) -> Result<Bytes, NoMemory>
+    ensures { IfOk result (λ text. IsTextTold settings.now (trimmed_source settings.now.keep (T.view told.now)) text) }
+{
+    let keep = settings.keep;
+    if keep == 0 {
+        return text_of(rt, alloc, settings, told);
+    }
+    let days = last_days(alloc, told, keep)?;
+    let text = text_of(rt, alloc, settings, &days)?;
+    Ok(text)
+}
+
+/// Finds the database, which has to keep as many days as the run, and counts the logs from there on.
 fn count<R: Threads + Sync, G: Gate, F: Files, D: Disk>(
     context: &RunContext<'_, R, G>,
     setup: &Setup,
@@ -305,6 +325,7 @@ fn count<R: Threads + Sync, G: Gate, F: Files, D: Disk>(
     ensures disk_trace { DiskTrace (D.view disk.old) (D.view disk.new) }
 {
     let stored = find(context.rt, context.alloc, context.settings, disk)?;
+    agree(context.settings, &stored)?;
     let (position, mut base) = base_of(context.alloc, context.settings, stored);
     let run = count_on(context, setup, &mut base, files)?;
     Ok(RunCounts {
@@ -314,7 +335,21 @@ fn count<R: Threads + Sync, G: Gate, F: Files, D: Disk>(
     })
 }
 
-/// Counts the logs from a base on, which grows by them: the sum of the run's own lines.
+/// Refuses what is stored, where the run restores it and it keeps another number of days.
+fn agree(settings: &Settings, stored: &Db) -> Result<(), Status>
+    ensures agrees { OnOk result (differing settings.now (db_value stored.now) ≡ None) }
+    ensures differs { IfErr result (Differs settings.now (db_value stored.now)) }
+{
+    match differs(settings, stored) {
+        None => Ok(()),
+        Some(number) => Err(Status::KeepDiffers {
+            stored: number,
+            given: settings.keep,
+        }),
+    }
+}
+
+/// Counts the logs from a base on, which grows by them: what is left of the sum of the run's own lines.
 fn count_on<R: Threads + Sync, G: Gate, F: Files>(
     context: &RunContext<'_, R, G>,
     setup: &Setup,
@@ -334,7 +369,7 @@ fn count_on<R: Threads + Sync, G: Gate, F: Files>(
     Ok(run)
 }
 
-/// The sum of a run by its total, by which its base grows.
+/// What is left of the sum of a run, by its total, once its base grew by it.
 fn sum_run(
     alloc: Global,
     settings: &Settings,
@@ -346,8 +381,9 @@ fn sum_run(
     ensures entries { base.new.entries ≡ base.old.entries }
 {
     summary_is_sound(&base.summary);
-    let run = total.summary(alloc)?;
-    add_run(alloc, settings, base, &run)?;
+    let mut run = total.summary(alloc)?;
+    summary_is_sound(&run);
+    add_run(alloc, settings, base, &mut run)?;
     Ok(run)
 }
 

@@ -50,6 +50,8 @@ pub enum Status {
     DiskFault,
     /// What stands on a side of the disk from this place on is no part of a database.
     DbDamaged { side: u32, at: u64 },
+    /// The database keeps another number of days than the run, which restores it.
+    KeepDiffers { stored: u32, given: u32 },
     /// The report's target failed after it took this many bytes of the report.
     OutFault { to: To, at: u64 },
     /// A counter would pass its greatest value: it would have this one.
@@ -72,6 +74,7 @@ impl Status {
             Status::CounterFull { .. } => 5,
             Status::DbDamaged { .. } => 6,
             Status::NoMemory => 7,
+            Status::KeepDiffers { .. } => 8,
         }
     }
 }

@@ -68,15 +68,17 @@ a => no log format
 --help => word 0: unknown option
 ";
 
-/// Words with bars between them, and how finely they tell days and times; or the fault.
+/// Words with bars between them, and how many of the last days they keep, and how finely they tell days and times; or the fault.
 const DAYS: &str = "\
-## by days and hours
---restore => Date Hour
+## all days, by days and hours
+--restore => 0 Date Hour
 ## the last of several values
---date-spec=min|--date-spec|hr|--hour-spec=min|--restore => Hour Tens
---date-spec=hr|--date-spec=date|--hour-spec=min|--hour-spec=hr|--restore => Date Hour
---date-spec=min|--restore => Minute Hour
+--keep-last=1|--keep-last|4294967295|--date-spec=min|--date-spec|hr|--hour-spec=min|--restore => 4294967295 Hour Tens
+--date-spec=hr|--date-spec=date|--hour-spec=min|--hour-spec=hr|--keep-last=02|--restore => 2 Date Hour
+--date-spec=min|--restore => 0 Minute Hour
 ## other values
+--keep-last=0|--restore => word 0: bad value
+--keep-last=4294967296|--restore => word 0: bad value
 --date-spec=day => word 0: bad value
 --date-spec|HR|--restore => word 1: bad value
 --date-spec=|--restore => word 0: bad value
@@ -132,7 +134,10 @@ fn shown(alloc: Global, settings: &Settings) -> Result<String, Fail> {
 /// What words mean of days and times.
 fn days_said(alloc: Global, row: &str) -> Result<String, Fail> {
     match read_words(alloc, words_of(alloc, row)?.items()) {
-        Ok(settings) => Ok(format!(in alloc; "{:?} {:?}", settings.date_spec, settings.hour_spec)?),
+        Ok(settings) => Ok(format!(in alloc;
+            "{} {:?} {:?}",
+            settings.keep, settings.date_spec, settings.hour_spec
+        )?),
         Err(fault) => Ok(format!(in alloc; "{fault}")?),
     }
 }
@@ -146,7 +151,7 @@ fn said(alloc: Global, row: &str) -> Result<String, Fail> {
 }
 
 #[test]
-fn words_say_how_days_are_told(rt: HostRuntime) -> Result<(), Fail> {
+fn words_say_how_days_are_kept_and_told(rt: HostRuntime) -> Result<(), Fail> {
     hold(rt.alloc(), DAYS, days_said)
 }
 

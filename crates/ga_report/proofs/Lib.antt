@@ -20,3 +20,6 @@ pub mod PanelIndexes
 pub mod Bucketed
 pub mod Alone
 pub mod SomeReport
+pub mod Filtered
+pub mod Bars
+pub mod LastRows

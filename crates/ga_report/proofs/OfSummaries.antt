@@ -30,14 +30,14 @@ use Rattle.ga_report.specs.Source.{SourceRow}
 use Rattle.ga_report.proofs.Lists.{all-weaker, all-both, all-map, all-filter}
 
 -- what a source has of rows that pass a test
-filter-source : (p : SourceRow → Bool) (xs : List SummaryRow) → filter p (map source_row xs) ≡ map source_row (filter (λ x. p (source_row x)) xs)
+pub filter-source : (p : SourceRow → Bool) (xs : List SummaryRow) → filter p (map source_row xs) ≡ map source_row (filter (λ x. p (source_row x)) xs)
 filter-source p [] = refl
 filter-source p (x ∷ xs) = elim (p (source_row x)) as (λ v. cond v (source_row x ∷ filter p (map source_row xs)) (filter p (map source_row xs)) ≡ map source_row (cond v (x ∷ filter (λ y. p (source_row y)) xs) (filter (λ y. p (source_row y)) xs))) [
   | true ↦ ap (λ (r : List SourceRow). source_row x ∷ r) (filter-source p xs)
   | false ↦ filter-source p xs
 ]
 
-sum-source : (f : SourceRow → ℕ) (xs : List SummaryRow) → sum_by f (map source_row xs) ≡ sum_by (λ x. f (source_row x)) xs
+pub sum-source : (f : SourceRow → ℕ) (xs : List SummaryRow) → sum_by f (map source_row xs) ≡ sum_by (λ x. f (source_row x)) xs
 sum-source f [] = refl
 sum-source f (x ∷ xs) = sum_by-cons f (source_row x) (map source_row xs) ∙ ap (λ (n : ℕ). f (source_row x) + n) (sum-source f xs) ∙ sym (sum_by-cons (λ y. f (source_row y)) x xs)
 
@@ -48,7 +48,7 @@ keys-source : (xs : List SummaryRow) → map (λ row. row.key) (map source_row x
 keys-source [] = refl
 keys-source (x ∷ xs) = ap (λ (r : List Key). x.key ∷ r) (keys-source xs)
 
-any-source : (p : SourceRow → Bool) (xs : List SummaryRow) → list_any p (map source_row xs) ≡ list_any (λ x. p (source_row x)) xs
+pub any-source : (p : SourceRow → Bool) (xs : List SummaryRow) → list_any p (map source_row xs) ≡ list_any (λ x. p (source_row x)) xs
 any-source p [] = refl
 any-source p (x ∷ xs) = ap (λ (b : Bool). p (source_row x) || b) (any-source p xs)
 

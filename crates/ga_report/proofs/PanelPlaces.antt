@@ -124,3 +124,7 @@ day-shown rows = fine-shown D.Date rows ∙ both rows
             → filter (λ row. is_as_fine D.Date row.key) (cond (own x) (x ∷ filter own xs) (filter own xs)) ≡ cond (own x && is_empty x.key.parent) (x ∷ day_rows xs) (day_rows xs)
         go true e rest = rw e (ap (λ (r : List SourceRow). cond (is_empty x.key.parent) (x ∷ r) r) rest)
         go false e rest = rw e rest
+
+-- the places of the days are those of what VISITORS shows by days
+pub days-at : (rows : List SourceRow) (places places' : List ℕ) → places' ≡ places → AreAt rows places (panel_rows Visitors (shown_rows D.Date rows)) → AreAt rows places' (day_rows rows)
+days-at rows places places' same at = subst (λ (xs : List ℕ). AreAt rows xs (day_rows rows)) (sym same) (subst (AreAt rows places) (day-shown rows) at)

@@ -1,5 +1,6 @@
 pub mod Source
 pub mod SoundRows
+pub mod LastDays
 pub mod Items
 pub mod Percents
 pub mod Reports

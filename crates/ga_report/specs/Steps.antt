@@ -2,3 +2,4 @@
 pub mod Summed
 pub mod RowPlaces
 pub mod Alone
+pub mod LastDays

@@ -7,6 +7,7 @@
 mod arranging;
 mod buckets;
 mod item_name;
+mod kept_days;
 pub mod laws;
 mod of_summary;
 mod panel_items;
@@ -17,6 +18,7 @@ mod reporting;
 mod row_index;
 mod row_source;
 
+pub use kept_days::{LastDays, last_days};
 pub use of_summary::rows;
 pub use percents::hundredths;
 pub use report::{General, Item, Items, PanelList, PanelLists, Report, Row, RowList};

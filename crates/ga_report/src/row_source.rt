@@ -119,6 +119,13 @@ impl<'a> RowRef<'a> {
         }
     }
 
+    /// The day of its key.
+    pub(crate) fn date(&self) -> u32
+        ensures { result ≡ self.now.key.date }
+    {
+        self.date
+    }
+
     /// The label.
     pub(crate) fn label(&self) -> &'a Text
         ensures { result.now ≡ self.now.key.label }

@@ -1,5 +1,5 @@
 -- What one run makes of the kept runs: nothing, or it is added to them.
-use Rattle.std.proofs.Common.{◌≡◌, ◌≢◌, ◌⊎◌, ◌||◌, ℕ, Bool, true, false, List, ◌++◌, map, length, refl, ap, sym, ◌∙◌, subst, inl, inr, Option, Some, None, IfSome, Ok, if◌then◌else◌}
+use Rattle.std.proofs.Common.{◌≡◌, ◌≢◌, ◌⊎◌, ◌||◌, ℕ, Bool, true, false, List, ◌++◌, map, length, refl, ap, sym, ◌∙◌, subst, inl, inr, Option, Some, None, IfSome, Ok, unwrap_or, if◌then◌else◌}
 use Rattle.std.proofs.lemmas.Bool.{false≢true}
 use Rattle.ga_codec.specs.Values.{EntryValue, entry_value}
 use Rattle.ga_disk.specs.Disk.{DiskView}
@@ -7,20 +7,28 @@ use Rattle.ga_disk.specs.Images.{LeavesOnly}
 use Rattle.ga_disk.specs.Laws.{counts-now}
 use Rattle.ga_disk.specs.MemDisk.{AreImages, bytes_of, disk_images, disk_view, states}
 use Rattle.ga_disk.specs.Sides.{Sides}
-use Rattle.ga_keep.specs.RunDatabase.{IsAfter, follow_of, uses_database}
+use Rattle.ga_keep.specs.RunDatabase.{IsAfter, base_of, follow_of, start_of, uses_database}
+use Rattle.ga_keep.proofs.Kept.{agrees-with}
 use Rattle.ga_line.specs.declared.setup.LineSetup.{LineSetup}
 use Rattle.ga_logs.specs.Following.{AreTold}
+use Rattle.ga_logs.specs.Portions.{counted_lines}
+use Rattle.ga_outcomes.specs.LineOutcomes.{CountsLines}
 use Rattle.ga_resume.specs.declared.follow.Follow.TheVariants.{ToEnd, ToLastLine, Whole}
 use Rattle.ga_ports.specs.Files.{Contents, FilesView}
 use Rattle.ga_ports.specs.MemFiles.{files_view, only_these}
 use Rattle.ga_ports.specs.MemOuts.{outs_view}
 use Rattle.ga_store.specs.Commit.{IsLater}
 use Rattle.ga_store.specs.Commits.{HasEither}
-use Rattle.ga_store.specs.Database.{DbOf, DbValue}
+use Rattle.ga_store.specs.Database.{DbOf, DbValue, empty_db}
 use Rattle.ga_store.specs.Database.Reading.{stored as reads_as}
+use Rattle.ga_base.specs.Totals.{totals_plus}
+use Rattle.ga_summary.specs.LastDays.{trimmed}
+use Rattle.ga_summary.specs.Limits.{passes}
 use Rattle.ga_summary.specs.Outcomes.{Outcome}
+use Rattle.ga_summary.specs.Sound.{IsSummary}
 use Rattle.ga_summary.specs.SummaryRows.{SummaryValue}
 use Rattle.ga_summary.specs.Sums.{IsSumOf}
+use Rattle.ga_summary.proofs.LastDays.{trimmed-summary}
 use Rattle.ga_words.specs.WordsOf.{WordsOf}
 use Rattle.ga_words.specs.declared.settings.Settings.{Settings}
 use Rattle.ga_agents.specs.declared.row.Rule.{Rule}
@@ -33,17 +41,18 @@ use Rattle.ga_one_run.specs.Run.{AreRefused, HaveSetup, IsRun, NothingWasRead, R
 use Rattle.ga_one_run.specs.Outside.{Outside}
 use Rattle.ga_one_run.specs.Printing.{but_errors, delivered, report_file}
 use Rattle.ga_one_run.specs.Reports.{IsTextOf}
-use Rattle.ga_one_run.specs.Setups.{IsLineSetup}
+use Rattle.ga_one_run.specs.Setups.{IsLineSetup, setup_of}
 use Rattle.ga_one_run.specs.declared.status.Status.{Status}
-use Rattle.ga_one_run.specs.declared.status.Status.TheVariants.{Done, BadWords, BadFormat, BadRules, FileFault, FileShort, DiskFault, DbDamaged, OutFault, CounterFull, NoMemory}
+use Rattle.ga_one_run.specs.declared.status.Status.TheVariants.{Done, BadWords, BadFormat, BadRules, FileFault, FileShort, DiskFault, DbDamaged, KeepDiffers, OutFault, CounterFull, NoMemory}
+use Rattle.ga_one_run.proofs.Counting.{whole-fits}
 use Rattle.ga_one_run.proofs.Telling.{kept-rules, seen-same, told-is}
-use Rattle.ga_run.specs.Headline.{IsRunCount, HasRuns, Holds, IsAcknowledged, IsDone, Kept, RunCount, PrintsExactly, found_entries, found_outcomes, outcomes_of, with_run}
+use Rattle.ga_run.specs.Headline.{IsRunCount, HasRuns, Holds, IsAcknowledged, IsDone, Kept, RunCount, PrintsExactly, found_entries, found_outcomes, number_after, with_run}
 use Rattle.ga_run.specs.History.{seen_of}
 use Rattle.ga_run.specs.Parts.{AreToldApart, ArePartsOf, Part}
 use Rattle.ga_run.specs.declared.history.World.{World}
 use Rattle.ga_run.proofs.Counted.{parts-of}
 use Rattle.ga_run.proofs.EachOnce.{Tracks, tracks-told}
-use Rattle.ga_run.proofs.Kept.{Laws, begin-from, entries-with, outcomes-with, whole-sum}
+use Rattle.ga_run.proofs.Kept.{IsLastOf, Laws, begin-from, entries-with, number-with, outcomes-with, whole-sum}
 
 -- the run is added to the kept runs
 pub record Adds (words : List (List ℕ)) (status : Status) (old : World) (kept : Kept) (db : DbValue) (new : World) : Type 0 where
@@ -84,6 +93,7 @@ settled-by (FileFault file) stored after old new not h = h
 settled-by (FileShort file at) stored after old new not h = h
 settled-by DiskFault stored after old new not h = h
 settled-by (DbDamaged side at) stored after old new not h = h
+settled-by (KeepDiffers number given) stored after old new not h = h
 settled-by (OutFault to at) stored after old new not h = absurd (not tt)
 settled-by (CounterFull which total) stored after old new not h = h
 settled-by NoMemory stored after old new not h = h
@@ -140,6 +150,7 @@ module _ (laws : Laws) (kept : Kept) (db : DbValue) (old new : World) (held : Ho
       outcomes = come.counted.counts.outcomes;
       parts = own-parts.0;
       entries = map entry_value come.counted.entries';
+      keep = s.keep;
       status = status;
     }
 
@@ -155,6 +166,7 @@ module _ (laws : Laws) (kept : Kept) (db : DbValue) (old new : World) (held : Ho
       parts = own-parts.1;
       have = come.counted.counts.have_outcomes;
       end = refl;
+      keep_is = refl;
     }
 
     -- where entries track the logs before the run, they track them after it
@@ -165,21 +177,33 @@ module _ (laws : Laws) (kept : Kept) (db : DbValue) (old new : World) (held : Ho
         come.counted.entries' come.counted.portions told-logs apart
         (subst (λ (es : List EntryValue). Tracks old.files.contents parts es) (sym (come.counted.begin ∙ begin-from laws db kept.runs held.has s.restore come.stored found-if)) tracks)
 
-    -- with what it found they have this sum
-    all-sum : IsSumOf (found_outcomes s.restore kept.runs ++ come.counted.counts.outcomes) come.counted.whole
+    -- they fit behind what was found
+    found-fits : s.restore ≡ true → passes (totals_plus db.summary.totals come.counted.run.totals) ≡ None
+    found-fits e =
+        let base-is : base_of s come.stored ≡ db = ap (λ (b : Bool). if b then come.stored else empty_db) e ∙ found-if e in
+        let lines = counted_lines s.generate (start_of s come.stored).follow come.counted.portions in
+        let good = subst (λ (v : SummaryValue). IsSummary v) (sym held.has.summary) (trimmed-summary (unwrap_or (number_after None kept.runs) 0) held.has.sum held.has.is_summary) in
+        whole-fits (setup_of line s come.rules) db.summary lines come.counted.run good
+        (subst (λ (d : DbValue). CountsLines (setup_of line s come.rules) d.summary.totals lines come.counted.run) base-is come.counted.counts)
+
+    -- with what it found the whole is the last days of their sum
+    all-sum : IsLastOf s.keep (found_outcomes s.restore kept.runs ++ come.counted.counts.outcomes) come.counted.whole
     all-sum =
-        whole-sum laws db kept.runs held.has s.restore come.counted.counts.outcomes come.stored come.counted.run come.counted.whole found-if come.counted.counts.is_sum
-        come.counted.is_whole
+        whole-sum laws db kept.runs held.has s.restore s.keep come.counted.counts.outcomes come.stored come.counted.run come.counted.whole found-if come.counted.counts.is_sum
+        come.counted.is_summary found-fits (agrees-with s come.stored come.agrees) come.counted.is_whole
 
     -- a database after the run has it
-    with-own : (status : Status) (after : DbValue) → IsAfter come.counted.whole come.counted.entries' after
+    with-own : (status : Status) (after : DbValue) → IsAfter come.counted.whole come.counted.entries' s.keep after
         → HasRuns (with_run s.restore (own-run status) kept.runs) after
     with-own status after h =
         let run : RunCount = own-run status in
+        let number = number-with s.restore run kept.runs in
         record {
-          summary =
-              subst (λ (v : SummaryValue). IsSumOf (outcomes_of (with_run s.restore run kept.runs)) v) (sym h.summary)
-              (subst (λ (all : List Outcome). IsSumOf all come.counted.whole) (sym (outcomes-with s.restore run kept.runs)) all-sum);
+          sum = all-sum.sum;
+          is_sum = subst (λ (all : List Outcome). IsSumOf all all-sum.sum) (sym (outcomes-with s.restore run kept.runs)) all-sum.is_sum;
+          is_summary = all-sum.is_summary;
+          summary = h.summary ∙ all-sum.last ∙ ap (λ (o : Option ℕ). trimmed (unwrap_or o 0) all-sum.sum) (sym number);
+          number = h.number ∙ sym number;
           entries = h.entries ∙ sym (entries-with s.restore run kept.runs);
         }
 
@@ -187,7 +211,14 @@ module _ (laws : Laws) (kept : Kept) (db : DbValue) (old new : World) (held : Ho
         → outs_view new.outs ≡ but_errors (outs_view new.outs) (delivered (report_file s.generate s.output.name) text (outs_view old.outs))
         → (outs_view new.outs).stderr ≡ (outs_view old.outs).stderr
         → PrintsExactly s (found_outcomes s.restore kept.runs ++ come.counted.counts.outcomes) (outs_view old.outs) (outs_view new.outs)
-    prints-all text shown printed quiet = record { sum = come.counted.whole; is_sum = all-sum; text = text; shown = shown; printed = printed; quiet = quiet }
+    prints-all text shown printed quiet = record {
+      sum = all-sum.sum;
+      is_sum = all-sum.is_sum;
+      text = text;
+      shown = subst (λ (v : SummaryValue). IsTextOf s v text) all-sum.last shown;
+      printed = printed;
+      quiet = quiet;
+    }
 
   -- ---- no side was changed
 
@@ -320,6 +351,7 @@ module _ (laws : Laws) (kept : Kept) (db : DbValue) (old new : World) (held : Ho
       of-status persists (FileShort file at) e ends = of-other s line says means persists (λ ack. subst (λ (x : Status). IsAcknowledged x) e ack) over.leaves
       of-status persists DiskFault e ends = of-other s line says means persists (λ ack. subst (λ (x : Status). IsAcknowledged x) e ack) over.leaves
       of-status persists (DbDamaged side at) e ends = of-other s line says means persists (λ ack. subst (λ (x : Status). IsAcknowledged x) e ack) over.leaves
+      of-status persists (KeepDiffers number given) e ends = of-other s line says means persists (λ ack. subst (λ (x : Status). IsAcknowledged x) e ack) over.leaves
       of-status persists (CounterFull which total) e ends = of-other s line says means persists (λ ack. subst (λ (x : Status). IsAcknowledged x) e ack) over.leaves
       of-status persists NoMemory e ends = of-other s line says means persists (λ ack. subst (λ (x : Status). IsAcknowledged x) e ack) over.leaves
 

@@ -4,7 +4,7 @@ use Rattle.ga_base.specs.declared.counts.Counter.{Counter}
 use Rattle.ga_base.specs.declared.entry.Entry.{Entry}
 use Rattle.ga_counters.specs.Counts.{Rose, raised}
 use Rattle.ga_disk.specs.MemDisk.{bytes_of, states}
-use Rattle.ga_keep.specs.RunDatabase.{uses_database}
+use Rattle.ga_keep.specs.RunDatabase.{SidesHave, differing, uses_database}
 use Rattle.ga_line.specs.declared.setup.LineSetup.{LineSetup}
 use Rattle.ga_logs.specs.Following.{MissesAt}
 use Rattle.ga_logs.specs.Following.MissesAt.{misses_first, misses_later}
@@ -28,11 +28,11 @@ use Rattle.ga_one_run.specs.Printing.{FailsWriting, report_file, target_of}
 use Rattle.ga_one_run.specs.Run.{AreRefused, HaveSetup, IsRun, IsTrouble, NothingWasRead, RunsOver, SameFaults, disk_faults_after, faults_after}
 use Rattle.ga_one_run.specs.Setups.{IsLineSetup}
 use Rattle.ga_one_run.specs.Told.{Answers, HasBadLine, Yield}
-use Rattle.ga_one_run.specs.Told.Answers.{answers_rules, answers_damage, answers_full, answers_generation}
+use Rattle.ga_one_run.specs.Told.Answers.{answers_rules, answers_damage, answers_differs, answers_full, answers_generation}
 use Rattle.ga_one_run.specs.declared.status.Input.{Input}
 use Rattle.ga_one_run.specs.declared.status.Input.TheVariants.{Rules, Log}
 use Rattle.ga_one_run.specs.declared.status.Status.{Status}
-use Rattle.ga_one_run.specs.declared.status.Status.TheVariants.{Done, BadWords, BadFormat, BadRules, FileFault, FileShort, DiskFault, DbDamaged, OutFault, CounterFull, NoMemory}
+use Rattle.ga_one_run.specs.declared.status.Status.TheVariants.{Done, BadWords, BadFormat, BadRules, FileFault, FileShort, DiskFault, DbDamaged, KeepDiffers, OutFault, CounterFull, NoMemory}
 use Rattle.ga_one_run.specs.declared.status.Which.{Which}
 use Rattle.ga_one_run.proofs.Telling.{kept-rules}
 use Rattle.ga_run.specs.Headline.{FailsOnlyBy, Holds, IsFull, Kept}
@@ -65,8 +65,12 @@ bad-line line s old at yield (answers_rules h) = h
 
 is-full : (line : LineSetup) (s : Settings) (old : World) (which : Counter) (total : ℕ) (yield : Option Yield) → Answers line s (files_view old.files) (bytes_of (states old.disk)) (CounterFull which total) yield
     → IsFull line s old which total
-is-full line s old which total yield (answers_full rules stored told has fills) = (stored, has, inl (rules, told, fills))
-is-full line s old which total yield (answers_generation rules stored whole entries told has counts lacks) = (stored, has, inr (lacks, refl, refl))
+is-full line s old which total yield (answers_full rules stored told has agrees fills) = (stored, has, inl (rules, told, fills))
+is-full line s old which total yield (answers_generation rules stored whole entries told has agrees counts lacks) = (stored, has, inr (lacks, refl, refl))
+
+other-number : (line : LineSetup) (s : Settings) (old : World) (number given : ℕ) (yield : Option Yield) → Answers line s (files_view old.files) (bytes_of (states old.disk)) (KeepDiffers number given) yield
+    → (given ≡ s.keep) × ((stored : DbValue) × SidesHave s (bytes_of (states old.disk)) stored × (differing s stored ≡ Some number))
+other-number line s old number given yield (answers_differs rules stored told has differs) = (refl, (stored, has, differs))
 
 module _ (laws : Laws) (kept : Kept) (db : DbValue) (old new : World) (held : Holds kept db old) where
   undamaged : (line : LineSetup) (s : Settings) (side at : ℕ) (yield : Option Yield) → Answers line s (files_view old.files) (bytes_of (states old.disk)) (DbDamaged side at) yield → ⊥
@@ -140,6 +144,11 @@ module _ (laws : Laws) (kept : Kept) (db : DbValue) (old new : World) (held : Ho
         let i = said (λ f. cc) (λ fault f. cc) (λ which fault f. cc) in
         let a = answered-as i (DbDamaged side at) e (λ t. t) in
         undamaged i.line i.s side at a.0 a.1
+    fails-by (KeepDiffers number given) e =
+        let i = said (λ f. cc) (λ fault f. cc) (λ which fault f. cc) in
+        let a = answered-as i (KeepDiffers number given) e (λ t. t) in
+        let other = other-number i.line i.s old number given a.0 a.1 in
+        (i.s, i.says, other.0, other.1)
     fails-by (OutFault to at) e =
         let i = said (λ f. cc) (λ fault f. cc) (λ which fault f. cc) in
         let ends : StopsPrinting i.line i.s (seen_of old) (seen_of new) to at = ends-as i (OutFault to at) e in

@@ -17,7 +17,7 @@ use Rattle.ga_summary.specs.Outcomes.{Outcome}
 use Rattle.ga_words.specs.WordsOf.{WordsOf}
 use Rattle.ga_words.specs.declared.settings.Settings.{Settings}
 use Rattle.ga_one_run.specs.declared.status.Status.{Status}
-use Rattle.ga_one_run.specs.declared.status.Status.TheVariants.{Done, BadWords, BadFormat, BadRules, FileFault, FileShort, DiskFault, DbDamaged, OutFault, CounterFull, NoMemory}
+use Rattle.ga_one_run.specs.declared.status.Status.TheVariants.{Done, BadWords, BadFormat, BadRules, FileFault, FileShort, DiskFault, DbDamaged, KeepDiffers, OutFault, CounterFull, NoMemory}
 use Rattle.ga_run.specs.Headline.{Changes, FailsOnlyBy, HasRuns, Headline, Holds, IfRun, IsAcknowledged, IsKeptAs, KeepsAll, Kept, RunCount, LacksLast, OnlyAppended, PrintsExactly, RunKeeps, StepKeeps, all_parts, entries_after, found_entries, found_outcomes, none_kept, outcomes_of, with_run, words_of}
 use Rattle.ga_run.specs.Headline.Changes.{adds, falls, stays}
 use Rattle.ga_run.specs.History.{History, IsBlank, Runs, Steps, with_bound, with_crash}
@@ -242,6 +242,7 @@ module _ (laws : Laws) (kept : Kept) (db : DbValue) where
     fails-on (FileShort file at) f = f
     fails-on DiskFault f = f
     fails-on (DbDamaged side at) f = f
+    fails-on (KeepDiffers number given) f = f
     fails-on (OutFault to at) f = f
     fails-on (CounterFull which total) f = f
     fails-on NoMemory f = f

@@ -1,7 +1,7 @@
 -- The headline, term by term. For every list of tracked runs over only-appended logs, with a crash at any write of the disk, a
--- run that is done prints exactly the report of one pass over all lines up to the ends that were read; recovery gives whole
--- runs, every acknowledged one among them; a run fails only by a named fault, a full counter or out of memory.
-use Rattle.std.specs.Prelude.{◌≡◌, ◌⊎◌, ℕ, ◌+◌, Bool, true, false, List, [], ◌∷◌, ◌++◌, map, Option, Some, None, Ok, Err}
+-- run that is done prints exactly the kept days' report of one pass over all lines up to the ends that were read; recovery gives
+-- whole runs, every acknowledged one among them; a run fails only by a named fault, a full counter or out of memory.
+use Rattle.std.specs.Prelude.{◌≡◌, ◌⊎◌, ℕ, ◌+◌, Bool, true, false, List, [], ◌∷◌, ◌++◌, map, Option, Some, None, Ok, Err, unwrap_or}
 use Rattle.std.specs.List.{Contains, flat_map}
 use Rattle.ga_agents.specs.declared.row.Rule.{Rule}
 use Rattle.ga_base.specs.declared.counts.Counter.{Counter}
@@ -11,7 +11,7 @@ use Rattle.ga_base.specs.declared.entry.Entry.{Entry}
 use Rattle.ga_codec.specs.Values.{EntryValue, entry_value}
 use Rattle.ga_disk.specs.MemDisk.{AreImages, bytes_of, states}
 use Rattle.ga_disk.specs.Sides.{Sides}
-use Rattle.ga_keep.specs.RunDatabase.{SidesHave, follow_of, lacks_generation, uses_database}
+use Rattle.ga_keep.specs.RunDatabase.{SidesHave, differing, follow_of, lacks_generation, uses_database}
 use Rattle.ga_line.specs.declared.setup.LineSetup.{LineSetup}
 use Rattle.ga_logs.specs.Following.{AreTold}
 use Rattle.ga_logs.specs.Portions.{counted_lines}
@@ -24,7 +24,9 @@ use Rattle.ga_counters.specs.Counts.{Rose}
 use Rattle.ga_store.specs.Commit.{IsLater}
 use Rattle.ga_store.specs.Database.{DbOf, DbValue}
 use Rattle.ga_store.specs.Database.Reading.{stored as reads_as}
+use Rattle.ga_summary.specs.LastDays.{trimmed}
 use Rattle.ga_summary.specs.Outcomes.{Outcome}
+use Rattle.ga_summary.specs.Sound.{IsSummary}
 use Rattle.ga_summary.specs.SummaryRows.{SummaryValue}
 use Rattle.ga_summary.specs.Sums.{IsSumOf}
 use Rattle.ga_words.specs.WordsOf.{WordsOf}
@@ -35,7 +37,7 @@ use Rattle.ga_one_run.specs.Run.{HaveRefused}
 use Rattle.ga_one_run.specs.Setups.{IsLineSetup, setup_of}
 use Rattle.ga_one_run.specs.Told.{HasBadLine, FillsTold, RulesAreTold}
 use Rattle.ga_one_run.specs.declared.status.Status.{Status}
-use Rattle.ga_one_run.specs.declared.status.Status.TheVariants.{Done, BadWords, BadFormat, BadRules, FileFault, FileShort, DiskFault, DbDamaged, OutFault, CounterFull, NoMemory}
+use Rattle.ga_one_run.specs.declared.status.Status.TheVariants.{Done, BadWords, BadFormat, BadRules, FileFault, FileShort, DiskFault, DbDamaged, KeepDiffers, OutFault, CounterFull, NoMemory}
 use Rattle.ga_run.specs.History.{History, IsBlank}
 use Rattle.ga_run.specs.History.History.{no_step, step_then}
 use Rattle.ga_run.specs.Parts.{ArePartsOf, AreToldApart, EachOnce, Part}
@@ -57,11 +59,14 @@ OnlyAppended (log ∷ logs) (now ∷ later) = ((more : List ℕ) × (now.1 ≡ l
 
 -- ---- the kept runs
 
--- a run: the outcomes of the lines that it counted, the parts of logs that these are, the entries after it, and how it ended
+-- a run: the outcomes of the lines that it counted, the parts of logs that these are, the entries after it, how many days it keeps,
+-- and how it ended
 pub record RunCount : Type 0 where
   pub outcomes : List Outcome
   pub parts : List Part
   pub entries : List EntryValue
+  -- 0 for all days
+  pub keep : ℕ
   pub status : Status
 
 -- the runs in the database, and the lists that stood there before each of them was added, the latest first
@@ -94,6 +99,7 @@ pub record IsRunCount (line : LineSetup) (s : Settings) (files : FilesState) (fr
   pub parts : ArePartsOf (follow_of s) files.contents s.logs portions run.parts
   pub have : HaveOutcomes (setup_of line s rules) (counted_lines s.generate (follow_of s) portions) run.outcomes
   pub end : run.entries ≡ map entry_value ended
+  pub keep_is : run.keep ≡ s.keep
 
 -- the outcomes of all lines that these runs counted
 abbrev pub outcomes_of : List RunCount → List Outcome
@@ -103,6 +109,11 @@ outcomes_of runs = flat_map (λ run. run.outcomes) runs
 abbrev pub entries_after : List EntryValue → List RunCount → List EntryValue
 entries_after entries [] = entries
 entries_after entries (run ∷ runs) = entries_after run.entries runs
+
+-- how many days the last of these runs keeps, or the database before them where there are none
+abbrev pub number_after : Option ℕ → List RunCount → Option ℕ
+number_after number [] = number
+number_after number (run ∷ runs) = number_after (Some run.keep) runs
 
 -- what a run finds of them, where it restores
 abbrev pub found_outcomes : Bool → List RunCount → List Outcome
@@ -119,14 +130,16 @@ found_entries false runs = []
 abbrev pub all_parts : List RunCount → List Part
 all_parts runs = flat_map (λ run. run.parts) runs
 
+-- ---- kept days: the last days of a sum, see `trimmed` in ga_summary's specs/LastDays.antt
+
 -- ---- prints exactly
 
--- the report's target took the text that shows the sum of these outcomes, and no target took anything else
+-- the report's target took the text that shows the kept days of the sum of these outcomes, and no target took anything else
 pub record PrintsExactly (s : Settings) (outcomes : List Outcome) (old new : OutsView) : Type 0 where
   pub sum : SummaryValue
   pub is_sum : IsSumOf outcomes sum
   pub text : List ℕ
-  pub shown : IsTextOf s sum text
+  pub shown : IsTextOf s (trimmed s.keep sum) text
   pub printed : new ≡ but_errors new (delivered (report_file s.generate s.output.name) text old)
   pub quiet : new.stderr ≡ old.stderr
 
@@ -138,9 +151,14 @@ pub record IsDone (line : LineSetup) (s : Settings) (kept : List RunCount) (old 
 
 -- ---- recovery gives whole runs
 
--- the database of kept runs: the sum of all their outcomes, and the entries after the last
+-- the database of kept runs: the last days of the sum of all their outcomes, as many as the last of them keeps, and the entries
+-- after that
 pub record HasRuns (runs : List RunCount) (db : DbValue) : Type 0 where
-  pub summary : IsSumOf (outcomes_of runs) db.summary
+  pub sum : SummaryValue
+  pub is_sum : IsSumOf (outcomes_of runs) sum
+  pub is_summary : IsSummary sum
+  pub summary : db.summary ≡ trimmed (unwrap_or (number_after None runs) 0) sum
+  pub number : db.keep ≡ number_after None runs
   pub entries : db.entries ≡ entries_after [] runs
 
 -- ---- acknowledged
@@ -236,6 +254,9 @@ FailsOnlyBy words old new DiskFault =
     ((s : Settings) × WordsOf words (Ok s) × (uses_database s ≡ true)) × Rose old.disk.counts.faults new.disk.counts.faults
 -- a database never breaks
 FailsOnlyBy words old new (DbDamaged side at) = ⊥
+-- the database keeps another number of days than the run, which restores it
+FailsOnlyBy words old new (KeepDiffers number given) = (s : Settings) × WordsOf words (Ok s) × (given ≡ s.keep)
+    × ((stored : DbValue) × SidesHave s (bytes_of (states old.disk)) stored × (differing s stored ≡ Some number))
 -- a call of the report's target failed
 FailsOnlyBy words old new (OutFault to at) =
     Rose (target to (outs_view old.outs)).faults (target to (outs_view new.outs)).faults

@@ -13,17 +13,18 @@ use ga_line::laws::lines_added;
 use ga_logs::laws::read_as_told;
 use ga_ports::laws::files_stay;
 use ga_store::laws::one_database;
-use ga_summary::laws::merged_sums;
+use ga_summary::laws::{merged_sums, trimmed_merge};
 use ga_words::laws::one_reading;
 
 /// Every list of steps in a world in which nothing stood before keeps the promise of `specs/Headline.antt`, step by step: the
-/// database is that of the kept runs, a tracked run that is done printed exactly the report on all their lines, an acknowledged
-/// run is never taken back, and a run fails only by the causes of its status.
+/// database is that of the kept runs, a tracked run that is done printed exactly the report on the kept days of all their lines,
+/// an acknowledged run is never taken back, and a run fails only by the causes of its status.
 pub fn headline()
     ensures { (steps : List TheStep) (statuses : List TheStatus) (old new : TheWorld) → Headline steps statuses old new }
 {
     one_database();
     merged_sums();
+    trimmed_merge();
     read_as_told();
     one_reading();
     files_stay();

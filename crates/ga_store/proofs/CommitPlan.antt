@@ -10,7 +10,7 @@ use Rattle.ga_disk.specs.Sides.{Sides, of_side, with_side}
 use Rattle.ga_store.specs.Commit.{IsGenerationOf, IsLater, IsRecordOf, Makes, Work, closed_part, other_side}
 use Rattle.ga_store.specs.Commit.Makes.{by_generation, by_record}
 use Rattle.ga_store.specs.Steps.Committing.{SameFront}
-use Rattle.ga_store.specs.Database.{DbOf, DbValue, HasSnapshot, ReadsOn, TakesOn, YieldsTo, of_snapshot}
+use Rattle.ga_store.specs.Database.{DbOf, DbValue, HasSnapshot, ReadsOn, TakesOn, YieldsTo, of_snapshot, with_last_days}
 use Rattle.ga_store.specs.Database.Reading.{stored}
 use Rattle.ga_store.specs.Database.ReadsOn.{ends, goes_on}
 use Rattle.ga_store.specs.Database.YieldsTo.{closed, older}
@@ -74,18 +74,18 @@ length-closed body = omega (arith, length-append (part_bytes body) (closed_gate 
 
 -- the database with a record more, whose tail has this length
 abbrev with_record : DbValue → SummaryValue → List EntryValue → ℕ → DbValue
-with_record old merged entries size = record old { summary = merged; entries = entries; records = old.records + 1; slot = old.slot + size }
+with_record old both entries size = record old { summary = both; entries = entries; records = old.records + 1; slot = old.slot + size }
 
-record IsRecord (old : DbValue) (run merged : SummaryValue) (entries : List EntryValue) (body : List ℕ) : Type 0 where
+record IsRecord (old : DbValue) (run both : SummaryValue) (entries : List EntryValue) (body : List ℕ) : Type 0 where
   pub size : length body < 2 ^ 64
   pub spells : SpellDelta body (record { summary = run; entries = entries })
   pub limits : passes (totals_plus old.summary.totals run.totals) ≡ None
-  pub merges : IsMerged old.summary run merged
+  pub merges : IsMerged old.summary run both
 
-takes-on : (old : DbValue) (run merged : SummaryValue) (entries : List EntryValue) (body side : List ℕ) → IsRecord old run merged entries body
+takes-on : (old : DbValue) (run both : SummaryValue) (entries : List EntryValue) (body side : List ℕ) → IsRecord old run both entries body
     → is_open_at side old.slot ≡ true → StandsAt side (old.slot + 1) (closed_part body)
-    → TakesOn side old (with_record old merged entries (length (closed_part body)))
-takes-on old run merged entries body side is gate stands = record {
+    → TakesOn side old (with_record old both entries (length (closed_part body)))
+takes-on old run both entries body side is gate stands = record {
   gate = gate;
   body = body;
   delta = record { summary = run; entries = entries };
@@ -95,7 +95,7 @@ takes-on old run merged entries body side is gate stands = record {
   merged = is.merges;
   others =
       let slot : old.slot + length (closed_part body) ≡ old.slot + 1 + length (part_bytes body) = omega (arith, length-closed body) in
-      ap (λ (n : ℕ). let db : DbValue = record old { summary = merged; entries = entries; records = old.records + 1; slot = n } in db) slot;
+      ap (λ (n : ℕ). let db : DbValue = record old { summary = both; entries = entries; records = old.records + 1; slot = n } in db) slot;
 }
 
 next-closed : (old : DbValue) (body side : List ℕ) → StandsAt side (old.slot + 1) (closed_part body) → is_open_at side (old.slot + length (closed_part body)) ≡ false
@@ -103,27 +103,27 @@ next-closed old body side stands =
     let slot : old.slot + 1 + length (part_bytes body) ≡ old.slot + length (closed_part body) = omega (arith, length-closed body) in
     subst (λ (n : ℕ). is_open_at side n ≡ false) slot (tail-gate side body (old.slot + 1) stands)
 
-record0 : (old : DbValue) (run merged : SummaryValue) (entries : List EntryValue) (body : List ℕ) (sides : Sides) → IsRecord old run merged entries body
+record0 : (old : DbValue) (run both : SummaryValue) (entries : List EntryValue) (body : List ℕ) (sides : Sides) → IsRecord old run both entries body
     → DbOf sides (stored old) → old.side ≡ Some 0
-    → IsPlanned 0 old.slot (closed_part body) old (with_record old merged entries (length (closed_part body))) sides
-record0 old run merged entries body sides is has side = record {
+    → IsPlanned 0 old.slot (closed_part body) old (with_last_days (with_record old both entries (length (closed_part body)))) sides
+record0 old run both entries body sides is has side = record {
   side = omega arith;
   reaches = (slot0 has side).1;
   has = has;
   keeps = λ bytes front gate. stays0 bytes has side front gate;
-  comes = λ bytes front gate stands. adds0 bytes has side front (takes-on old run merged entries body bytes is gate stands) (next-closed old body bytes stands);
+  comes = λ bytes front gate stands. adds0 bytes has side front (takes-on old run both entries body bytes is gate stands) (next-closed old body bytes stands);
   apart = λ bytes gate stands still. opposite _ gate (slot0 still side).0;
 }
 
-record1 : (old : DbValue) (run merged : SummaryValue) (entries : List EntryValue) (body : List ℕ) (sides : Sides) → IsRecord old run merged entries body
+record1 : (old : DbValue) (run both : SummaryValue) (entries : List EntryValue) (body : List ℕ) (sides : Sides) → IsRecord old run both entries body
     → DbOf sides (stored old) → old.side ≡ Some 1
-    → IsPlanned 1 old.slot (closed_part body) old (with_record old merged entries (length (closed_part body))) sides
-record1 old run merged entries body sides is has side = record {
+    → IsPlanned 1 old.slot (closed_part body) old (with_last_days (with_record old both entries (length (closed_part body)))) sides
+record1 old run both entries body sides is has side = record {
   side = omega arith;
   reaches = (slot1 has side).1;
   has = has;
   keeps = λ bytes front gate. stays1 bytes has side front gate;
-  comes = λ bytes front gate stands. adds1 bytes has side front (takes-on old run merged entries body bytes is gate stands) (next-closed old body bytes stands);
+  comes = λ bytes front gate stands. adds1 bytes has side front (takes-on old run both entries body bytes is gate stands) (next-closed old body bytes stands);
   apart = λ bytes gate stands still. opposite _ gate (slot1 still side).0;
 }
 
@@ -158,7 +158,7 @@ not-passed old s body side generation is gate stands same (older there less) =
 
 -- onto side 0, where nothing is stored
 first0 : (old : DbValue) (s : SnapshotValue) (body : List ℕ) (sides : Sides) → IsGeneration old s body → DbOf sides (stored old) → old.side ≡ None
-    → IsPlanned 0 0 (closed_part body) old (of_snapshot 0 (length (closed_part body)) s) sides
+    → IsPlanned 0 0 (closed_part body) old (with_last_days (of_snapshot 0 (length (closed_part body)) s)) sides
 first0 old s body sides is has side = record {
   side = omega arith;
   reaches = omega arith;
@@ -175,7 +175,7 @@ first0 old s body sides is has side = record {
     keeps-none bytes (chosen1 has yields on) none gate = let side = (sides-stay on).0 in cc
 
     comes-none : {db : DbValue} (bytes : List ℕ) → DbOf sides (stored db) → db.side ≡ None → is_open_at bytes 0 ≡ true → StandsAt bytes (0 + 1) (closed_part body)
-        → DbOf (record { side0 = bytes; side1 = sides.side1 }) (stored (of_snapshot 0 (length (closed_part body)) s))
+        → DbOf (record { side0 = bytes; side1 = sides.side1 }) (stored (with_last_days (of_snapshot 0 (length (closed_part body)) s)))
     comes-none bytes (nothing a b) none gate stands =
         chosen0 (has-snapshot old s body bytes is gate stands) (closed b) (ends (behind-closed body bytes stands))
     comes-none bytes (chosen0 has yields on) none gate stands = let side = (sides-stay on).0 in cc
@@ -188,7 +188,7 @@ first0 old s body sides is has side = record {
 
 -- onto side 0, where side 1 is chosen
 next0 : (old : DbValue) (s : SnapshotValue) (body : List ℕ) (sides : Sides) → IsGeneration old s body → DbOf sides (stored old) → old.side ≡ Some 1
-    → IsPlanned 0 0 (closed_part body) old (of_snapshot 0 (length (closed_part body)) s) sides
+    → IsPlanned 0 0 (closed_part body) old (with_last_days (of_snapshot 0 (length (closed_part body)) s)) sides
 next0 old s body sides is has side = record {
   side = omega arith;
   reaches = omega arith;
@@ -199,7 +199,7 @@ next0 old s body sides is has side = record {
 }
   where
     comes-over : {db : DbValue} (bytes : List ℕ) → DbOf sides (stored db) → db.side ≡ Some 1 → db.generation ≡ old.generation → is_open_at bytes 0 ≡ true
-        → StandsAt bytes (0 + 1) (closed_part body) → DbOf (record { side0 = bytes; side1 = sides.side1 }) (stored (of_snapshot 0 (length (closed_part body)) s))
+        → StandsAt bytes (0 + 1) (closed_part body) → DbOf (record { side0 = bytes; side1 = sides.side1 }) (stored (with_last_days (of_snapshot 0 (length (closed_part body)) s)))
     comes-over bytes (nothing a b) chosen same gate stands = cc
     comes-over bytes (chosen0 has yields on) chosen same gate stands = let side = (sides-stay on).0 in cc
     comes-over bytes (chosen1 {snapshot} has yields on) chosen same gate stands =
@@ -218,7 +218,7 @@ next0 old s body sides is has side = record {
 
 -- onto side 1, where side 0 is chosen
 next1 : (old : DbValue) (s : SnapshotValue) (body : List ℕ) (sides : Sides) → IsGeneration old s body → DbOf sides (stored old) → old.side ≡ Some 0
-    → IsPlanned 1 0 (closed_part body) old (of_snapshot 1 (length (closed_part body)) s) sides
+    → IsPlanned 1 0 (closed_part body) old (with_last_days (of_snapshot 1 (length (closed_part body)) s)) sides
 next1 old s body sides is has side = record {
   side = omega arith;
   reaches = omega arith;
@@ -229,7 +229,7 @@ next1 old s body sides is has side = record {
 }
   where
     comes-over : {db : DbValue} (bytes : List ℕ) → DbOf sides (stored db) → db.side ≡ Some 0 → db.generation ≡ old.generation → is_open_at bytes 0 ≡ true
-        → StandsAt bytes (0 + 1) (closed_part body) → DbOf (record { side0 = sides.side0; side1 = bytes }) (stored (of_snapshot 1 (length (closed_part body)) s))
+        → StandsAt bytes (0 + 1) (closed_part body) → DbOf (record { side0 = sides.side0; side1 = bytes }) (stored (with_last_days (of_snapshot 1 (length (closed_part body)) s)))
     comes-over bytes (nothing a b) chosen same gate stands = cc
     comes-over bytes (chosen1 has yields on) chosen same gate stands = let side = (sides-stay on).0 in cc
     comes-over bytes (chosen0 {snapshot} has yields on) chosen same gate stands =
@@ -257,59 +257,59 @@ which (chosen1 has yields on) = inr (inr (sides-stay on).0)
 some-same : (a b : ℕ) → Some a ≡ Some b → a ≡ b
 some-same a b e = cc
 
-plan-record : (work : Work) (old : DbValue) (run merged : SummaryValue) (entries : List EntryValue) (sides : Sides) → DbOf sides (stored old)
-    → (r : IsRecordOf old run entries work) → IsRecord old run merged entries r.body
-    → IsPlanned work.side work.gate work.tail old (with_record old merged entries (length work.tail)) sides
-plan-record work old run merged entries sides has r is = by-side (which has)
+plan-record : (work : Work) (old : DbValue) (run both : SummaryValue) (entries : List EntryValue) (sides : Sides) → DbOf sides (stored old)
+    → (r : IsRecordOf old run entries work) → IsRecord old run both entries r.body
+    → IsPlanned work.side work.gate work.tail old (with_last_days (with_record old both entries (length work.tail))) sides
+plan-record work old run both entries sides has r is = by-side (which has)
   where
-    onto : (n : ℕ) → n ≡ work.side → IsPlanned n old.slot (closed_part r.body) old (with_record old merged entries (length (closed_part r.body))) sides
-        → IsPlanned work.side work.gate work.tail old (with_record old merged entries (length work.tail)) sides
+    onto : (n : ℕ) → n ≡ work.side → IsPlanned n old.slot (closed_part r.body) old (with_last_days (with_record old both entries (length (closed_part r.body)))) sides
+        → IsPlanned work.side work.gate work.tail old (with_last_days (with_record old both entries (length work.tail))) sides
     onto n same plan =
-        let a = subst (λ (t : List ℕ). IsPlanned n old.slot t old (with_record old merged entries (length t)) sides) (sym r.tail) plan in
-        let b = subst (λ (g : ℕ). IsPlanned n g work.tail old (with_record old merged entries (length work.tail)) sides) (sym r.gate) a in
-        subst (λ (m : ℕ). IsPlanned m work.gate work.tail old (with_record old merged entries (length work.tail)) sides) same b
+        let a = subst (λ (t : List ℕ). IsPlanned n old.slot t old (with_last_days (with_record old both entries (length t))) sides) (sym r.tail) plan in
+        let b = subst (λ (g : ℕ). IsPlanned n g work.tail old (with_last_days (with_record old both entries (length work.tail))) sides) (sym r.gate) a in
+        subst (λ (m : ℕ). IsPlanned m work.gate work.tail old (with_last_days (with_record old both entries (length work.tail))) sides) same b
 
     by-side : (old.side ≡ None) ⊎ ((old.side ≡ Some 0) ⊎ (old.side ≡ Some 1))
-        → IsPlanned work.side work.gate work.tail old (with_record old merged entries (length work.tail)) sides
+        → IsPlanned work.side work.gate work.tail old (with_last_days (with_record old both entries (length work.tail))) sides
     by-side (inl none) = let side = r.side in cc
-    by-side (inr (inl zero)) = onto 0 (some-same 0 work.side (sym zero ∙ r.side)) (record0 old run merged entries r.body sides is has zero)
-    by-side (inr (inr one)) = onto 1 (some-same 1 work.side (sym one ∙ r.side)) (record1 old run merged entries r.body sides is has one)
+    by-side (inr (inl zero)) = onto 0 (some-same 0 work.side (sym zero ∙ r.side)) (record0 old run both entries r.body sides is has zero)
+    by-side (inr (inr one)) = onto 1 (some-same 1 work.side (sym one ∙ r.side)) (record1 old run both entries r.body sides is has one)
 
-plan-generation : (work : Work) (old : DbValue) (merged : SummaryValue) (entries : List EntryValue) (sides : Sides) → DbOf sides (stored old)
-    → IsGenerationOf old merged entries work
+plan-generation : (work : Work) (old : DbValue) (keep : ℕ) (merged : SummaryValue) (entries : List EntryValue) (sides : Sides) → DbOf sides (stored old)
+    → IsGenerationOf old keep merged entries work
     → IsPlanned work.side work.gate work.tail old
-    (of_snapshot work.side (length work.tail) (record { generation = old.generation + 1; summary = merged; entries = entries })) sides
-plan-generation work old merged entries sides has r = by-side (which has)
+    (with_last_days (of_snapshot work.side (length work.tail) (record { generation = old.generation + 1; keep = Some keep; summary = merged; entries = entries }))) sides
+plan-generation work old keep merged entries sides has r = by-side (which has)
   where
     s : SnapshotValue
-    s = record { generation = old.generation + 1; summary = merged; entries = entries }
+    s = record { generation = old.generation + 1; keep = Some keep; summary = merged; entries = entries }
 
-    is : IsGeneration old (record { generation = old.generation + 1; summary = merged; entries = entries }) r.body
+    is : IsGeneration old (record { generation = old.generation + 1; keep = Some keep; summary = merged; entries = entries }) r.body
     is = record { size = r.size; spells = r.spells; more = refl }
 
     onto : (n : ℕ) → other_side old.side ≡ n
         → IsPlanned n 0 (closed_part r.body) old
-        (of_snapshot n (length (closed_part r.body)) (record { generation = old.generation + 1; summary = merged; entries = entries })) sides
+        (with_last_days (of_snapshot n (length (closed_part r.body)) (record { generation = old.generation + 1; keep = Some keep; summary = merged; entries = entries }))) sides
         → IsPlanned work.side work.gate work.tail old
-        (of_snapshot work.side (length work.tail) (record { generation = old.generation + 1; summary = merged; entries = entries })) sides
+        (with_last_days (of_snapshot work.side (length work.tail) (record { generation = old.generation + 1; keep = Some keep; summary = merged; entries = entries }))) sides
     onto n same plan =
-        let v : SnapshotValue = record { generation = old.generation + 1; summary = merged; entries = entries } in
-        let a = subst (λ (t : List ℕ). IsPlanned n 0 t old (of_snapshot n (length t) v) sides) (sym r.tail) plan in
-        let b = subst (λ (g : ℕ). IsPlanned n g work.tail old (of_snapshot n (length work.tail) v) sides) (sym r.gate) a in
-        subst (λ (m : ℕ). IsPlanned m work.gate work.tail old (of_snapshot m (length work.tail) v) sides) (sym (r.side ∙ same)) b
+        let v : SnapshotValue = record { generation = old.generation + 1; keep = Some keep; summary = merged; entries = entries } in
+        let a = subst (λ (t : List ℕ). IsPlanned n 0 t old (with_last_days (of_snapshot n (length t) v)) sides) (sym r.tail) plan in
+        let b = subst (λ (g : ℕ). IsPlanned n g work.tail old (with_last_days (of_snapshot n (length work.tail) v)) sides) (sym r.gate) a in
+        subst (λ (m : ℕ). IsPlanned m work.gate work.tail old (with_last_days (of_snapshot m (length work.tail) v)) sides) (sym (r.side ∙ same)) b
 
     by-side : (old.side ≡ None) ⊎ ((old.side ≡ Some 0) ⊎ (old.side ≡ Some 1))
         → IsPlanned work.side work.gate work.tail old
-        (of_snapshot work.side (length work.tail) (record { generation = old.generation + 1; summary = merged; entries = entries })) sides
+        (with_last_days (of_snapshot work.side (length work.tail) (record { generation = old.generation + 1; keep = Some keep; summary = merged; entries = entries }))) sides
     by-side (inl none) = onto 0 (ap other_side none) (first0 old _ r.body sides is has none)
     by-side (inr (inl zero)) = onto 1 (ap other_side zero) (next1 old _ r.body sides is has zero)
     by-side (inr (inr one)) = onto 0 (ap other_side one) (next0 old _ r.body sides is has one)
 
 pub planned : (work : Work) (old new : DbValue) (sides : Sides) → DbOf sides (stored old) → Makes work old new
     → IsPlanned work.side work.gate work.tail old new sides
-planned work old _ sides has (by_record {run} {merged} {entries} r limits both) =
-    plan-record work old run merged entries sides has r (record { size = r.size; spells = r.spells; limits = limits; merges = both })
-planned work old _ sides has (by_generation {merged} {entries} r) = plan-generation work old merged entries sides has r
+planned work old _ sides has (by_record {run} {both} {entries} r limits merges) =
+    plan-record work old run both entries sides has r (record { size = r.size; spells = r.spells; limits = limits; merges = merges })
+planned work old _ sides has (by_generation {keep} {merged} {entries} r) = plan-generation work old keep merged entries sides has r
 
 pub is-later : (work : Work) (old new : DbValue) → Makes work old new → IsLater old new
 is-later work old _ (by_record r limits both) = inr (refl, omega arith)

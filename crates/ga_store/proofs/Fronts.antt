@@ -8,11 +8,13 @@ use Rattle.ga_codec.specs.Values.{SnapshotValue}
 use Rattle.ga_disk.specs.Sides.{Sides}
 use Rattle.ga_store.specs.Steps.Committing.{SameFront}
 use Rattle.ga_store.specs.SideParts.{IsPartAt, StandsAt, is_open_at, open_gate, part_bytes}
-use Rattle.ga_store.specs.Database.{DbOf, DbValue, HasSnapshot, ReadsOn, TakesOn}
+use Rattle.ga_summary.specs.Sound.{IsSummary}
+use Rattle.ga_store.specs.Database.{DbOf, DbValue, HasSnapshot, ReadsOn, TakesOn, with_last_days}
 use Rattle.ga_store.specs.Database.Reading.{stored}
 use Rattle.ga_store.specs.Database.ReadsOn.{ends, goes_on}
 use Rattle.ga_store.specs.Database.YieldsTo.{closed}
 use Rattle.ga_store.specs.Database.DbOf.{nothing, chosen0, chosen1}
+use Rattle.ga_store.proofs.TrimmedRecords.{adds-more, good-next}
 
 -- a shorter front is the same too
 taken : (k n : ℕ) (old new : List ℕ) → k ≤ n → take n new ≡ take n old → take k new ≡ take k old
@@ -141,23 +143,23 @@ closes0 new (chosen0 has yields on) is gate = let side = (sides-stay on).0 in cc
 -- ---- the new database comes
 
 -- a record after the gate at the slot, and a closed gate after it, add to the chosen side
-pub adds : {number : ℕ} {old new : List ℕ} {db last next : DbValue} → SameFront last.slot old new → TakesOn new last next
-    → is_open_at new next.slot ≡ false → ReadsOn number old db (stored last) → ReadsOn number new db (stored next)
-adds front t gate (ends old_gate) = goes_on t (ends gate)
-adds front t gate (goes_on u on) = goes_on (takes-on-same _ _ _ _ _ (slots-rise on) front u) (adds front t gate on)
+pub adds : {number : ℕ} {old new : List ℕ} {db last next : DbValue} → IsSummary db.summary → SameFront last.slot old new → TakesOn new last next
+    → is_open_at new next.slot ≡ false → ReadsOn number old db (stored last) → ReadsOn number new db (stored (with_last_days next))
+adds good front t gate (ends old_gate) = adds-more good t gate
+adds good front t gate (goes_on u on) = goes_on (takes-on-same _ _ _ _ _ (slots-rise on) front u) (adds (good-next good u) front t gate on)
 
 pub adds0 : {sides : Sides} {db next : DbValue} (new : List ℕ) → DbOf sides (stored db) → db.side ≡ Some 0 → SameFront db.slot sides.side0 new
-    → TakesOn new db next → is_open_at new next.slot ≡ false → DbOf (record { side0 = new; side1 = sides.side1 }) (stored next)
+    → TakesOn new db next → is_open_at new next.slot ≡ false → DbOf (record { side0 = new; side1 = sides.side1 }) (stored (with_last_days next))
 adds0 new (nothing a b) is front t gate = cc
 adds0 new (chosen0 has yields on) is front t gate =
     let rise = slots-rise on in
-    chosen0 (snapshot-same _ _ _ _ _ rise front has) yields (adds front t gate on)
+    chosen0 (snapshot-same _ _ _ _ _ rise front has) yields (adds has.spells.summary front t gate on)
 adds0 new (chosen1 has yields on) is front t gate = let side = (sides-stay on).0 in cc
 
 pub adds1 : {sides : Sides} {db next : DbValue} (new : List ℕ) → DbOf sides (stored db) → db.side ≡ Some 1 → SameFront db.slot sides.side1 new
-    → TakesOn new db next → is_open_at new next.slot ≡ false → DbOf (record { side0 = sides.side0; side1 = new }) (stored next)
+    → TakesOn new db next → is_open_at new next.slot ≡ false → DbOf (record { side0 = sides.side0; side1 = new }) (stored (with_last_days next))
 adds1 new (nothing a b) is front t gate = cc
 adds1 new (chosen1 has yields on) is front t gate =
     let rise = slots-rise on in
-    chosen1 (snapshot-same _ _ _ _ _ rise front has) yields (adds front t gate on)
+    chosen1 (snapshot-same _ _ _ _ _ rise front has) yields (adds has.spells.summary front t gate on)
 adds1 new (chosen0 has yields on) is front t gate = let side = (sides-stay on).0 in cc

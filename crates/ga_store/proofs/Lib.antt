@@ -7,6 +7,8 @@ pub mod BodyReads
 pub mod StartReads
 pub mod MergedRecords
 pub mod RecordLemmas
+pub mod LastDays
+pub mod TrimmedRecords
 pub mod BothReads
 pub mod RecoverStreams
 pub mod OneDatabase

@@ -16,7 +16,7 @@ use Rattle.ga_codec.specs.declared.snapshot.Delta.{Delta}
 use Rattle.ga_disk.specs.Disk.{DiskView}
 use Rattle.ga_disk.specs.Images.{Images}
 use Rattle.ga_disk.specs.Sides.{Sides}
-use Rattle.ga_store.specs.Database.{DbValue, Reading, ReadsOn}
+use Rattle.ga_store.specs.Database.{DbValue, Reading, ReadsOn, with_last_days}
 use Rattle.ga_store.specs.Database.Reading.{damaged, stored}
 use Rattle.ga_store.specs.Database.ReadsOn.{breaks, ends, goes_on}
 use Rattle.ga_store.specs.SideParts.{IsPartAt, StandsAt, is_open_at, open_gate, part_bytes}
@@ -230,7 +230,7 @@ module _ {seen : Option Sides} {number : ℕ} {s s' : StreamView} {start db : Db
   on-long before long = omega (arith, on.slot, long, length-append before taken)
 
   -- the gate after them is closed
-  pub on-ends : (reading : Reading) → reading ≡ stored db → ((rest : List ℕ) → IsRest s' rest → is_open_at rest 0 ≡ false) → (before rest : List ℕ)
+  pub on-ends : (reading : Reading) → reading ≡ stored (with_last_days db) → ((rest : List ℕ) → IsRest s' rest → is_open_at rest 0 ≡ false) → (before rest : List ℕ)
       → length before ≡ start.slot → IsRest s' rest → ReadsOn number (before ++ (taken ++ rest)) start reading
   unfolding on-long
   on-ends reading is gate before rest long rest_is =
@@ -238,7 +238,7 @@ module _ {seen : Option Sides} {number : ℕ} {s s' : StreamView} {start db : Db
       let closed : is_open_at (before ++ (taken ++ rest)) db.slot ≡ false =
       ap (λ (t : List ℕ). is_open_at t db.slot) (sym side) ∙ gate-behind (before ++ taken) rest db.slot (on-long before long) ∙ gate rest rest_is in
       subst (λ (r : Reading). ReadsOn number (before ++ (taken ++ rest)) start r) (sym is)
-      (on.says before rest long (still.rest rest rest_is) (stored db) (ends closed))
+      (on.says before rest long (still.rest rest rest_is) (stored (with_last_days db)) (ends closed))
 
   module _ {seen' : Option Sides} {s'' : StreamView} {more : List ℕ} (off : TookOff seen' s' s'' more) where
     on-side : (before rest : List ℕ) → (before ++ taken) ++ (more ++ rest) ≡ before ++ ((taken ++ more) ++ rest)

@@ -5,7 +5,7 @@ use Rattle.std.proofs.lemmas.Bool.Decides.{nat_tests}
 use Rattle.ga_codec.specs.Values.{SnapshotValue}
 use Rattle.ga_disk.specs.Sides.{Sides}
 use Rattle.ga_store.specs.SideParts.{is_open_at, part_bytes}
-use Rattle.ga_store.specs.Database.{DbOf, DbValue, HasSnapshot, LacksSnapshot, Reading, ReadsOn, TakesOn, empty_db, of_snapshot}
+use Rattle.ga_store.specs.Database.{DbOf, DbValue, HasSnapshot, LacksSnapshot, Reading, ReadsOn, TakesOn, empty_db, of_snapshot, with_last_days}
 use Rattle.ga_store.specs.Database.DbOf.{chosen0, chosen1, equal, lacks0, lacks1, nothing}
 use Rattle.ga_store.specs.Database.IsWhole.{unused, used}
 use Rattle.ga_store.specs.Database.Reading.{damaged, stored}
@@ -24,13 +24,13 @@ later-slot t = omega (arith, ap (λ (db : DbValue). db.slot) t.others)
 next-end : (number : ℕ) (side : List ℕ) (db : DbValue) (gate : Bool) → is_open_at side db.slot ≡ gate
     → ((new : DbValue) → TakesOn side db new → ((reading : Reading) → ReadsOn number side new reading → ⊥) → ⊥)
     → ((reading : Reading) → ReadsOn number side db reading → ⊥) → ⊥
-next-end number side db false e later none = none (stored db) (ends e)
+next-end number side db false e later none = none (stored (with_last_days db)) (ends e)
 next-end number side db true e later none =
     none (damaged number (db.slot + 1)) (breaks e (λ new t. later new t (λ reading on. none reading (goes_on t on))))
 
 some-end : (left number : ℕ) (side : List ℕ) (db : DbValue) → length side ≤ db.slot + left
     → ((reading : Reading) → ReadsOn number side db reading → ⊥) → ⊥
-some-end zero number side db le none = none (stored db) (ends (closed-past side db.slot (omega (arith, le))))
+some-end zero number side db le none = none (stored (with_last_days db)) (ends (closed-past side db.slot (omega (arith, le))))
 some-end (suc left) number side db le none =
     next-end number side db (is_open_at side db.slot) refl (λ new t. some-end left number side new (omega (arith, le, later-slot t))) none
 

@@ -1,5 +1,6 @@
 -- The database of two sides.
-use Rattle.std.specs.Prelude.{◌≡◌, ℕ, ◌+◌, ◌<◌, true, false, List, [], length, Option, Some, None}
+use Rattle.std.specs.Prelude.{◌≡◌, ℕ, ◌+◌, ◌<◌, true, false, List, [], length, Option, Some, None, unwrap_or}
+use Rattle.ga_summary.specs.LastDays.{trimmed}
 use Rattle.ga_summary.specs.Limits.{passes}
 use Rattle.ga_summary.specs.SummaryRows.{SummaryValue}
 use Rattle.ga_base.specs.Totals.{totals_plus}
@@ -12,6 +13,8 @@ use Rattle.ga_store.specs.SideParts.{IsPartAt, is_open_at, part_bytes}
 pub record DbValue : Type 0 where
   pub summary : SummaryValue
   pub entries : List EntryValue
+  -- how many of the last days it keeps, 0 for all; None where nothing is stored, and after a snapshot of version 1, which doesn't say it
+  pub keep : Option ℕ
   -- the number of the snapshot, 0 where nothing is stored
   pub generation : ℕ
   -- the side that was chosen; None where nothing is stored
@@ -57,10 +60,15 @@ pub record TakesOn (side : List ℕ) (old new : DbValue) : Type 0 where
     slot = old.slot + 1 + length (part_bytes body);
   }
 
+-- a database with its last days alone, as many as it keeps
+abbrev pub with_last_days : DbValue → DbValue
+with_last_days db = record db { summary = trimmed (unwrap_or db.keep 0) db.summary }
+
 -- from a database on, as far as it was read of the side with this number, to what the side says: its records are those
--- after open gates up to the first closed one, and what follows that is ignored
+-- after open gates up to the first closed one, and what follows that is ignored. What they say together is trimmed once, at
+-- the end
 pub data ReadsOn (number : ℕ) (side : List ℕ) : DbValue → Reading → Type 0 where
-  ends : {db : DbValue} → is_open_at side db.slot ≡ false → ReadsOn number side db (stored db)
+  ends : {db : DbValue} → is_open_at side db.slot ≡ false → ReadsOn number side db (stored (with_last_days db))
   goes_on : {old new : DbValue} {reading : Reading} → TakesOn side old new → ReadsOn number side new reading → ReadsOn number side old reading
   breaks : {db : DbValue} → is_open_at side db.slot ≡ true → ((new : DbValue) → TakesOn side db new → ⊥)
       → ReadsOn number side db (damaged number (db.slot + 1))
@@ -75,13 +83,14 @@ no_summary = record {
 
 -- nothing is stored
 abbrev pub empty_db : DbValue
-empty_db = record { summary = no_summary; entries = []; generation = 0; side = None; records = 0; slot = 0 }
+empty_db = record { summary = no_summary; entries = []; keep = None; generation = 0; side = None; records = 0; slot = 0 }
 
 -- the database of a snapshot, before the records after it
 abbrev pub of_snapshot : ℕ → ℕ → SnapshotValue → DbValue
 of_snapshot number next s = record {
   summary = s.summary;
   entries = s.entries;
+  keep = s.keep;
   generation = s.generation;
   side = Some number;
   records = 0;

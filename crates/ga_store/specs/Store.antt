@@ -19,6 +19,7 @@ abbrev pub db_value : Db → DbValue
 db_value db = record {
   summary = db.summary;
   entries = map entry_value db.entries;
+  keep = db.keep;
   generation = db.generation;
   side = db.side;
   records = db.records;

@@ -1,7 +1,7 @@
 ghost use Rattle.std.specs.Prelude.{◌≡◌, ◌≤◌, Some};
 ghost use Rattle.ga_base.specs.declared.counts.TheConstants.{LIMIT};
 ghost use Rattle.ga_codec.specs.Values.{snapshot_value};
-ghost use Rattle.ga_store.specs.Database.{empty_db, of_snapshot};
+ghost use Rattle.ga_store.specs.Database.{empty_db, of_snapshot, with_last_days};
 
 use crate::Position;
 use crate::found::FirstPart;
@@ -17,6 +17,8 @@ pub struct Db {
     pub summary: Summary,
     /// How far each log was counted.
     pub entries: Entries,
+    /// How many of the last days it keeps, 0 for all. None where nothing is stored, and after a snapshot of version 1, which doesn't say it.
+    pub keep: Option<u32>,
     /// The number of its snapshot, at most `LIMIT`, and 0 where nothing is stored.
     pub generation: u64,
     /// The side that has it; None where nothing is stored.
@@ -41,6 +43,7 @@ impl Db {
         Db {
             summary: Summary::empty(alloc),
             entries: Entries::new(alloc),
+            keep: None,
             generation: 0,
             side: None,
             records: 0,
@@ -53,11 +56,19 @@ impl Db {
         ensures { result ≡ position_of (db_value self.now) }
     {
         Position {
+            keep: self.keep,
             generation: self.generation,
             side: self.side,
             records: self.records,
             slot: self.slot,
         }
+    }
+
+    /// Keeps its last days alone, as many as it says, or all where it doesn't say how many.
+    pub(crate) fn keep_last_days(&mut self)
+        ensures { db_value self.new ≡ with_last_days (db_value self.old) }
+    {
+        self.summary.trim(self.keep.unwrap_or(0));
     }
 
     /// The database of the snapshot on a side, before the records after it.
@@ -68,6 +79,7 @@ impl Db {
         Db {
             summary: snapshot.summary,
             entries: snapshot.entries,
+            keep: snapshot.keep,
             generation: snapshot.generation,
             side: Some(side),
             records: 0,

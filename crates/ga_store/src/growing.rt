@@ -5,6 +5,7 @@ ghost use Rattle.ga_summary.specs.Steps.Joined.{merged_value};
 ghost use Rattle.ga_summary.specs.SummaryRows.{IsInOrder};
 ghost use Rattle.ga_summary.specs.Sums.{IsMerged};
 ghost use Rattle.ga_codec.specs.Values.{delta_value};
+ghost use Rattle.ga_store.specs.Database.{with_last_days};
 ghost use Rattle.ga_store.specs.Steps.Records.{IsTogether, TakesDelta};
 ghost use Rattle.ga_store.specs.Store.{db_value};
 
@@ -79,8 +80,17 @@ impl Growing {
         Ok(true)
     }
 
-    /// The database with all records.
+    /// The database with all records, and of these the last days.
     pub(crate) fn into_db(self) -> Result<Db, NoMemory>
+        ensures { IfOk result (λ db. db_value db ≡ with_last_days self) }
+    {
+        let mut db = self.joined()?;
+        db.keep_last_days();
+        Ok(db)
+    }
+
+    /// The database with all records and all days.
+    fn joined(self) -> Result<Db, NoMemory>
         ensures { IfOk result (λ db. db_value db ≡ self) }
     {
         let Growing { mut db, apart, .. } = self;

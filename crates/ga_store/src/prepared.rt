@@ -3,7 +3,7 @@ ghost use Rattle.ga_base.specs.declared.counts.TheConstants.{LIMIT};
 ghost use Rattle.ga_base.specs.declared.counts.Counter.TheVariants.{Generations};
 ghost use Rattle.ga_summary.specs.Sound.{IsSummary};
 ghost use Rattle.ga_codec.specs.Values.{entry_value};
-ghost use Rattle.ga_store.specs.Commit.{IsGenerationOf, IsRecordOf, IsWorkOf, Makes, MergesBy, after_run, closed_part, other_side, passes_generations, position_of};
+ghost use Rattle.ga_store.specs.Commit.{Agrees, IsGenerationOf, IsRecordOf, IsWorkOf, Makes, MergesBy, after_run, closed_part, other_side, passes_generations, position_of};
 ghost use Rattle.ga_store.specs.Database.{DbValue};
 ghost use Rattle.ga_store.specs.Steps.Committing.{db_at};
 ghost use Rattle.ga_store.specs.Store.{db_value};
@@ -44,25 +44,29 @@ impl Model for Prepared {
 
 /// The work of a run over a database, in a mode. It touches no disk.
 ///
-/// A run is added as a record where a side is there that has room for one; else it becomes a new generation on the other
-/// side, and `CounterFull` is answered exactly where its number would be above `LIMIT`.
+/// `keep` is how many of the last days the database keeps after the run, 0 for all; `merged` has these days alone.
+///
+/// A run is added as a record where a side is there that says how many days it keeps and has room for one; else it becomes a
+/// new generation on the other side, and `CounterFull` is answered exactly where its number would be above `LIMIT`.
 pub fn prepare(
     alloc: Global,
     db: &Db,
     run: &Summary,
     merged: &Summary,
     entries: &Entries,
+    keep: u32,
     mode: Mode,
 ) -> Result<Prepared, StoreFault>
-    requires { MergesBy mode db.now.summary run.now merged.now }
-    ensures work { IfOk result (IsWorkOf mode (db_value db.now) run.now merged.now (map entry_value entries.now)) }
+    requires agrees { Agrees mode keep (db_value db.now) }
+    requires merged { MergesBy mode keep db.now.summary run.now merged.now }
+    ensures work { IfOk result (IsWorkOf mode keep (db_value db.now) run.now merged.now (map entry_value entries.now)) }
     ensures makes { IfOk result (λ work. let entries' = map entry_value entries.now in
-        Makes work (db_value db.now) (after_run mode (db_value db.now) merged.now entries' work)) }
+        Makes work (db_value db.now) (after_run mode keep (db_value db.now) merged.now entries' work)) }
     ensures full { IsErrOf result (StoreFault.CounterFull Generations (LIMIT + 1))
         ↔ (passes_generations mode (db_value db.now) ≡ true) }
     ensures causes { IfErr result (λ fault. (fault ≡ StoreFault.NoMemory) ⊎ (fault ≡ StoreFault.CounterFull Generations (LIMIT + 1))) }
 {
-    prepare_at(alloc, db.position(), run, merged, entries, mode)
+    prepare_at(alloc, db.position(), run, merged, entries, keep, mode)
 }
 
 /// The same over any database that stands at this position, whatever was counted in it.
@@ -72,17 +76,19 @@ pub fn prepare_at(
     run: &Summary,
     merged: &Summary,
     entries: &Entries,
+    keep: u32,
     mode: Mode,
 ) -> Result<Prepared, StoreFault>
-    ensures work { IfOk result (λ work. (db : DbValue) → position_of db ≡ position → IsWorkOf mode db run.now merged.now (map entry_value entries.now) work) }
-    ensures makes { IfOk result (λ work. (db : DbValue) → position_of db ≡ position → MergesBy mode db.summary run.now merged.now
-        → Makes work db (after_run mode db merged.now (map entry_value entries.now) work)) }
+    ensures work { IfOk result (λ work. (db : DbValue) → position_of db ≡ position
+        → IsWorkOf mode keep db run.now merged.now (map entry_value entries.now) work) }
+    ensures makes { IfOk result (λ work. (db : DbValue) → position_of db ≡ position → Agrees mode keep db
+        → MergesBy mode keep db.summary run.now merged.now → Makes work db (after_run mode keep db merged.now (map entry_value entries.now) work)) }
     ensures full { (db : DbValue) → position_of db ≡ position → IsErrOf result (StoreFault.CounterFull Generations (LIMIT + 1))
         ↔ (passes_generations mode db ≡ true) }
     ensures causes { IfErr result (λ fault. (fault ≡ StoreFault.NoMemory) ⊎ (fault ≡ StoreFault.CounterFull Generations (LIMIT + 1))) }
 {
     summary_is_sound(merged);
-    work_of(alloc, position, run, merged, entries, mode)
+    work_of(alloc, position, run, merged, entries, keep, mode)
 }
 
 /// A record where there is room for one, else a new generation.
@@ -92,18 +98,19 @@ fn work_of(
     run: &Summary,
     merged: &Summary,
     entries: &Entries,
+    keep: u32,
     mode: Mode,
 ) -> Result<Prepared, StoreFault>
-    ensures work { IfOk result (IsWorkOf mode (db_at position) run.now merged.now (map entry_value entries.now)) }
+    ensures work { IfOk result (IsWorkOf mode keep (db_at position) run.now merged.now (map entry_value entries.now)) }
     ensures full { IsErrOf result (StoreFault.CounterFull Generations (LIMIT + 1))
         ↔ (passes_generations mode (db_at position) ≡ true) }
     ensures causes { IfErr result (λ fault. (fault ≡ StoreFault.NoMemory) ⊎ (fault ≡ StoreFault.CounterFull Generations (LIMIT + 1))) }
 {
-    match (mode, position.side) {
-        (Mode::Append, Some(side)) if position.records < MOST_RECORDS => {
+    match (mode, position.side, position.keep) {
+        (Mode::Append, Some(side), Some(_)) if position.records < MOST_RECORDS => {
             Ok(record(alloc, position, side, run, entries)?)
         }
-        _ => generation(alloc, position, merged, entries),
+        _ => generation(alloc, position, merged, entries, keep),
     }
 }
 
@@ -142,8 +149,9 @@ fn generation(
     position: Position,
     merged: &Summary,
     entries: &Entries,
+    keep: u32,
 ) -> Result<Prepared, StoreFault>
-    ensures work { IfOk result (IsGenerationOf (db_at position) merged.now (map entry_value entries.now)) }
+    ensures work { IfOk result (IsGenerationOf (db_at position) keep merged.now (map entry_value entries.now)) }
     ensures full { IsErrOf result (StoreFault.CounterFull Generations (LIMIT + 1)) ↔ (LIMIT ≤ position.generation) }
     ensures causes { IfErr result (λ fault. (fault ≡ StoreFault.NoMemory) ⊎ (fault ≡ StoreFault.CounterFull Generations (LIMIT + 1))) }
 {
@@ -153,7 +161,7 @@ fn generation(
             total: LIMIT as u128 + 1,
         });
     }
-    Ok(next_generation(alloc, position, merged, entries)?)
+    Ok(next_generation(alloc, position, merged, entries, keep)?)
 }
 
 /// A new generation, where its number isn't above `LIMIT`.
@@ -162,13 +170,20 @@ fn next_generation(
     position: Position,
     merged: &Summary,
     entries: &Entries,
+    keep: u32,
 ) -> Result<Prepared, NoMemory>
     requires { position.generation < LIMIT }
-    ensures { IfOk result (IsGenerationOf (db_at position) merged.now (map entry_value entries.now)) }
+    ensures { IfOk result (IsGenerationOf (db_at position) keep merged.now (map entry_value entries.now)) }
 {
     let entries = entries.items();
-    let mut part = begin_part(alloc, snapshot_size(merged, entries))?;
-    push_snapshot(&mut part, position.generation + 1, merged, entries)?;
+    let mut part = begin_part(alloc, snapshot_size(Some(keep), merged, entries))?;
+    push_snapshot(
+        &mut part,
+        position.generation + 1,
+        Some(keep),
+        merged,
+        entries,
+    )?;
     Ok(Prepared {
         side: other_side(position.side),
         gate: 0,

@@ -1,1 +1,2 @@
 mod TestLines
+mod Merges

@@ -1,2 +1,3 @@
--- The keys of the lines that tests count.
+-- The keys of the lines that tests count, and the summaries of their runs.
 pub mod TestKeys
+pub mod Together

@@ -1,6 +1,9 @@
 ghost use Rattle.std.specs.Prelude.{IfOk, IsTrue};
 ghost use Rattle.ga_disk.specs.MemDisk.{disk_view};
-ghost use Rattle.ga_store.specs.Commit.{MergesBy};
+ghost use Rattle.ga_store.specs.Commit.{Agrees, MergesBy};
+ghost use Rattle.ga_store.specs.Store.{db_value};
+ghost use Rattle.ga_store.specs.declared.mode.Mode.TheVariants.{Append};
+ghost use Rattle.ga_storing_tests.specs.Together.{IsTogether};
 
 use crate::recovery::{disk_of, side_of};
 use ga_base::{Counter, Entries, LIMIT, Text};
@@ -11,9 +14,9 @@ use ga_summary::{MergeFault, Summary};
 use std::alloc::Global;
 use std::test::Fail;
 
-/// The whole summary of a run.
-fn merged_by(mode: Mode, stored: &Summary, run: &Summary) -> Result<Summary, StoreFault>
-    ensures { IfOk result (MergesBy mode stored.now run.now) }
+/// What a run counted, after what is stored where it is added to that.
+fn together(mode: Mode, stored: &Summary, run: &Summary) -> Result<Summary, StoreFault>
+    ensures { IfOk result (IsTogether mode stored.now run.now) }
 {
     let mut merged = match mode {
         Mode::Overwrite => return Ok(run.copy()?),
@@ -28,16 +31,37 @@ fn merged_by(mode: Mode, stored: &Summary, run: &Summary) -> Result<Summary, Sto
     }
 }
 
-/// Stores a run over an empty log: what is recovered and what is prepared from it is all that a commit asks for.
-fn store<D: Disk>(alloc: Global, disk: &mut D, mode: Mode) -> Result<(), StoreFault>
+/// The whole summary of a run that keeps this many days.
+fn merged_by(mode: Mode, keep: u32, stored: &Summary, run: &Summary) -> Result<Summary, StoreFault>
+    ensures { IfOk result (MergesBy mode keep stored.now run.now) }
+{
+    let mut whole = together(mode, stored, run)?;
+    whole.trim(keep);
+    Ok(whole)
+}
+
+/// How many days a database keeps, or this many where it doesn't say how many.
+fn kept_by(db: &Db, keep: u32) -> u32
+    ensures { Agrees Append result (db_value db.now) }
+{
+    match db.keep {
+        None => keep,
+        Some(kept) => kept,
+    }
+}
+
+/// Stores a run over an empty log, which keeps as many days as the database, or this many: what is recovered and what is prepared
+/// from it is all that a commit asks for.
+fn store<D: Disk>(alloc: Global, disk: &mut D, keep: u32, mode: Mode) -> Result<(), StoreFault>
     requires { IsTrue (D.view disk.old).is_open }
     ensures { IsTrue (D.view disk.new).is_open }
 {
     a_disk_stays();
     let db = recover(alloc, disk)?;
     let run = Summary::empty(alloc);
-    let merged = merged_by(mode, &db.summary, &run)?;
-    let work = prepare(alloc, &db, &run, &merged, &Entries::new(alloc), mode)?;
+    let keep = kept_by(&db, keep);
+    let merged = merged_by(mode, keep, &db.summary, &run)?;
+    let work = prepare(alloc, &db, &run, &merged, &Entries::new(alloc), keep, mode)?;
     commit(disk, work)
 }
 
@@ -47,9 +71,9 @@ fn disk_after(alloc: Global, more: u32) -> Result<MemDisk, Fail>
 {
     let mut disk = MemDisk::new(alloc);
     disk.open(&Text::of(alloc, "d")?)?;
-    store(alloc, &mut disk, Mode::Overwrite)?;
+    store(alloc, &mut disk, 0, Mode::Overwrite)?;
     for _run in 0..more {
-        store(alloc, &mut disk, Mode::Append)?;
+        store(alloc, &mut disk, 0, Mode::Append)?;
     }
     Ok(disk)
 }
@@ -57,17 +81,17 @@ fn disk_after(alloc: Global, more: u32) -> Result<MemDisk, Fail>
 /// How many runs come after the first, and the two sides then, by the letters of `recovery`: 64 runs are records after the first
 /// generation, and the next begins another on the other side.
 const RUNS: [(u32, &str, &str); 4] = [
-    (0, "F", ""),
-    (1, "FR", ""),
+    (0, "N", ""),
+    (1, "NR", ""),
     (
         64,
-        "FRRRRRRRRRRRRRRRRRRRRRRRRRRRRRRRRRRRRRRRRRRRRRRRRRRRRRRRRRRRRRRRR",
+        "NRRRRRRRRRRRRRRRRRRRRRRRRRRRRRRRRRRRRRRRRRRRRRRRRRRRRRRRRRRRRRRRR",
         "",
     ),
     (
         65,
-        "FRRRRRRRRRRRRRRRRRRRRRRRRRRRRRRRRRRRRRRRRRRRRRRRRRRRRRRRRRRRRRRRR",
-        "L",
+        "NRRRRRRRRRRRRRRRRRRRRRRRRRRRRRRRRRRRRRRRRRRRRRRRRRRRRRRRRRRRRRRRR",
+        "O",
     ),
 ];
 
@@ -88,10 +112,10 @@ fn runs_write_these_bytes(rt: HostRuntime) -> Result<(), Fail> {
     Ok(())
 }
 
-/// Whether a run over these sides leaves those.
-fn leads_to(alloc: Global, sides: &str, side0: &str, side1: &str) -> Result<bool, Fail> {
+/// Whether a run over these sides, which keeps this many days where they don't say how many, leaves those.
+fn leads_to(alloc: Global, sides: &str, keep: u32, side0: &str, side1: &str) -> Result<bool, Fail> {
     let mut disk = disk_of(alloc, sides)?;
-    store(alloc, &mut disk, Mode::Append)?;
+    store(alloc, &mut disk, keep, Mode::Append)?;
     Ok(
         disk.side(0) == side_of(alloc, side0)?.as_slice()
             && disk.side(1) == side_of(alloc, side1)?.as_slice(),
@@ -101,11 +125,24 @@ fn leads_to(alloc: Global, sides: &str, side0: &str, side1: &str) -> Result<bool
 #[test]
 fn a_lone_open_gate_is_closed_first(rt: HostRuntime) -> Result<(), Fail> {
     for (sides, side0, side1) in [
-        ("F@114=79 -", "FR", ""),
-        ("FR@220=79 L@114=79", "FR@220=79", "LR"),
-        ("G -", "F", ""),
+        ("N@118=79 -", "NR", ""),
+        ("NR@224=79 O@118=79", "NR@224=79", "OR"),
+        ("G -", "N", ""),
     ] {
-        assert!(rt; leads_to(rt.alloc(), sides, side0, side1)?, "{sides}");
+        assert!(rt; leads_to(rt.alloc(), sides, 0, side0, side1)?, "{sides}");
+    }
+    Ok(())
+}
+
+#[test]
+fn a_side_without_its_number_is_left_for_the_other(rt: HostRuntime) -> Result<(), Fail> {
+    for (sides, side0, side1) in [
+        ("F -", "F", "P"),
+        ("FR -", "FR", "P"),
+        ("- F", "P", "F"),
+        ("G F@114=79", "P", "F@114=79"),
+    ] {
+        assert!(rt; leads_to(rt.alloc(), sides, 2, side0, side1)?, "{sides}");
     }
     Ok(())
 }
@@ -132,7 +169,7 @@ struct Run {
 fn is_stored(alloc: Global, run: &Run, calls: u64, pick: u8) -> Result<bool, Fail> {
     let mut disk = disk_of(alloc, run.sides)?;
     disk.fail_after(calls);
-    let stored = store(alloc, &mut disk, run.mode);
+    let stored = store(alloc, &mut disk, 0, run.mode);
     disk.crash(&[pick]);
     let left = numbers(alloc, &mut disk)?;
     match stored {
@@ -157,25 +194,31 @@ fn is_stored_at_last(alloc: Global, run: &Run, pick: u8) -> Result<bool, Fail> {
     Ok(false)
 }
 
-/// A record; a generation on a side that has none; and one on a side whose gate is open.
-const CRASHES: [Run; 3] = [
+/// A record; a generation on a side that has none; one on a side whose gate is open; and one after a side without its number.
+const CRASHES: [Run; 4] = [
     Run {
-        sides: "F -",
+        sides: "N -",
         mode: Mode::Append,
         old: (1, 0),
         new: (1, 1),
     },
     Run {
-        sides: "FRRRRRRRRRRRRRRRRRRRRRRRRRRRRRRRRRRRRRRRRRRRRRRRRRRRRRRRRRRRRRRRR -",
+        sides: "NRRRRRRRRRRRRRRRRRRRRRRRRRRRRRRRRRRRRRRRRRRRRRRRRRRRRRRRRRRRRRRRR -",
         mode: Mode::Append,
         old: (1, 64),
         new: (2, 0),
     },
     Run {
-        sides: "FRRRRRRRRRRRRRRRRRRRRRRRRRRRRRRRRRRRRRRRRRRRRRRRRRRRRRRRRRRRRRRRR L",
+        sides: "NRRRRRRRRRRRRRRRRRRRRRRRRRRRRRRRRRRRRRRRRRRRRRRRRRRRRRRRRRRRRRRRR O",
         mode: Mode::Overwrite,
         old: (2, 0),
         new: (3, 0),
+    },
+    Run {
+        sides: "F -",
+        mode: Mode::Append,
+        old: (1, 0),
+        new: (2, 0),
     },
 ];
 
@@ -194,14 +237,15 @@ fn prepared_at_the_limit(alloc: Global) -> Result<Option<StoreFault>, StoreFault
     let db = Db {
         summary: Summary::empty(alloc),
         entries: Entries::new(alloc),
+        keep: Some(0),
         generation: LIMIT,
         side: Some(0),
         records: 0,
-        slot: 114,
+        slot: 118,
     };
     let run = Summary::empty(alloc);
-    let merged = merged_by(Mode::Overwrite, &db.summary, &run)?;
-    Ok(prepare(alloc, &db, &run, &merged, &db.entries, Mode::Overwrite).err())
+    let merged = merged_by(Mode::Overwrite, 0, &db.summary, &run)?;
+    Ok(prepare(alloc, &db, &run, &merged, &db.entries, 0, Mode::Overwrite).err())
 }
 
 #[test]

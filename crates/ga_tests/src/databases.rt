@@ -2,8 +2,9 @@
 
 ghost use Rattle.std.specs.Prelude.{IsTrue};
 ghost use Rattle.ga_codec.specs.Shapes.{IsGeneration};
-ghost use Rattle.ga_store.specs.Commit.{MergesBy};
+ghost use Rattle.ga_store.specs.Commit.{Agrees, MergesBy};
 ghost use Rattle.ga_store.specs.Commits.{IsReady};
+ghost use Rattle.ga_store.specs.Store.{db_value};
 
 use ga_base::{Bytes, Counter, Entries, NoMemory};
 use ga_codec::{
@@ -35,10 +36,16 @@ pub const STORE_FAULTS: [StoreFault; 4] = [
 /// How a run is kept.
 pub const MODES: [Mode; 2] = [Mode::Append, Mode::Overwrite];
 
-/// The snapshot of a generation.
-pub fn snapshot(generation: u64, summary: Summary, entries: Entries) -> Snapshot {
+/// The snapshot of a generation, which keeps this many days.
+pub fn snapshot(
+    generation: u64,
+    keep: Option<u32>,
+    summary: Summary,
+    entries: Entries,
+) -> Snapshot {
     Snapshot {
         generation,
+        keep,
         summary,
         entries,
     }
@@ -95,6 +102,7 @@ pub fn slot_of(db: &Db) -> u64 {
     let Db {
         summary: _,
         entries: _,
+        keep: _,
         generation: _,
         side: _,
         records: _,
@@ -110,11 +118,13 @@ pub fn work_of(
     run: &Summary,
     merged: &Summary,
     entries: &Entries,
+    keep: u32,
     mode: Mode,
 ) -> Result<Prepared, StoreFault>
-    requires { MergesBy mode db.now.summary run.now merged.now }
+    requires agrees { Agrees mode keep (db_value db.now) }
+    requires merged { MergesBy mode keep db.now.summary run.now merged.now }
 {
-    prepare(alloc, db, run, merged, entries, mode)
+    prepare(alloc, db, run, merged, entries, keep, mode)
 }
 
 /// Commits what was prepared.

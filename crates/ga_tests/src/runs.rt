@@ -13,7 +13,7 @@ use std::alloc::Global;
 use std::thread::Threads;
 
 /// Each status, with each format, each input and each target.
-pub const STATUSES: [Status; 15] = [
+pub const STATUSES: [Status; 16] = [
     Status::Done,
     Status::BadWords(WordFault::NoInput),
     Status::BadFormat {
@@ -36,6 +36,10 @@ pub const STATUSES: [Status; 15] = [
     },
     Status::DiskFault,
     Status::DbDamaged { side: 0, at: 1 },
+    Status::KeepDiffers {
+        stored: 2,
+        given: 3,
+    },
     Status::OutFault {
         to: To::Stdout,
         at: 0,

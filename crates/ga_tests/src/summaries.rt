@@ -13,8 +13,8 @@ use ga_base::{
 };
 use ga_print::{csv, json};
 use ga_report::{
-    General, Item, Items, PanelList, PanelLists, Report, Row, RowList, RowSource, hundredths, rows,
-    rows_from,
+    General, Item, Items, LastDays, PanelList, PanelLists, Report, Row, RowList, RowSource,
+    hundredths, last_days, rows, rows_from,
 };
 use ga_summary::{
     MergeFault, NotSound, PartRow, PartRows, RowView, Summary, SummaryParts, totals_fit,
@@ -184,6 +184,13 @@ pub fn report_from<R: Threads + Sync, T: RowSource + Sync>(
     jobs: u32,
 ) -> Result<Report, NoMemory> {
     rows_from(rt, alloc, source, panels, max_items, spec, jobs)
+}
+
+/// The last days of a sum, for a report.
+pub fn last(alloc: Global, sum: &Summary, keep: u32) -> Result<LastDays<'_, Summary>, NoMemory>
+    requires { 1 ≤ keep }
+{
+    last_days(alloc, sum, keep)
 }
 
 /// The general numbers of a report.

@@ -42,6 +42,7 @@ pub fn logs_of(settings: &Settings) -> usize {
         chunk: _,
         persist: _,
         restore: _,
+        keep: _,
         db_path: _,
         generate: _,
         logs,

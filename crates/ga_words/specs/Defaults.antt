@@ -39,6 +39,7 @@ defaults = record {
   chunk = 1024;
   persist = false;
   restore = false;
+  keep = 0;
   db_path = codes "/tmp";
   generate = None;
   logs = [];

@@ -70,6 +70,7 @@ options =
     ∷ (codes "--chunk-size", Number 1 32768 (λ n s. record s { chunk = n }))
     ∷ (codes "--persist", Flag (λ s. record s { persist = true }))
     ∷ (codes "--restore", Flag (λ s. record s { restore = true }))
+    ∷ (codes "--keep-last", Number 1 4294967295 (λ n s. record s { keep = n }))
     ∷ (codes "--db-path", Name (λ name s. record s { db_path = name }))
     ∷ (codes "--generate", Number 1 1000000 (λ n s. record s { generate = Some n }))
     ∷ []

@@ -66,11 +66,12 @@ pub(crate) enum Number {
     MaxItems,
     Jobs,
     Chunk,
+    Keep,
     Generate,
 }
 
 /// The options (own profile: the greatest numbers, and `--double-decode-url` and `--generate`).
-const OPTIONS: [TableRow<Takes>; 28] = [
+const OPTIONS: [TableRow<Takes>; 29] = [
     TableRow("--log-format", Takes::Format(Format::Log)),
     TableRow("--date-format", Takes::Format(Format::Date)),
     TableRow("--time-format", Takes::Format(Format::Time)),
@@ -100,6 +101,7 @@ const OPTIONS: [TableRow<Takes>; 28] = [
     TableRow("--chunk-size", Takes::Number(Number::Chunk, 1, 32_768)),
     TableRow("--persist", Takes::Flag(Flag::Persist)),
     TableRow("--restore", Takes::Flag(Flag::Restore)),
+    TableRow("--keep-last", Takes::Number(Number::Keep, 1, 4_294_967_295)),
     TableRow("--db-path", Takes::Name(Name::DbPath)),
     TableRow("--generate", Takes::Number(Number::Generate, 1, 1_000_000)),
 ];

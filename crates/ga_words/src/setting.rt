@@ -135,6 +135,7 @@ fn set_number(number: Number, n: u32, settings: &mut Settings)
         Number::MaxItems => settings.max_items = n as u64,
         Number::Jobs => settings.jobs = n,
         Number::Chunk => settings.chunk = n,
+        Number::Keep => settings.keep = n,
         Number::Generate => settings.generate = Some(n),
     }
 }

@@ -17,6 +17,9 @@ const DB_PATH: &str = "/tmp";
 /// The rows of a panel where no word says how many.
 const MAX_ITEMS: u64 = 366;
 
+/// The last days that a run keeps where no word says how many: all.
+const KEEP: u32 = 0;
+
 /// The jobs where no word says how many (own profile).
 const JOBS: u32 = 1;
 
@@ -92,6 +95,8 @@ pub struct Settings {
     pub persist: bool,
     /// Whether the report begins with what the database holds.
     pub restore: bool,
+    /// How many of the last days the run shows and stores, 1 to 4,294,967,295, or 0 for all.
+    pub keep: u32,
     /// The folder of the database.
     pub db_path: Text,
     /// How many lines are generated in place of logs, 1 to 1,000,000, where that is asked for.
@@ -132,6 +137,7 @@ pub(crate) fn default_settings(alloc: Global) -> Result<Settings, NoMemory>
         chunk: CHUNK,
         persist: false,
         restore: false,
+        keep: KEEP,
         db_path: Text::of(alloc, DB_PATH)?,
         generate: None,
         logs: Texts::new(alloc),

@@ -70,6 +70,9 @@ Report:
                       in .json or .csv; default json
   --max-items N       the most rows of a panel, and of a row's children, 1 to
                       4294967295; default 366
+  --keep-last N       shows and stores the last N days alone that were counted,
+                      1 to 4294967295; with --restore it has to be that of the
+                      database; default all days
   --ignore-panel P    leaves a panel out (+); default none
   --enable-panel P    shows a panel (+); default all. The last word on a panel
                       counts. P is VISITORS, REQUESTS, REQUESTS_STATIC,
@@ -110,6 +113,7 @@ Exit status:
   5  a counter is full
   6  the database is damaged
   7  no memory
+  8  --keep-last isn't that of the database
 Where a run ends with any but 0, one line on standard error says why. It counts
 words and bytes from 0, and lines of the browsers file from 1.
 

@@ -1,5 +1,5 @@
 -- Each kind of part that is read.
-use Rattle.std.specs.Prelude.{◌≡◌, ℕ, ◌*◌, ◌<◌, ◌^◌, List, length}
+use Rattle.std.specs.Prelude.{◌≡◌, ℕ, ◌*◌, ◌<◌, ◌^◌, Bool, true, false, List, [], length, Option, None, Some, IfSome, is_some}
 use Rattle.std.specs.List.{AllByRecursion}
 use Rattle.std.specs.Int.{Width, byte_len, to_be_bytes}
 use Rattle.std.specs.Str.{IsUtf8}
@@ -9,8 +9,10 @@ use Rattle.ga_base.specs.declared.key.Key.{Key}
 use Rattle.ga_base.specs.declared.name.Name.{Name}
 use Rattle.ga_base.specs.declared.panel.Panel.{Panel}
 use Rattle.ga_summary.specs.SummaryRows.{SummaryRow, SummaryValue}
+use Rattle.ga_codec.specs.declared.snapshot_start.Start.{Start}
 use Rattle.ga_codec.specs.Values.{EntryValue, SnapshotValue, DeltaValue}
-use Rattle.ga_codec.specs.Spelling.{eight_bytes, text_bytes, totals_bytes, panel_bytes, key_bytes, sums_bytes, name_bytes, row_bytes, summary_bytes, entry_bytes, version_bytes, snapshot_bytes, delta_bytes}
+use Rattle.ga_codec.specs.Spelling.{four_bytes, eight_bytes, text_bytes, totals_bytes, panel_bytes, key_bytes, sums_bytes, name_bytes, row_bytes, summary_bytes, entry_bytes}
+use Rattle.ga_codec.specs.Spelling.{version_bytes, keep_version_bytes, snapshot_head, snapshot_bytes, delta_bytes}
 use Rattle.ga_codec.specs.Shapes.{FitsText, FitsTotals, FitsKey, FitsSums, FitsName, FitsRow, FitsSummary, FitsEntry, IsGeneration, FitsSnapshot, FitsDelta}
 use Rattle.ga_codec.specs.Steps.Parts.{Part}
 
@@ -33,6 +35,26 @@ version = record { spell = λ _. version_bytes; fits = λ _. Unit {0} }
 
 abbrev pub generation : Part ℕ
 generation = record { spell = eight_bytes; fits = λ g. IsGeneration g }
+
+-- the version of a snapshot, by whether it says how many days it keeps
+abbrev pub bytes_of_version : Bool → List ℕ
+bytes_of_version false = version_bytes
+bytes_of_version true = keep_version_bytes
+
+abbrev pub snapshot_version : Part Bool
+snapshot_version = record { spell = bytes_of_version; fits = λ _. Unit {0} }
+
+abbrev pub keep_bytes : Option ℕ → List ℕ
+keep_bytes None = []
+keep_bytes (Some keep) = four_bytes keep
+
+-- how many days a snapshot keeps, where its version says so
+abbrev pub keep_of : Bool → Part (Option ℕ)
+keep_of has_keep = record { spell = keep_bytes; fits = λ keep. (is_some keep ≡ has_keep) × IfSome keep (λ n. n < 2 ^ 32) }
+
+-- what is before a snapshot's summary
+abbrev pub snapshot_start : Part Start
+snapshot_start = record { spell = λ s. snapshot_head s.generation s.keep; fits = λ s. IsGeneration s.generation × IfSome s.keep (λ n. n < 2 ^ 32) }
 
 abbrev pub totals : Part Totals
 totals = record { spell = totals_bytes; fits = λ t. FitsTotals t }

@@ -1,32 +1,34 @@
 -- How a body is read piece by piece: its head, then its rows.
-use Rattle.std.specs.Prelude.{◌≡◌, ℕ, ◌+◌, ◌<◌, ◌≤◌, Bool, true, false, List, [], ◌++◌, length}
-use Rattle.std.specs.Prelude.{Option, None, Some, Result, Ok, Err, IfOk, IsErrOf, MatchOption}
+use Rattle.std.specs.Prelude.{◌≡◌, ℕ, ◌+◌, ◌<◌, ◌≤◌, ◌^◌, Bool, true, false, List, [], ◌++◌, length}
+use Rattle.std.specs.Prelude.{Option, None, Some, Result, Ok, Err, IfOk, IfSome, IsErrOf, MatchOption}
 use Rattle.std.specs.List.{flat_map, AllByRecursion}
 use Rattle.ga_summary.specs.SummaryRows.{SummaryRow}
 use Rattle.ga_codec.specs.declared.body_reader.Head.{Head}
 use Rattle.ga_codec.specs.declared.fault.CodecFault.{CodecFault}
 use Rattle.ga_codec.specs.declared.fault.CodecFault.TheVariants.{NotInGrammar, NoMemory}
-use Rattle.ga_codec.specs.Pieces.{HeadValue, BodyFront, generation_bytes, head_bytes}
+use Rattle.ga_codec.specs.declared.snapshot_start.Start.{Start}
+use Rattle.ga_codec.specs.Pieces.{HeadValue, BodyFront, head_bytes, start_bytes}
 use Rattle.ga_codec.specs.Shapes.{Fits64, FitsRow, FitsTotals, IsGeneration}
 use Rattle.ga_codec.specs.Spelling.{row_bytes}
 use Rattle.ga_codec.specs.Steps.Grammar.{row}
 use Rattle.ga_codec.specs.Steps.Parts.{Part, Cursor, Takes}
 
 abbrev pub head_value : Head → HeadValue
-head_value h = record { generation = h.generation; totals = h.totals; count = h.count }
+head_value h = record { generation = h.generation; keep = h.keep; totals = h.totals; count = h.count }
 
--- a run record has no generation, which is told as 0
-abbrev pub FitsGeneration : Bool → ℕ → Type 0
-FitsGeneration true generation = IsGeneration generation
-FitsGeneration false generation = generation ≡ 0
+-- a run record has no generation, which is told as 0, and doesn't say how many days are kept
+abbrev pub FitsStart : Bool → ℕ → Option ℕ → Type 0
+FitsStart true generation keep = IsGeneration generation × IfSome keep (λ n. n < 2 ^ 32)
+FitsStart false generation keep = (generation ≡ 0) × (keep ≡ None)
 
 pub record FitsHead (is_snapshot : Bool) (h : HeadValue) : Type 0 where
-  pub generation : FitsGeneration is_snapshot h.generation
+  pub start : FitsStart is_snapshot h.generation h.keep
   pub totals : FitsTotals h.totals
   pub count : Fits64 h.count
 
-abbrev pub generation_of : Bool → Part ℕ
-generation_of is_snapshot = record { spell = λ g. generation_bytes is_snapshot g; fits = λ g. FitsGeneration is_snapshot g }
+-- what is before a body's summary
+abbrev pub start : Bool → Part Start
+start is_snapshot = record { spell = λ s. start_bytes is_snapshot s.generation s.keep; fits = λ s. FitsStart is_snapshot s.generation s.keep }
 
 abbrev pub head : Bool → Part HeadValue
 head is_snapshot = record { spell = λ h. head_bytes is_snapshot h; fits = λ h. FitsHead is_snapshot h }

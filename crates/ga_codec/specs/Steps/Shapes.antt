@@ -1,5 +1,5 @@
 -- What is read before its conditions are tested.
-use Rattle.std.specs.Prelude.{ℕ, map}
+use Rattle.std.specs.Prelude.{map}
 use Rattle.std.specs.List.{AllByRecursion}
 use Rattle.ga_summary.specs.declared.row_view.RowView.{RowView}
 use Rattle.ga_summary.specs.SummaryRows.{SummaryRow}
@@ -7,14 +7,15 @@ use Rattle.ga_summary.specs.SummaryParts.{value_of}
 use Rattle.ga_summary.specs.Sound.{IsSummary}
 use Rattle.ga_codec.specs.declared.entry_shape.EntryShape.{EntryShape}
 use Rattle.ga_codec.specs.declared.snapshot_reading.Body.{Body}
+use Rattle.ga_codec.specs.declared.snapshot_start.Start.{Start}
 use Rattle.ga_codec.specs.Values.{EntryValue, SnapshotValue, DeltaValue}
 use Rattle.ga_codec.specs.Shapes.{IsEntry}
 
 abbrev pub shape_value : EntryShape → EntryValue
 shape_value e = record { lead = e.lead; digest = e.digest; offset = e.offset }
 
-abbrev pub snapshot_shape : ℕ → Body → SnapshotValue
-snapshot_shape generation body = record { generation = generation; summary = value_of body.summary; entries = map shape_value body.entries.items }
+abbrev pub snapshot_shape : Start → Body → SnapshotValue
+snapshot_shape start body = record { generation = start.generation; keep = start.keep; summary = value_of body.summary; entries = map shape_value body.entries.items }
 
 abbrev pub delta_shape : Body → DeltaValue
 delta_shape body = record { summary = value_of body.summary; entries = map shape_value body.entries.items }

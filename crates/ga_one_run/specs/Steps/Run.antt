@@ -1,5 +1,5 @@
 -- How the parts of a run ended, before its fault line is written.
-use Rattle.std.specs.Prelude.{◌≡◌, ◌≢◌, ℕ, ◌+◌, ◌⊎◌, true, List, [], length, unwrap_or, slice_get, IsTrue}
+use Rattle.std.specs.Prelude.{◌≡◌, ◌≢◌, ℕ, ◌+◌, ◌⊎◌, true, List, [], length, Some, None, unwrap_or, slice_get, IsTrue}
 use Rattle.ga_agents.specs.declared.row.Rule.{Rule}
 use Rattle.ga_base.specs.declared.counts.Counter.{Counter}
 use Rattle.ga_base.specs.declared.counts.Counter.TheVariants.{Generations}
@@ -9,7 +9,7 @@ use Rattle.ga_base.specs.declared.entry.Entry.{Entry}
 use Rattle.ga_disk.specs.Disk.{DiskView}
 use Rattle.ga_disk.specs.Images.{Images}
 use Rattle.ga_disk.specs.Trace.{DiskTrace}
-use Rattle.ga_keep.specs.RunDatabase.{AreBase, ComesAfter, FailsKeeping, Finds, GrowsBy, IsUntouched, KeptIf, LooksAtMost, follow_of, mode_of, start_of, whole_of}
+use Rattle.ga_keep.specs.RunDatabase.{AreBase, ComesAfter, FailsKeeping, Finds, GrowsBy, IsUntouched, IsWhole, KeptIf, LooksAtMost, differing, follow_of, mode_of, start_of, whole_of}
 use Rattle.ga_keep.specs.Faults.{Misses}
 use Rattle.ga_keep.specs.declared.base.Base.{Base}
 use Rattle.ga_line.specs.declared.setup.LineSetup.{LineSetup}
@@ -37,8 +37,9 @@ use Rattle.ga_resume.specs.declared.start.Start.{Start}
 use Rattle.ga_store.specs.declared.fault.StoreFault.{StoreFault}
 use Rattle.ga_store.specs.declared.fault.StoreFault.TheVariants.{CounterFull as StoreFull, Damaged, DiskFault as StoreFailed, NoMemory as StoreNoMemory}
 use Rattle.ga_workers.specs.declared.workers.Workers.{Workers}
+use Rattle.ga_summary.specs.LastDays.{trimmed}
 use Rattle.ga_summary.specs.Outcomes.{Outcome}
-use Rattle.ga_summary.specs.Sound.{AllCountable}
+use Rattle.ga_summary.specs.Sound.{AllCountable, IsSummary}
 use Rattle.ga_summary.specs.SummaryRows.{SummaryValue}
 use Rattle.ga_summary.specs.Sums.{IsSumOf}
 use Rattle.ga_tallies.specs.Tallies.{IsTallyOf, TallySeen}
@@ -61,7 +62,7 @@ use Rattle.ga_one_run.specs.declared.run.RunCounts.{RunCounts}
 use Rattle.ga_one_run.specs.declared.status.Input.{Input}
 use Rattle.ga_one_run.specs.declared.status.Input.TheVariants.{Rules, Log}
 use Rattle.ga_one_run.specs.declared.status.Status.{Status}
-use Rattle.ga_one_run.specs.declared.status.Status.TheVariants.{Done, BadWords, BadFormat, BadRules, FileFault, FileShort, DiskFault, DbDamaged, OutFault, CounterFull, NoMemory}
+use Rattle.ga_one_run.specs.declared.status.Status.TheVariants.{Done, BadWords, BadFormat, BadRules, FileFault, FileShort, DiskFault, DbDamaged, KeepDiffers, OutFault, CounterFull, NoMemory}
 
 -- ---- the names that a fault line has
 
@@ -106,10 +107,11 @@ status_of_store StoreNoMemory = NoMemory
 
 -- ---- counting
 
--- the database was found, and the entries that the run begins with
+-- the database was found, which keeps no other number of days, and the entries that the run begins with
 pub record HasFound (s : Settings) (disk disk' : DiskView) (images images' : Images) : Type 0 where
   pub stored : DbValue
   pub finds : Finds s disk disk' images images' stored
+  pub agrees : differing s stored ≡ None
   pub entries : List Entry
   pub begin : AreBase s stored entries
 
@@ -123,10 +125,23 @@ pub record CountsRun (setup : Setup) (s : Settings) (counted : RunCounts) (files
   pub stored : DbValue
   pub stands : position_of stored ≡ counted.position
   pub finds : Finds s disk disk' images images' stored
+  pub agrees : differing s stored ≡ None
   pub has : HasCounted setup s stored files files'
-  pub run_is : has.run ≡ counted.run
+  -- what is left of the run's own sum has the same whole
+  pub is_whole : IsWhole s stored counted.run (whole_in s counted)
   pub whole_is : has.whole ≡ whole_in s counted
   pub entries_are : has.entries' ≡ counted.base.entries
+
+-- the status where what is stored keeps another number of days than the run, which restores it
+abbrev pub Differs : Settings → DbValue → Status → Type 0
+Differs s stored status = (number : ℕ) × (differing s stored ≡ Some number) × (status ≡ KeepDiffers number s.keep)
+
+-- the database that was found keeps another number of days
+pub record StopsAtNumber (s : Settings) (disk disk' : DiskView) (images images' : Images) (number given : ℕ) : Type 0 where
+  pub stored : DbValue
+  pub finds : Finds s disk disk' images images' stored
+  pub differs : differing s stored ≡ Some number
+  pub given_is : given ≡ s.keep
 
 -- a log wasn't read, and no counter was full
 pub record StopsAtLog (setup : Setup) (s : Settings) (files files' : FilesView) (disk disk' : DiskView) (images images' : Images)
@@ -162,6 +177,7 @@ StopsCounting setup s files files' disk disk' images images' (FileFault (Log pla
 StopsCounting setup s files files' disk disk' images images' (FileShort (Log place) at) = StopsAtLog setup s files files' disk disk' images images' place (PlaceShort at)
 StopsCounting setup s files files' disk disk' images images' DiskFault = Misses s disk disk' images images' StoreFailed × (files' ≡ files)
 StopsCounting setup s files files' disk disk' images images' (DbDamaged side at) = Misses s disk disk' images images' (Damaged side at) × (files' ≡ files)
+StopsCounting setup s files files' disk disk' images images' (KeepDiffers number given) = StopsAtNumber s disk disk' images images' number given × (files' ≡ files)
 StopsCounting setup s files files' disk disk' images images' (CounterFull which total) = StopsFull setup s files files' disk disk' images images' which total
 StopsCounting setup s files files' disk disk' images images' NoMemory = StopsHungry s files files' disk disk' images images'
 StopsCounting setup s files files' disk disk' images images' _ = ⊥
@@ -187,15 +203,17 @@ pub record IsOfLines (totals : Totals) (total : TallySeen) : Type 0 where
   pub lines : List (List ℕ)
   pub are : AreInTotal setup totals lines total
 
--- the sum of the lines of a total, by which the summary of a base grew
-pub record AreSums (s : Settings) (base base' : SummaryValue) (total : TallySeen) (run : SummaryValue) : Type 0 where
+-- the sum of the lines of a total, by which the summary of a base grew, and what is left of that sum then
+pub record AreSums (s : Settings) (base base' : SummaryValue) (total : TallySeen) (left : SummaryValue) : Type 0 where
+  pub run : SummaryValue
+  pub is_summary : IsSummary run
   pub counts : (setup : Setup) (lines : List (List ℕ)) → AreInTotal setup base.totals lines total → CountsLines setup base.totals lines run
-  pub grown : GrowsBy s.restore base run base'
+  pub grown : GrowsBy s.restore s.keep base run base' left
 
--- the logs were counted on from what is stored, and this is what the base grew to
+-- the logs were counted on from what is stored, and this is what is left of their sum, and what the base grew to
 pub record CountsOn (setup : Setup) (s : Settings) (stored : DbValue) (files files' : FilesView) (run : SummaryValue) (base : Base) : Type 0 where
   pub has : HasCounted setup s stored files files'
-  pub run_is : has.run ≡ run
+  pub is_whole : IsWhole s stored run (whole_of s base.summary run)
   pub whole_is : has.whole ≡ whole_of s base.summary run
   pub entries_are : has.entries' ≡ base.entries
 
@@ -230,13 +248,13 @@ pub record IsTextAlone (setup : Setup) (s : Settings) (files files' : FilesView)
   pub has : HasCounted setup s empty_db files files'
   pub is_text : IsTextOf s has.whole text
 
--- the text is the report on the sum of these
+-- the text is the report on the last days of the sum of these, as many as the run keeps
 pub record IsTextOfLines (s : Settings) (outcomes : List Outcome) (text : List ℕ) : Type 0 where
   pub sum : SummaryValue
   pub is_sum : IsSumOf outcomes sum
-  pub is_text : IsTextOf s sum text
+  pub is_text : IsTextOf s (trimmed s.keep sum) text
 
--- the text is the report on the sum of those that a total is of
+-- the same of those that a total is of
 pub record IsTextOfTotal (s : Settings) (total : TallySeen) (text : List ℕ) : Type 0 where
   pub of : (outcomes : List Outcome) → IsTallyOf outcomes total → AllCountable outcomes → IsTextOfLines s outcomes text
 
@@ -272,7 +290,7 @@ EndsKeeping s stored whole entries disk disk' images images' outs outs' Done = D
 EndsKeeping s stored whole entries disk disk' images images' outs outs' (OutFault to at) =
     Delivers s stored whole entries disk disk' images images' outs outs' (OutFault to at)
 EndsKeeping s stored whole entries disk disk' images images' outs outs' DiskFault =
-    (s.persist ≡ true) × FailsKeeping stored whole entries disk disk' images images' × (outs' ≡ outs)
+    (s.persist ≡ true) × FailsKeeping s.keep stored whole entries disk disk' images images' × (outs' ≡ outs)
 EndsKeeping s stored whole entries disk disk' images images' outs outs' (CounterFull which total) =
     (s.persist ≡ true) × (which ≡ Generations) × (total ≡ LIMIT + 1) × (passes_generations (mode_of s) stored ≡ true)
     × IsUntouched disk disk' images images' × (outs' ≡ outs)

@@ -15,7 +15,7 @@ use Rattle.ga_store.specs.declared.position.Position.{Position}
 
 -- a database that stands at this position, in which nothing was counted
 abbrev pub db_at : Position → DbValue
-db_at p = record { summary = no_summary; entries = []; generation = p.generation; side = p.side; records = p.records; slot = p.slot }
+db_at p = record { summary = no_summary; entries = []; keep = p.keep; generation = p.generation; side = p.side; records = p.records; slot = p.slot }
 
 -- the bytes in front of a place are the same, and reach it
 pub record SameFront (n : ℕ) (old new : List ℕ) : Type 0 where

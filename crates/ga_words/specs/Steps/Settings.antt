@@ -52,6 +52,7 @@ abbrev pub with_number : CodeNumber → ℕ → Settings → Settings
 with_number M.MaxItems n s = record s { max_items = n }
 with_number M.Jobs n s = record s { jobs = n }
 with_number M.Chunk n s = record s { chunk = n }
+with_number M.Keep n s = record s { keep = n }
 with_number M.Generate n s = record s { generate = Some n }
 
 abbrev pub with_date_spec : DateSpec → Settings → Settings

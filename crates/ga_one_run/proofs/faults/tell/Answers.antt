@@ -18,6 +18,9 @@ returns-in-OutFault-clause-line g c = rw c.in-OutFault.is c.tell_place-in-OutFau
 pub returns-in-DbDamaged-clause-line : goal.returns-in-DbDamaged-clause-line
 returns-in-DbDamaged-clause-line g c = rw c.in-DbDamaged.is c.tell_damage.ensures.line
 
+pub returns-in-KeepDiffers-clause-line : goal.returns-in-KeepDiffers-clause-line
+returns-in-KeepDiffers-clause-line g c = rw c.in-KeepDiffers.is c.tell_days.ensures.line
+
 pub returns-in-CounterFull-clause-line : goal.returns-in-CounterFull-clause-line
 returns-in-CounterFull-clause-line g c = rw c.in-CounterFull.is c.tell_counter.ensures.line
 

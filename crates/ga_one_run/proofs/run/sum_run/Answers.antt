@@ -12,6 +12,8 @@ add_run-requires c =
 
 pub returns-clause-sums : goal.returns-clause-sums
 returns-clause-sums c = record {
+  run = c.in_ok-run.run';
+  is_summary = c.summary_is_sound-2.ensures;
   counts = λ setup lines are. sum-lines setup c.args.base.now.summary.totals lines c.args.total.now c.in_ok-run.run' are c.in_ok-run.ensures;
   grown = c.in_ok-add_run.ensures.grown;
 }

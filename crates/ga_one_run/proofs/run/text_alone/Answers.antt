@@ -1,6 +1,8 @@
 use Rattle.std.proofs.lemmas.Result.{err_from_is_err_and}
+use Rattle.ga_keep.specs.RunDatabase.{start_of}
 use Rattle.ga_store.specs.Database.{empty_db}
-use Rattle.ga_one_run.proofs.Counting.{countable-total, counted-here, empty-base, hungry-here, overwrites, stops-here}
+use Rattle.ga_summary.specs.LastDays.{trimmed}
+use Rattle.ga_one_run.proofs.Counting.{countable-total, counted-here, empty-base, empty-fits, hungry-here, overwrites, stops-here, sum-sound}
 use Rattle.ga_one_run.proofs.run.text_alone.Goals as goal
 
 pub returns-in_err-total-clause-stops : goal.returns-in_err-total-clause-stops
@@ -36,8 +38,9 @@ returns-clause-ok g c =
         portions = counts.portions;
         read = counts.read;
         run = text.sum;
+        is_summary = sum-sound (start_of s empty_db).totals counts.counts.outcomes text.sum counts.counts.countable counts.counts.fits (empty-fits s) text.is_sum;
         counts = record { outcomes = counts.counts.outcomes; have_outcomes = counts.counts.have_outcomes; is_sum = text.is_sum; fits = counts.counts.fits };
-        whole = text.sum;
+        whole = trimmed s.keep text.sum;
         is_whole = overwrites s empty_db text.sum c.requires.alone;
       };
       is_text = text.is_text;

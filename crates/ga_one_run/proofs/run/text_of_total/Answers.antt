@@ -1,5 +1,7 @@
 use Rattle.ga_report.specs.OfSummary.{source_value}
+use Rattle.ga_summary.specs.LastDays.{trimmed}
 use Rattle.ga_report.proofs.Alike.{report-alike}
+use Rattle.ga_report.proofs.LastRows.{sources-trimmed}
 use Rattle.ga_one_run.proofs.run.text_of_total.Goals as goal
 
 pub source-requires : goal.source-requires
@@ -17,7 +19,7 @@ returns g c =
             is_sum = tells.is_sum;
             is_text = record {
               report = text.report;
-              is_report = report-alike _ (source_value tells.sum) s.panels s.max_items s.date_spec text.report tells.same text.is_report;
+              is_report = report-alike _ (source_value (trimmed s.keep tells.sum)) s.panels s.max_items s.date_spec text.report (sources-trimmed s.keep _ tells.sum tells.same) text.is_report;
               written = text.written;
             };
           };

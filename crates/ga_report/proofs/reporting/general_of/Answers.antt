@@ -1,19 +1,10 @@
-use Rattle.std.proofs.Common.{◌≡◌, ℕ, List, ap, refl, sym, subst, ◌∙◌, arith}
-use Rattle.ga_base.specs.declared.date_spec.DateSpec.TheVariants as D
-use Rattle.ga_base.specs.declared.panel.Panel.TheVariants.{Visitors}
+use Rattle.std.proofs.Common.{ap, refl, sym, subst, ◌∙◌, arith}
 use Rattle.ga_report.specs.declared.report.General.{General}
-use Rattle.ga_report.specs.Items.{shown_rows}
 use Rattle.ga_report.specs.SoundRows.{day_rows}
-use Rattle.ga_report.specs.Source.{SourceRow}
-use Rattle.ga_report.specs.Steps.RowPlaces.{AreAt}
-use Rattle.ga_report.specs.Steps.Summed.{panel_rows, with_day, DayFits}
+use Rattle.ga_report.specs.Steps.Summed.{with_day, DayFits}
 use Rattle.ga_report.proofs.Generals.{start, next-day, day-fits, so_far-all}
-use Rattle.ga_report.proofs.PanelPlaces.{as-many, day-shown, row-at, row-there}
+use Rattle.ga_report.proofs.PanelPlaces.{as-many, days-at, row-at, row-there}
 use Rattle.ga_report.proofs.reporting.general_of.Goals as goal
-
--- the places of the days are those of what VISITORS shows by days
-days-at : (rows : List SourceRow) (places places' : List ℕ) → places' ≡ places → AreAt rows places (panel_rows Visitors (shown_rows D.Date rows)) → AreAt rows places' (day_rows rows)
-days-at rows places places' same at = subst (λ (xs : List ℕ). AreAt rows xs (day_rows rows)) (sym same) (subst (AreAt rows places) (day-shown rows) at)
 
 pub loop-day-init : goal.loop-day-init
 loop-day-init g c = start (g.T.RowSource.view c.args.source.now) c.totals-totals.result c.totals-totals.ensures.totals

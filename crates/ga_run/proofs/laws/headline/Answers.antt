@@ -6,6 +6,7 @@ pub returns : goal.returns
 returns c = headline (record {
   database = c.one_database.ensures;
   merged = c.merged_sums.ensures;
+  last_days = c.trimmed_merge.ensures;
   as_told = c.read_as_told.ensures.all;
   words = one-words c.one_reading.ensures;
   files = c.files_stay.ensures;

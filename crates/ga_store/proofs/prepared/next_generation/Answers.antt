@@ -1,4 +1,4 @@
-use Rattle.std.proofs.Common.{◌∙◌, ◌+◌, ◌<◌, ◌^◌, List, ℕ, length, map, refl, ap, subst}
+use Rattle.std.proofs.Common.{◌∙◌, ◌+◌, ◌<◌, ◌^◌, List, ℕ, Some, length, map, refl, ap, subst}
 use Rattle.ga_base.specs.declared.entry.Entry.{Entry}
 use Rattle.ga_codec.specs.Shapes.{SpellSnapshot}
 use Rattle.ga_codec.specs.Values.{entry_value}
@@ -18,5 +18,5 @@ returns c =
       body = appends.bytes;
       size = subst (λ (b : List ℕ). length b < 2 ^ 64) is c.in_ok-end_part.ensures.size;
       tail = c.in_ok-end_part.ensures.part ∙ ap closed_part is;
-      spells = subst (λ (entries : List Entry). SpellSnapshot appends.bytes (record { generation = c.args.position.generation + 1; summary = c.args.merged.now; entries = map entry_value entries })) c.items-entries.ensures appends.spells;
+      spells = subst (λ (entries : List Entry). SpellSnapshot appends.bytes (record { generation = c.args.position.generation + 1; keep = Some c.args.keep; summary = c.args.merged.now; entries = map entry_value entries })) c.items-entries.ensures appends.spells;
     }

@@ -7,12 +7,13 @@ use Rattle.ga_store.proofs.CommitMakes.{if_ok-map, makes-after, passes-at, work-
 use Rattle.ga_store.proofs.prepared.prepare_at.Goals as goal
 
 pub returns-clause-work : goal.returns-clause-work
-returns-clause-work c = if_ok-map c.work_of.result (λ work is. λ db stands. work-at db _ _ _ work c.args.position stands c.args.mode is) c.work_of.ensures.work
+returns-clause-work c = if_ok-map c.work_of.result (λ work is. λ db stands. work-at c.args.keep db _ _ _ work c.args.position stands c.args.mode is) c.work_of.ensures.work
 
 pub returns-clause-makes : goal.returns-clause-makes
 returns-clause-makes c =
     if_ok-map c.work_of.result
-    (λ work is. λ db stands merges. makes-after work db _ _ _ c.summary_is_sound.ensures c.args.mode merges (work-at db _ _ _ work c.args.position stands c.args.mode is))
+    (λ work is. λ db stands agrees merges.
+    makes-after work c.args.keep db _ _ _ c.summary_is_sound.ensures c.args.mode agrees merges (work-at c.args.keep db _ _ _ work c.args.position stands c.args.mode is))
     c.work_of.ensures.work
 
 pub returns-clause-full : goal.returns-clause-full

@@ -1,3 +1,4 @@
+use Rattle.ga_storing_tests.proofs.Merges.{agrees}
 use Rattle.ga_storing_tests.proofs.commits.store.Goals as goal
 
 pub returns-in_err-db : goal.returns-in_err-db
@@ -8,6 +9,9 @@ returns-in_err-merged g c = (c.a_disk_stays.ensures _ _ c.in_ok-db.ensures.looks
 
 pub returns-in_err-work : goal.returns-in_err-work
 returns-in_err-work g c = (c.a_disk_stays.ensures _ _ c.in_ok-db.ensures.looks.calls).stays_open c.requires
+
+pub prepare-requires-clause-agrees : goal.prepare-requires-clause-agrees
+prepare-requires-clause-agrees g c = agrees c.args.mode c.kept_by-keep.result _ c.kept_by-keep.ensures
 
 pub commit-requires-clause-open : goal.commit-requires-clause-open
 commit-requires-clause-open g c = (c.a_disk_stays.ensures _ _ c.in_ok-db.ensures.looks.calls).stays_open c.requires

@@ -30,6 +30,7 @@ returns c = λ i. record {
   chunk = 1024;
   persist = false;
   restore = false;
+  keep = 0;
   db_path = c.in_ok-of-3.ensures i;
   generate = None;
   logs = c.new-5.ensures i;

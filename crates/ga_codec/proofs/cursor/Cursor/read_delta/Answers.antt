@@ -1,7 +1,8 @@
 use Rattle.std.proofs.lemmas.Result.{err_from_is_err_and}
 use Rattle.ga_codec.specs.Steps.Parts.{listed}
 use Rattle.ga_codec.specs.Steps.Grammar.{version, summary, entry, delta}
-use Rattle.ga_codec.proofs.Fields.{body, delta_inner, delta_of, delta_made, body_is_part, entries_are_part, summary_is_part, version_is_part}
+use Rattle.ga_codec.proofs.Fields.{body, delta_inner, delta_of, delta_made, body_is_part, entries_are_part, summary_is_part}
+use Rattle.ga_codec.proofs.Starts.{version_is_part}
 use Rattle.ga_codec.proofs.Going.{begins, goes_on, fails, fails_here}
 use Rattle.ga_codec.proofs.cursor.Cursor.read_delta.Goals as goal
 

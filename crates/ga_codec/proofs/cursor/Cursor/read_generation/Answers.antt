@@ -2,7 +2,7 @@ use Rattle.std.proofs.Common.{ℕ, ◌-◌, drop, ap, arith}
 use Rattle.std.proofs.lemmas.Result.{err_from_is_err_and}
 use Rattle.ga_codec.specs.Steps.Grammar.{generation}
 use Rattle.ga_codec.proofs.Going.{refuses_end, refuses_byte}
-use Rattle.ga_codec.proofs.Fields.{generation_is_part}
+use Rattle.ga_codec.proofs.Starts.{generation_is_part}
 use Rattle.ga_codec.proofs.Generations.{first_byte, refuses_zero, refuses_short}
 use Rattle.ga_codec.proofs.cursor.Cursor.read_generation.Goals as goal
 

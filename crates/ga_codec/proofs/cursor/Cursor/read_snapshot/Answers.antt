@@ -1,36 +1,28 @@
 use Rattle.std.proofs.lemmas.Result.{err_from_is_err_and}
 use Rattle.ga_codec.specs.Steps.Parts.{listed}
-use Rattle.ga_codec.specs.Steps.Grammar.{version, generation, summary, entry, snapshot}
-use Rattle.ga_codec.proofs.Fields.{body, snapshot_2, snapshot_inner, snapshot_of, snapshot_made, is_snapshot_2, body_is_part, entries_are_part, summary_is_part, generation_is_part, version_is_part}
+use Rattle.ga_codec.specs.Steps.Grammar.{snapshot_start, summary, entry, snapshot}
+use Rattle.ga_codec.proofs.Fields.{body, snapshot_inner, snapshot_of, snapshot_made, body_is_part, entries_are_part, summary_is_part}
 use Rattle.ga_codec.proofs.Going.{begins, goes_on, fails, fails_here}
+use Rattle.ga_codec.proofs.Starts.{snapshot_start_is_part}
 use Rattle.ga_codec.proofs.cursor.Cursor.read_snapshot.Goals as goal
 
-pub returns-in_err-read_version : goal.returns-in_err-read_version
-returns-in_err-read_version c =
+pub returns-in_err-start : goal.returns-in_err-start
+returns-in_err-start c =
     let p = err_from_is_err_and c.from_residual.result c.from_residual.ensures.1 in
     let a0 = begins snapshot snapshot_inner snapshot_of c.args.self.now snapshot_made in
-    rw (p.1, p.2) (fails_here version (λ _. snapshot_2) c.in_err-read_version.field-0.0 a0 version_is_part (λ _ _. is_snapshot_2) c.in_err-read_version.ensures)
-
-pub returns-in_err-generation : goal.returns-in_err-generation
-returns-in_err-generation c =
-    let p = err_from_is_err_and c.from_residual-in_err-generation.result c.from_residual-in_err-generation.ensures.1 in
-    let a0 = begins snapshot snapshot_inner snapshot_of c.args.self.now snapshot_made in
-    let a1 = goes_on (λ _. snapshot_2) a0 version_is_part c.in_ok-read_version.ensures in
-    rw (p.1, p.2) (fails_here generation (λ _. body) c.in_err-generation.field-0.0 a1 generation_is_part (λ _ _. body_is_part) c.in_err-generation.ensures)
+    rw (p.1, p.2) (fails_here snapshot_start (λ _. body) c.in_err-start.field-0.0 a0 snapshot_start_is_part (λ _ _. body_is_part) c.in_err-start.ensures)
 
 pub returns-in_err-summary : goal.returns-in_err-summary
 returns-in_err-summary c =
     let p = err_from_is_err_and c.from_residual-in_err-summary.result c.from_residual-in_err-summary.ensures.1 in
     let a0 = begins snapshot snapshot_inner snapshot_of c.args.self.now snapshot_made in
-    let a1 = goes_on (λ _. snapshot_2) a0 version_is_part c.in_ok-read_version.ensures in
-    let a2 = goes_on (λ _. body) a1 generation_is_part c.in_ok-generation.ensures in
-    rw (p.1, p.2) (fails_here summary (λ _. listed entry) c.in_err-summary.field-0.0 a2 summary_is_part (λ _ _. entries_are_part) c.in_err-summary.ensures)
+    let a1 = goes_on (λ _. body) a0 snapshot_start_is_part c.in_ok-start.ensures in
+    rw (p.1, p.2) (fails_here summary (λ _. listed entry) c.in_err-summary.field-0.0 a1 summary_is_part (λ _ _. entries_are_part) c.in_err-summary.ensures)
 
 pub returns-in_err-entries : goal.returns-in_err-entries
 returns-in_err-entries c =
     let p = err_from_is_err_and c.from_residual-in_err-entries.result c.from_residual-in_err-entries.ensures.1 in
     let a0 = begins snapshot snapshot_inner snapshot_of c.args.self.now snapshot_made in
-    let a1 = goes_on (λ _. snapshot_2) a0 version_is_part c.in_ok-read_version.ensures in
-    let a2 = goes_on (λ _. body) a1 generation_is_part c.in_ok-generation.ensures in
-    let a3 = goes_on (λ _. listed entry) a2 summary_is_part c.in_ok-summary.ensures in
-    rw (p.1, p.2) (fails c.in_err-entries.field-0.0 a3 c.in_err-entries.ensures)
+    let a1 = goes_on (λ _. body) a0 snapshot_start_is_part c.in_ok-start.ensures in
+    let a2 = goes_on (λ _. listed entry) a1 summary_is_part c.in_ok-summary.ensures in
+    rw (p.1, p.2) (fails c.in_err-entries.field-0.0 a2 c.in_err-entries.ensures)

@@ -1,7 +1,7 @@
 use Rattle.std.proofs.Common.{drop, sym, arith}
 use Rattle.ga_codec.specs.Steps.Grammar.{version}
 use Rattle.ga_codec.proofs.Going.{refuses_byte}
-use Rattle.ga_codec.proofs.Fields.{version_is_part}
+use Rattle.ga_codec.proofs.Starts.{version_is_part}
 use Rattle.ga_codec.proofs.cursor.Cursor.read_version.Goals as goal
 
 pub returns-then-branch-ne-VERSION : goal.returns-then-branch-ne-VERSION

@@ -27,4 +27,4 @@ pub returns : goal.returns
 returns c =
     let summary = c.one_sum.ensures [] c.empty.result no_summary c.empty.ensures sum-of-none in
     let entries = c.new.ensures in
-    λ i. record { summary = summary i; entries = map entry_value (entries i); generation = 0; side = None; records = 0; slot = 0 }
+    λ i. record { summary = summary i; entries = map entry_value (entries i); keep = None; generation = 0; side = None; records = 0; slot = 0 }
