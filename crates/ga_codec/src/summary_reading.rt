@@ -86,7 +86,7 @@ impl<'a> Cursor<'a> {
     {
         let key = self.read_key(alloc)?;
         let sums = self.read_sums()?;
-        let names = self.read_names(alloc, names_of_day(before, key.date))?;
+        let names = self.read_names(alloc, likely_names(before, key.date))?;
         Ok(PartRow { key, sums, names })
     }
 
@@ -182,13 +182,25 @@ impl<'a> Cursor<'a> {
     }
 }
 
-/// The names of a day among rows that rise: those of its row of VISITORS. Each other key of the day has some of them, so their
-/// texts are shared; where rows don't rise, what is answered serves as well.
-fn names_of_day(rows: &[PartRow], date: u32) -> &[Name] {
+/// The names that those of a row of this day may be among: the day's, or those of the day of the row before, where the day's own row is
+/// read. Texts of names that are among them are shared.
+fn likely_names(rows: &[PartRow], date: u32) -> &[Name] {
+    match (names_of_day(rows, date), rows.last()) {
+        (Some(names), _) => names,
+        (None, Some(last)) => names_of_day(rows, last.key.date).unwrap_or(&[]),
+        (None, None) => &[],
+    }
+}
+
+/// The names of a day among rows that rise: those of its row of VISITORS. Each other key of the day has some of them. Where rows don't
+/// rise the row may be missed.
+fn names_of_day(rows: &[PartRow], date: u32) -> Option<&[Name]> {
     let at = rows.partition_point(|row| is_before_day(&row.key, date));
     match rows.get(at) {
-        Some(row) if row.key.panel == Panel::Visitors && row.key.date == date => row.names.items(),
-        _ => &[],
+        Some(row) if row.key.panel == Panel::Visitors && row.key.date == date => {
+            Some(row.names.items())
+        }
+        _ => None,
     }
 }
 

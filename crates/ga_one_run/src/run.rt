@@ -365,23 +365,24 @@ fn count_on<R: Threads + Sync, G: Gate, F: Files>(
 {
     let start = start(context.settings, base);
     let total = count_from(context, setup, start, &mut base.entries, files)?;
-    let run = sum_run(context.alloc, context.settings, base, &total)?;
+    let run = sum_run(context.alloc, context.settings, base, total)?;
     Ok(run)
 }
 
-/// What is left of the sum of a run, by its total, once its base grew by it.
+/// What is left of the sum of a run, by its total, once its base grew by it. The total's tables are dropped before.
 fn sum_run(
     alloc: Global,
     settings: &Settings,
     base: &mut Base,
-    total: &Total,
+    total: Total,
 ) -> Result<Summary, NoMemory>
-    requires { IsOfLines base.old.summary.totals total.now }
-    ensures sums { IfOk result (AreSums settings.now base.old.summary base.new.summary total.now) }
+    requires { IsOfLines base.old.summary.totals total }
+    ensures sums { IfOk result (AreSums settings.now base.old.summary base.new.summary total) }
     ensures entries { base.new.entries ≡ base.old.entries }
 {
     summary_is_sound(&base.summary);
     let mut run = total.summary(alloc)?;
+    drop(total);
     summary_is_sound(&run);
     add_run(alloc, settings, base, &mut run)?;
     Ok(run)

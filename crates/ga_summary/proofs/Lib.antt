@@ -32,3 +32,4 @@ pub mod LastDays
 pub mod TrimmedMerge
 pub mod Bars
 pub mod DayPlaces
+pub mod Taken

@@ -48,17 +48,33 @@ pub(crate) fn copy_all(alloc: Global, entries: &[Box<Entry>]) -> Result<Vec<Box<
     Ok(copies)
 }
 
-/// Closed entries with these rows.
-pub(crate) fn entries_of(rows: Vec<PartRow>) -> Result<Vec<Box<Entry>>, NoMemory>
+/// The room that may stand empty behind the rows of a list: this many rows, and an eighth of those that are left.
+const SPARE_ROWS: usize = 1_024;
+
+/// Gives the memory behind the rows back, where much of it stands empty.
+fn give_back(rows: &mut Vec<PartRow>)
+    ensures items { rows.new.items ≡ rows.old.items }
+{
+    let len = rows.len();
+    let spare = rows.capacity() - len;
+    if spare > SPARE_ROWS && spare - SPARE_ROWS > len / 8 {
+        rows.shrink_to(len);
+    }
+}
+
+/// Closed entries with these rows. They are made from the last row on, so that the list of rows gives its memory back as they grow.
+pub(crate) fn entries_of(mut rows: Vec<PartRow>) -> Result<Vec<Box<Entry>>, NoMemory>
     ensures rows { IfOk result (λ v. rows_of v.items ≡ rows_in rows.items) }
     ensures closed { IfOk result (λ v. AllClosed v.items) }
 {
     let alloc = *rows.allocator();
     let mut entries = Vec::with_capacity(alloc, rows.len())?;
-    for row in rows {
+    while let Some(row) = rows.pop() {
         let entry = Entry::of(alloc, row.key, row.sums, row.names);
         entries.push(Box::new(alloc, entry)?)?;
+        give_back(&mut rows);
     }
+    entries.reverse();
     Ok(entries)
 }
 
