@@ -2,7 +2,7 @@
 
 _goaccess() {
     # the options with a value, and those without one
-    local valued='--log-format --date-format --time-format --browsers-file --exclude-ip --ignore-status --static-file -o --output
+    local valued='--log-format --date-format --time-format --config-file --browsers-file --exclude-ip --ignore-status --static-file -o --output
         --date-spec --hour-spec --max-items --keep-last --ignore-panel --enable-panel --jobs --chunk-size --generate
         --db-path'
     local flags='--ignore-crawlers --no-ip-validation --no-strict-status --no-query-string --double-decode-url --all-static-files
@@ -34,7 +34,7 @@ _goaccess() {
             fi
             return
             ;;
-        --browsers-file) return ;;
+        --config-file | --browsers-file) return ;;
         --log-format) mapfile -t COMPREPLY < <(compgen -W "$formats" -- "$word") ;;
         --ignore-panel | --enable-panel) mapfile -t COMPREPLY < <(compgen -W "$panels" -- "$word") ;;
         --date-spec) mapfile -t COMPREPLY < <(compgen -W 'date hr min' -- "$word") ;;

@@ -345,8 +345,41 @@ def settings(rng, text, date, time):
     return units
 
 
+# lines of a configuration file that give nothing, and lines that are no settings
+OTHER_LINES = [b"hl-header true", b"color-scheme 1", b'html-prefs {"theme":"bright"}', b"config-file other.conf", b"", b"# jobs 17", b"\t ", b"no-color", b"4 x"]
+BAD_LINES = [b"jobs 17", b"persist", b"log-file a.log", b"generate 5", b"Jobs 2", b"jobs_2", b"# \xff", b"all-static-files yes", b"#" * 4097, b"output r.html"]
+
+
+def conf_line(rng, unit):
+    """The line of a configuration file that these words are, or None."""
+    name, _, value = unit[0].partition(b"=")
+    if name not in oracle.VALUED and name not in oracle.FLAGS or not name.startswith(b"--") or name == b"--generate":
+        return None
+    value = unit[1] if len(unit) == 2 else value
+    if name in oracle.FLAGS:
+        value = b"true" if rng.random() < 0.8 else b"false"
+    return rng.choice([b"", b"", b" \t"]) + name[2:] + rng.choice([b" ", b"\t", b" \t "]) + value + rng.choice([b"", b"", b" ", b"\r"])
+
+
+def into_conf(rng, units):
+    """The units that stay on the command line, and the configuration file that the others make."""
+    stay, lines = [], []
+    for unit in units:
+        line = conf_line(rng, unit) if rng.random() < 0.5 else None
+        if line is None:
+            stay.append(unit)
+        else:
+            lines.append(line)
+    for _ in range(rng.choice([0, 1, 3])):
+        lines.insert(rng.randint(0, len(lines)), rng.choice(BAD_LINES) if rng.random() < 0.03 else rng.choice(OTHER_LINES))
+    name = b"nothing.conf" if rng.random() < 0.02 else b"g.conf"
+    return stay + [spelt(rng, b"--config-file", name)], b"\n".join(lines) + rng.choice([b"", b"\n", b"\n", b"\r\n"])
+
+
 def wide_words(rng, text, date, time):
     units = settings(rng, text, date, time)
+    if rng.random() < 0.2:
+        units, rng.conf = into_conf(rng, units)
     logs = [[pick(rng, LOGS, NO_LOGS, 0.02)] for _ in range(rng.choice([1] * 12 + [2] * 5 + [3, 3, 0]))]
     behind = rng.random() < 0.1
     if rng.random() < 0.03:
@@ -370,6 +403,7 @@ def wide_words(rng, text, date, time):
 
 def make(rng, narrow):
     """The words and the files of a run. All runs have the folders `folder` and `folder.json` besides."""
+    rng.conf = None  # the configuration file, where the words name one
     rng.name = None  # the name that this line's URL and texts have
     rng.heavy = rng.random() < 0.04  # amounts that fill a counter
     rng.items = 0 if rng.random() < 0.985 else rng.choice([366, 500, 700, 900])  # more different items than a report shows
@@ -385,6 +419,8 @@ def make(rng, narrow):
     for name in (b"agents.txt", b"other.txt"):
         if any(name in word for word in words):
             files[name] = pick(rng, RULES, BAD_RULES, 0.15)
+    if rng.conf is not None:
+        files[b"g.conf"] = rng.conf
     if rng.random() < 0.3:
         files[b"r.csv"] = b"an older report\n"
     return words, files

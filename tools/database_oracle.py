@@ -171,7 +171,7 @@ class Database:
         before = list(self.shown.entries)
         answer = oracle.run(words, files, self.shown)
         if answer[0] == 0:
-            s = oracle.read_words(words)
+            s = oracle.settings_of(words, files.get)
             if s.persist:
                 self.keep(*counted(s, files, before if s.restore else []), s.restore)
         return answer

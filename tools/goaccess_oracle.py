@@ -195,6 +195,7 @@ class Settings:
         self.kind = b"json"
         self.target = b""
         self.browsers_file = None
+        self.config_file = None
         self.statics = []
         self.all_static = False
         self.ranges = []
@@ -279,6 +280,7 @@ VALUED = {
     b"-o": take_output,
     b"--output": take_output,
     b"--browsers-file": lambda s, v: setattr(s, "browsers_file", name_in(v)),
+    b"--config-file": lambda s, v: setattr(s, "config_file", name_in(v)),
     b"--static-file": lambda s, v: s.statics.append(name_in(v)),
     b"--exclude-ip": take_range,
     b"--ignore-status": take_status,
@@ -308,6 +310,13 @@ FLAGS = {
 
 def read_words(words):
     s = Settings()
+    take_words(s, words)
+    check_settings(s)
+    return s
+
+
+def take_words(s, words):
+    """Makes the settings of these words. Raises the first fault that a word has by itself."""
     at = 0
     names_only = False
     while at < len(words):
@@ -343,12 +352,72 @@ def read_words(words):
         except BadValue:
             raise Fault(1, b"word %d: bad value" % at) from None
         at += 1
+
+
+def check_settings(s):
+    """Raises the first fault that settings have as a whole."""
     if s.logs and s.log_format is None:
         raise Fault(1, b"no log format")
     if not s.logs and not s.restore and s.generate is None:
         raise Fault(1, b"no input")
     if s.generate is not None and (s.logs or s.persist or s.restore):
         raise Fault(1, b"word %d: conflict" % s.generate_at)
+
+
+# a configuration file
+LONGEST_SETTING = 4096
+NO_SETTINGS = (b"generate", b"log-file")
+
+
+def setting_of(line):
+    """The words of a line of a configuration file, without its end. None where it is no setting."""
+    if len(line) > LONGEST_SETTING or not is_utf8(line):
+        return None
+    line = line.strip(b" \t")
+    if line == b"" or line.startswith(b"#"):
+        return []
+    name = re.match(rb"[^ \t]+", line)[0]
+    value = line[len(name) :].lstrip(b" \t")
+    option = b"--" + name
+    if name not in NO_SETTINGS and name != b"config-file":
+        if option in FLAGS:
+            return {b"true": [option], b"false": []}.get(value)
+        if option in VALUED:
+            try:
+                VALUED[option](Settings(), value)
+            except BadValue:
+                return None
+            return [option + b"=" + value]
+    return [] if name not in NO_SETTINGS and re.fullmatch(rb"[a-z0-9-]+", name) else None
+
+
+def read_conf(data):
+    """The words of a configuration file, or the number of the first line that is no setting."""
+    words = []
+    lines = data.split(b"\n")
+    ended = [line.removesuffix(b"\r") for line in lines[:-1]]
+    for number, line in enumerate(ended + [rest for rest in lines[-1:] if rest], 1):
+        given = setting_of(line)
+        if given is None:
+            return number
+        words += given
+    return words
+
+
+def settings_of(words, read):
+    """What words mean, after those of the configuration file that they name. `read` gives the bytes of a name, or None."""
+    scanned, s = Settings(), Settings()
+    take_words(scanned, words)
+    if scanned.config_file is not None:
+        data = read(scanned.config_file)
+        if data is None:
+            raise Fault(2, scanned.config_file + b": read failed")
+        conf = read_conf(data)
+        if isinstance(conf, int):
+            raise Fault(1, b"config file, line %d: not a setting" % conf)
+        take_words(s, conf)
+    take_words(s, words)
+    check_settings(s)
     return s
 
 
@@ -1148,7 +1217,7 @@ def run_words(words, read, db):
     try:
         if not all(is_utf8(word) for word in words):
             raise Fault(1, b"words are not UTF-8")
-        s = read_words(words)
+        s = settings_of(words, read)
         text = text_of(s, read, db)
     except Fault as fault:
         return fault.status, b"", b"goaccess: " + fault.text + b"\n", None
@@ -1383,6 +1452,20 @@ def self_test():
     check("a search and a crawler general", general(out), [1, 0, 0, 1, 0, 0])
     check("a browsers file", (read_rules(b"Foo\t\tCrawlers\n"), read_rules(b"# x\nFoo\n")), ([(b"Foo", CRAWLERS)], 2))
     refused("a browsers file run", [b"--browsers-file=r", *common], 1, b"browsers file, line 2: not a rule", {b"r": b"# x\nFoo\n"})
+    row = b"log-format COMMON\n# x\nhl-header true\nignore-panel HOSTS\nall-static-files true\n"
+    named = words("--config-file=g.conf -o csv a.log")
+    check("a configuration file", run(named, {b"g.conf": row, b"a.log": a}),
+          run(words("--log-format=COMMON --ignore-panel=HOSTS --all-static-files -o csv a.log"), {b"a.log": a}))
+    check("a configuration file before the words", run([b"--log-format=COMBINED", *named], {b"g.conf": row, b"a.log": a}),
+          run(words("--log-format=COMBINED --ignore-panel=HOSTS --all-static-files -o csv a.log"), {b"a.log": a}))
+    refused("a setting that is none", named, 1, b"config file, line 2: not a setting", {b"g.conf": b"log-format COMMON\njobs 17\n"})
+    refused("a configuration file that isn't there", [b"--config-file=g.conf", b"a.log"], 2, b"g.conf: read failed", {})
+    refused("a bad value before a configuration file", [b"--config-file=g.conf", b"--jobs=17"], 1, b"word 1: bad value", {})
+    refused("a conflict with a configuration file", [b"--jobs=2", b"--generate=5", b"--config-file=g.conf"], 1, b"word 1: conflict", {b"g.conf": b"persist true\n"})
+    settings = [(b"jobs 2\r\n", [b"--jobs=2"]), (b"jobs 2\r", 1), (b"log-file a\n", 1), (b"generate 5\n", 1), (b"config-file a\nx y\n", []), (b"X y\n", 1),
+                (b"persist false\nrestore true", [b"--restore"]), (b"persist\n", 1), (b"log-format\n", [b"--log-format="]), (b"\n\t# \xff\n", 2),
+                (b"#" * 4096 + b"\n", []), (b"#" * 4097 + b"\n", 1)]
+    check("settings", [read_conf(text) for text, _ in settings], [given for _, given in settings])
     check("a report's file", run(words("--log-format=COMMON -o r.json e.log"), {b"e.log": b""}), (0, b"", b"", {b"r.json": EMPTY_LOG}))
     one = [b"--ignore-panel=HOSTS", b"--enable-panel=HOSTS"]
     check("a panel shown", b",hosts," in shows("panels", [*one, *common], {b"a.log": a}), True)

@@ -14,9 +14,9 @@ use Rattle.ga_one_run.specs.Keeping.{FindsThere, KeptSince}
 use Rattle.ga_one_run.specs.Run.{disk_faults_after}
 use Rattle.ga_one_run.specs.Outside.{Outside}
 use Rattle.ga_one_run.specs.declared.status.Input.{Input}
-use Rattle.ga_one_run.specs.declared.status.Input.TheVariants.{Rules, Log}
+use Rattle.ga_one_run.specs.declared.status.Input.TheVariants.{Conf, Rules, Log}
 use Rattle.ga_one_run.specs.declared.status.Status.{Status}
-use Rattle.ga_one_run.specs.declared.status.Status.TheVariants.{Done, BadWords, BadFormat, BadRules, FileFault, FileShort, DiskFault, DbDamaged, KeepDiffers, OutFault, CounterFull, NoMemory}
+use Rattle.ga_one_run.specs.declared.status.Status.TheVariants.{Done, BadWords, BadConf, BadFormat, BadRules, FileFault, FileShort, DiskFault, DbDamaged, KeepDiffers, OutFault, CounterFull, NoMemory}
 
 -- ---- faults
 
@@ -49,12 +49,14 @@ module _ (line : LineSetup) (s : Settings) (old new : Outside) where
       go (inr (none, left)) = faults-of left.view
 
   of-input : (file : Input) (fault : PlaceFault) → MissesInput line s old new file fault → Same
+  of-input Conf fault h = absurd h
   of-input Rules fault (name, named, misses, left) = faults-of left.view
   of-input (Log place) fault h = of-finds h.begun.stored h.begun.finds
 
   pub disk-faults-by : (status : Status) → Ends line s old new status → new.disk.counts.faults ≡ disk_faults_after status old.disk.counts.faults
   disk-faults-by Done ends = of-report ends.has
   disk-faults-by (BadWords fault) ends = absurd ends
+  disk-faults-by (BadConf at) ends = absurd ends
   disk-faults-by (BadFormat which fault) ends = absurd ends
   disk-faults-by (BadRules at) ends = faults-of ends.0.disk.view
   disk-faults-by (FileFault file) ends = of-input file PlaceFailed ends.0.misses
@@ -102,12 +104,14 @@ module _ (line : LineSetup) (s : Settings) (old new : Outside) where
         go (inr (not, left)) = left.view ∙ alone-there h.found h.come.stored h.come.finds
 
     alone-input : (file : Input) (fault : PlaceFault) → MissesInput line s old new file fault → new.disk ≡ old.disk
+    alone-input Conf fault h = absurd h
     alone-input Rules fault (name, named, misses, left) = left.view
     alone-input (Log place) fault h = alone-finds h.begun.stored h.begun.finds
 
     pub alone-by : (status : Status) → Ends line s old new status → new.disk ≡ old.disk
     alone-by Done ends = alone-report ends.has
     alone-by (BadWords fault) ends = absurd ends
+    alone-by (BadConf at) ends = absurd ends
     alone-by (BadFormat which fault) ends = absurd ends
     alone-by (BadRules at) ends = ends.0.disk.view
     alone-by (FileFault file) ends = alone-input file PlaceFailed ends.0.misses

@@ -21,7 +21,7 @@ use Rattle.ga_ports.specs.declared.file_counts.FileCounts.{FileCounts}
 use Rattle.ga_ports.specs.declared.outs.To.{To}
 use Rattle.ga_resume.specs.declared.fault.PlaceFault.{PlaceFault}
 use Rattle.ga_resume.specs.declared.fault.PlaceFault.TheVariants.{FileFault as PlaceFailed, FileShort as PlaceShort}
-use Rattle.ga_words.specs.WordsOf.{WordsOf}
+use Rattle.ga_words.specs.Joined.{JoinedOf}
 use Rattle.ga_words.specs.declared.settings.Settings.{Settings}
 use Rattle.ga_one_run.specs.Course.{ReachesReport, HasRules}
 use Rattle.ga_one_run.specs.Ends.{AreFollowed, Ends, HasReport, MissesInput, SaysOnly, StopsPrinting}
@@ -32,9 +32,9 @@ use Rattle.ga_one_run.specs.Statuses.{NamesFailed, NamesInput}
 use Rattle.ga_one_run.specs.Steps.Run.{EndsEarly, EndsRun, failed_name, input_name}
 use Rattle.ga_one_run.specs.Outside.{Outside, outside_of as outside}
 use Rattle.ga_one_run.specs.declared.status.Input.{Input}
-use Rattle.ga_one_run.specs.declared.status.Input.TheVariants.{Rules, Log}
+use Rattle.ga_one_run.specs.declared.status.Input.TheVariants.{Conf, Rules, Log}
 use Rattle.ga_one_run.specs.declared.status.Status.{Status}
-use Rattle.ga_one_run.specs.declared.status.Status.TheVariants.{Done, BadWords, BadFormat, BadRules, FileFault, FileShort, DiskFault, DbDamaged, KeepDiffers, OutFault, CounterFull, NoMemory}
+use Rattle.ga_one_run.specs.declared.status.Status.TheVariants.{Done, BadWords, BadConf, BadFormat, BadRules, FileFault, FileShort, DiskFault, DbDamaged, KeepDiffers, OutFault, CounterFull, NoMemory}
 use Rattle.ga_one_run.proofs.DiskFaults.{found-faults}
 use Rattle.ga_one_run.proofs.Takes.{takes-nil}
 use Rattle.ga_one_run.proofs.Telling.{kept-rules}
@@ -64,6 +64,7 @@ module _ (line : LineSetup) (s : Settings) (old : Outside) (f : FilesView) (d : 
   has-written h = record { found = h.found; come = h.come; text = h.text; report = h.report; kept = h.kept }
 
   misses-written : (file : Input) (fault : PlaceFault) → MissesInput line s old (outside f d i mid) file fault → MissesInput line s old (outside f d i outs) file fault
+  misses-written Conf fault h = absurd h
   misses-written Rules fault h = h
   misses-written (Log place) fault h = record { mid = h.mid; begun = h.begun; misses = h.misses }
 
@@ -73,6 +74,7 @@ module _ (line : LineSetup) (s : Settings) (old : Outside) (f : FilesView) (d : 
   pub written : (status : Status) → Ends line s old (outside f d i mid) status → Ends line s old (outside f d i outs) status
   written Done h = record { has = has-written h.has; printed = along (delivered (report_file s.generate s.output.name) h.has.text old.outs) mid outs changed h.printed }
   written (BadWords fault) h = absurd h
+  written (BadConf at) h = absurd h
   written (BadFormat which fault) h = absurd h
   written (BadRules at) (h, quiet) = (record { name = h.name; named = h.named; text = h.text; read = h.read; bad = h.bad; disk = h.disk }, says quiet)
   written (FileFault file) (h, quiet) = (record { misses = misses-written file PlaceFailed h.misses; unsure = h.unsure }, says quiet)
@@ -97,10 +99,13 @@ module _ (line : LineSetup) (s : Settings) (old : Outside) (f : FilesView) (d : 
   unfolding written misses-written
   followed-written Done h entries e = e
   followed-written (BadWords fault) h entries e = absurd h
+  followed-written (BadConf at) h entries e = absurd h
   followed-written (BadFormat which fault) h entries e = absurd h
   followed-written (BadRules at) h entries e = absurd e
+  followed-written (FileFault Conf) h entries e = absurd e
   followed-written (FileFault Rules) h entries e = absurd e
   followed-written (FileFault (Log place)) h entries e = e
+  followed-written (FileShort Conf at) h entries e = absurd e
   followed-written (FileShort Rules at) h entries e = absurd e
   followed-written (FileShort (Log place) at) h entries e = e
   followed-written DiskFault (inl h, quiet) entries e = absurd e
@@ -140,6 +145,7 @@ miss-untold (misses_first misses) = misses.cause.2
 miss-untold (misses_later reads follows rest) = sym (kept-one reads) ∙ miss-untold rest
 
 short-untold : (line : LineSetup) (s : Settings) (old new : Outside) (file : Input) (at : ℕ) → MissesInput line s old new file (PlaceShort at) → old.files.contents ≡ None
+short-untold line s old new Conf at h = absurd h
 short-untold line s old new Rules at (name, named, misses, left) = misses.cause.2
 short-untold line s old new (Log place) at h =
     sym (kept-rules s.browsers_file old.files h.mid h.begun.rules h.begun.has_rules) ∙ miss-untold h.misses.misses
@@ -155,6 +161,7 @@ behind None logs place = ap (slice_get logs) (let e : 0 + place ≡ place = omeg
 behind (Some name) logs place = ap (slice_get (name ∷ logs)) (let e : 1 + place ≡ suc place = omega arith in e)
 
 some-input : (line : LineSetup) (s : Settings) (old new : Outside) (file : Input) (fault : PlaceFault) → MissesInput line s old new file fault → (name : List ℕ) × (slice_get (inputs_of s) (place_of s file) ≡ Some name)
+some-input line s old new Conf fault h = absurd h
 some-input line s old new Rules fault (name, named, misses, left) = (name, ap (λ o. slice_get (rules_file o ++ s.logs) 0) named)
 some-input line s old new (Log place) fault h = let found = miss-name h.misses.misses in (found.0, behind s.browsers_file s.logs place ∙ found.1)
 
@@ -183,6 +190,7 @@ pub complete-by : (line : LineSetup) (s : Settings) (old new : Outside) (status 
     → FilesServed s old new → DiskServed old new → OutputServed line s old new → HasGoodInput status → (status ≡ Done) ⊎ (status ≡ NoMemory)
 complete-by line s old new Done ends counted served disk took good = inl refl
 complete-by line s old new (BadWords fault) ends counted served disk took good = absurd ends
+complete-by line s old new (BadConf at) ends counted served disk took good = absurd ends
 complete-by line s old new (BadFormat which fault) ends counted served disk took good = absurd ends
 complete-by line s old new (BadRules at) ends counted served disk took good = absurd (good.rules at refl)
 complete-by line s old new (FileFault file) ends counted served disk took good = absurd (failed-not s old new ends.0.unsure counted.faults served)
@@ -232,6 +240,7 @@ module _ (line : LineSetup) (s : Settings) (old new : Outside) where
         present-all come.counted.read found.0 name found.2 found.3
 
     at-or-before : (file : Input) → MissesInput line s old new file PlaceFailed → place_of s file ≤ place
+    at-or-before Conf misses = absurd misses
     at-or-before Rules misses = omega arith
     at-or-before (Log p) h =
         let found = past-rules s.browsers_file h.mid h.begun.rules h.begun.has_rules place name stands gone in
@@ -242,6 +251,7 @@ module _ (line : LineSetup) (s : Settings) (old new : Outside) where
     pub absent-by : (status : Status) → Ends line s old new status → EndsBefore s place status
     absent-by Done ends = passed-not new.files old.disk ends.has.found ends.has.come
     absent-by (BadWords fault) ends = tt
+    absent-by (BadConf at) ends = tt
     absent-by (BadFormat which fault) ends = tt
     absent-by (BadRules at) ends = tt
     absent-by (FileFault file) ends = at-or-before file ends.0.misses
@@ -262,6 +272,7 @@ same-but old new e = subst (λ (v : OutsView). v ≡ but_errors v old) (sym e) r
 pub refused-by : (line : LineSetup) (s : Settings) (old new : Outside) (status : Status) → Ends line s old new status → status ≢ Done → ((to : To) (at : ℕ) → status ≢ OutFault to at) → SaysOnly old new
 refused-by line s old new Done ends undone none = absurd (undone refl)
 refused-by line s old new (BadWords fault) ends undone none = absurd ends
+refused-by line s old new (BadConf at) ends undone none = absurd ends
 refused-by line s old new (BadFormat which fault) ends undone none = absurd ends
 refused-by line s old new (BadRules at) ends undone none = ends.1
 refused-by line s old new (FileFault file) ends undone none = ends.1
@@ -281,33 +292,36 @@ nothing-taken old new (inr (at, stops)) = absurd (omega (arith, stops.early))
 some-own : (found : Option (List ℕ)) (name : List ℕ) → found ≡ Some name → found ≡ Some (unwrap_or found [])
 some-own found name e = e ∙ sym (ap (λ o. Some (unwrap_or o [])) e)
 
-input-named : (words : List (List ℕ)) (line : LineSetup) (s : Settings) → WordsOf words (Ok s) → (old new : Outside) (file : Input) (fault : PlaceFault) → MissesInput line s old new file fault
-    → NamesInput words file (input_name s file)
-input-named words line s says old new Rules fault (name, named, misses, left) = (s, says, some-own s.browsers_file name named)
-input-named words line s says old new (Log place) fault h = let found = miss-name h.misses.misses in (s, says, some-own (slice_get s.logs place) found.0 found.1)
+input-named : (conf words : List (List ℕ)) (line : LineSetup) (s : Settings) → JoinedOf conf words (Ok s) → (old new : Outside) (file : Input) (fault : PlaceFault) → MissesInput line s old new file fault
+    → NamesInput conf words file (input_name s file)
+input-named conf words line s says old new Conf fault h = absurd h
+input-named conf words line s says old new Rules fault (name, named, misses, left) = (s, says, some-own s.browsers_file name named)
+input-named conf words line s says old new (Log place) fault h = let found = miss-name h.misses.misses in (s, says, some-own (slice_get s.logs place) found.0 found.1)
 
 -- the name in a fault line is one that the words give
-pub named : (words : List (List ℕ)) (s : Settings) → WordsOf words (Ok s) → (old new : Outside) (status : Status) → EndsRun s old new status → NamesFailed words status (failed_name s status)
-named words s says old new Done ends = refl
-named words s says old new (BadWords fault) ends = refl
-named words s says old new (BadFormat which fault) ends = refl
-named words s says old new (BadRules at) ends = refl
-named words s says old new (FileFault file) (inl early) = absurd early.0
-named words s says old new (FileFault file) (inr (line, is, ended)) = input-named words line s says old new file PlaceFailed ended.ends.0.misses
-named words s says old new (FileShort file at) (inl early) = absurd early.0
-named words s says old new (FileShort file at) (inr (line, is, ended)) = input-named words line s says old new file (PlaceShort at) ended.ends.0
-named words s says old new DiskFault ends = refl
-named words s says old new (DbDamaged side at) ends = refl
-named words s says old new (KeepDiffers number given) ends = refl
-named words s says old new (OutFault to at) (inl early) = absurd early.0
-named words s says old new (OutFault to at) (inr (line, is, ended)) = (s, says, ended.ends.target_is, refl)
-named words s says old new (CounterFull which total) ends = refl
-named words s says old new NoMemory ends = refl
+pub named : (conf words : List (List ℕ)) (s : Settings) → JoinedOf conf words (Ok s) → (old new : Outside) (status : Status) → EndsRun s old new status → NamesFailed conf words status (failed_name s status)
+named conf words s says old new Done ends = refl
+named conf words s says old new (BadWords fault) ends = refl
+named conf words s says old new (BadConf at) ends = refl
+named conf words s says old new (BadFormat which fault) ends = refl
+named conf words s says old new (BadRules at) ends = refl
+named conf words s says old new (FileFault file) (inl early) = absurd early.0
+named conf words s says old new (FileFault file) (inr (line, is, ended)) = input-named conf words line s says old new file PlaceFailed ended.ends.0.misses
+named conf words s says old new (FileShort file at) (inl early) = absurd early.0
+named conf words s says old new (FileShort file at) (inr (line, is, ended)) = input-named conf words line s says old new file (PlaceShort at) ended.ends.0
+named conf words s says old new DiskFault ends = refl
+named conf words s says old new (DbDamaged side at) ends = refl
+named conf words s says old new (KeepDiffers number given) ends = refl
+named conf words s says old new (OutFault to at) (inl early) = absurd early.0
+named conf words s says old new (OutFault to at) (inr (line, is, ended)) = (s, says, ended.ends.target_is, refl)
+named conf words s says old new (CounterFull which total) ends = refl
+named conf words s says old new NoMemory ends = refl
 
 -- no fault is counted where no file was asked for
 pub early-faults : (s : Settings) (counts : FileCounts) (status : Status) → EndsEarly s status → SameFaults (faults_after status counts) counts
 early-faults s counts Done h = absurd h
 early-faults s counts (BadWords fault) h = absurd h
+early-faults s counts (BadConf at) h = absurd h
 early-faults s counts (BadFormat which fault) h = record { faults = refl; shorts = refl; short_at = refl }
 early-faults s counts (BadRules at) h = absurd h
 early-faults s counts (FileFault file) h = absurd h

@@ -16,7 +16,7 @@ use Rattle.ga_words.specs.declared.settings.Settings.{Settings}
 use Rattle.ga_one_run.specs.Reports.{IsTextOf}
 use Rattle.ga_one_run.specs.Steps.Run.{EndsKeeping, EndsLast, EndsReport, status_of_store}
 use Rattle.ga_one_run.specs.declared.status.Status.{Status}
-use Rattle.ga_one_run.specs.declared.status.Status.TheVariants.{Done, BadWords, BadFormat, BadRules, FileFault, FileShort, DiskFault, DbDamaged, KeepDiffers, OutFault, CounterFull, NoMemory}
+use Rattle.ga_one_run.specs.declared.status.Status.TheVariants.{Done, BadWords, BadConf, BadFormat, BadRules, FileFault, FileShort, DiskFault, DbDamaged, KeepDiffers, OutFault, CounterFull, NoMemory}
 
 module _ (s : Settings) (stored : DbValue) (whole : SummaryValue) (entries : List Entry) (d d' : DiskView) (i i' : Images) (o : OutsView) where
   -- the run wasn't kept
@@ -36,6 +36,7 @@ module _ (s : Settings) (stored : DbValue) (whole : SummaryValue) (entries : Lis
       → EndsReport s text o o' status → EndsKeeping s stored whole entries d d' i i' o o' status
   delivers o' text is kept Done h = record { text = text; is_text = is; kept = kept; report = h }
   delivers o' text is kept (BadWords fault) h = absurd h
+  delivers o' text is kept (BadConf at) h = absurd h
   delivers o' text is kept (BadFormat which fault) h = absurd h
   delivers o' text is kept (BadRules at) h = absurd h
   delivers o' text is kept (FileFault file) h = absurd h

@@ -39,9 +39,9 @@ use Rattle.ga_one_run.specs.Steps.Run.{Delivers, EndsInputs, EndsKeeping, EndsLa
 use Rattle.ga_one_run.specs.Outside.{outside_of as outside}
 use Rattle.ga_one_run.specs.declared.rules.RulesFault.{RulesFault}
 use Rattle.ga_one_run.specs.declared.rules.RulesFault.TheVariants.{Unread, Bad}
-use Rattle.ga_one_run.specs.declared.status.Input.TheVariants.{Rules, Log}
+use Rattle.ga_one_run.specs.declared.status.Input.TheVariants.{Conf, Rules, Log}
 use Rattle.ga_one_run.specs.declared.status.Status.{Status}
-use Rattle.ga_one_run.specs.declared.status.Status.TheVariants.{Done, BadWords, BadFormat, BadRules, FileFault, FileShort, DiskFault, DbDamaged, KeepDiffers, OutFault, CounterFull, NoMemory}
+use Rattle.ga_one_run.specs.declared.status.Status.TheVariants.{Done, BadWords, BadConf, BadFormat, BadRules, FileFault, FileShort, DiskFault, DbDamaged, KeepDiffers, OutFault, CounterFull, NoMemory}
 use Rattle.ga_one_run.proofs.Asking.{Asked, miss-counts, miss-rules, same-all, same-files, same-read, same-rules, same-some, same-then, walks-all, walks-behind, walks-miss, walks-rules, walks-some}
 use Rattle.ga_one_run.proofs.Moments.{OnlyNow, leaves-still, leaves-then, untouched-leaves}
 use Rattle.ga_one_run.proofs.Telling.{found-there, there-in}
@@ -244,8 +244,10 @@ module _ (line : LineSetup) (s : Settings) (files : FilesView) (d : DiskView) (i
           → EndsInputs line s (outside files d i o) (outside files' d' i' o) status
       ends-count stay Done h sure = absurd h
       ends-count stay (BadWords fault) h sure = absurd h
+      ends-count stay (BadConf at) h sure = absurd h
       ends-count stay (BadFormat which fault) h sure = absurd h
       ends-count stay (BadRules at) h sure = absurd h
+      ends-count stay (FileFault Conf) h sure = absurd h
       ends-count stay (FileFault Rules) h sure = absurd h
       ends-count stay (FileFault (Log place)) h sure =
           stopped files' d' i' went dwent (FileFault (Log place)) (
@@ -255,6 +257,7 @@ module _ (line : LineSetup) (s : Settings) (files : FilesView) (d : DiskView) (i
             },
             refl,
           ) (asks-logs h.found.entries refl (walks-miss h.misses.misses)) (miss-counts files.counts PlaceFailed same-before h.misses.misses)
+      ends-count stay (FileShort Conf at) h sure = absurd h
       ends-count stay (FileShort Rules at) h sure = absurd h
       ends-count stay (FileShort (Log place) at) h sure =
           stopped files' d' i' went dwent (FileShort (Log place) at) (record { mid = mid; begun = begun h.found; misses = h.misses }, refl)
@@ -311,6 +314,7 @@ module _ (line : LineSetup) (s : Settings) (files : FilesView) (d : DiskView) (i
             × SameFaults (faults_after status files.counts) files'.counts
         ends-as Done h = (record { has = has-report h; printed = h.report }, all-asked refl, all-same)
         ends-as (BadWords fault) h = absurd h
+        ends-as (BadConf at) h = absurd h
         ends-as (BadFormat which fault) h = absurd h
         ends-as (BadRules at) h = absurd h
         ends-as (FileFault file) h = absurd h

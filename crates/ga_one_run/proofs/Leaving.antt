@@ -17,9 +17,9 @@ use Rattle.ga_one_run.specs.Keeping.{FindsThere, KeepsSince, KeptSince, MayKeepS
 use Rattle.ga_one_run.specs.Leaves.{AllRead, Leaves, LeavesEither, LeavesSides, SettlesBy}
 use Rattle.ga_one_run.specs.Outside.{Outside}
 use Rattle.ga_one_run.specs.declared.status.Input.{Input}
-use Rattle.ga_one_run.specs.declared.status.Input.TheVariants.{Rules, Log}
+use Rattle.ga_one_run.specs.declared.status.Input.TheVariants.{Conf, Rules, Log}
 use Rattle.ga_one_run.specs.declared.status.Status.{Status}
-use Rattle.ga_one_run.specs.declared.status.Status.TheVariants.{Done, BadWords, BadFormat, BadRules, FileFault, FileShort, DiskFault, DbDamaged, KeepDiffers, OutFault, CounterFull, NoMemory}
+use Rattle.ga_one_run.specs.declared.status.Status.TheVariants.{Done, BadWords, BadConf, BadFormat, BadRules, FileFault, FileShort, DiskFault, DbDamaged, KeepDiffers, OutFault, CounterFull, NoMemory}
 use Rattle.ga_one_run.proofs.InputsEnds.{looked-at}
 use Rattle.ga_one_run.proofs.Moments.{OnlyNow, untouched-leaves}
 use Rattle.ga_one_run.proofs.Telling.{seen-same}
@@ -60,6 +60,7 @@ module _ (line : LineSetup) (s : Settings) (old new : Outside) (only : OnlyNow o
   of-finds stored finds = of-looked (looked-at s old.disk new.disk old.images new.images stored finds)
 
   of-input : (file : Input) (fault : PlaceFault) → MissesInput line s old new file fault → LeavesSides old new
+  of-input Conf fault h = absurd h
   of-input Rules fault (name, named, misses, left) = of-untouched left
   of-input (Log place) fault h = of-finds h.begun.stored h.begun.finds
 
@@ -128,6 +129,7 @@ module _ (line : LineSetup) (s : Settings) (old new : Outside) (only : OnlyNow o
   pub leaves-by : (status : Status) → Ends line s old new status → Leaves line s old new status
   leaves-by Done ends = of-report Done (λ stored after h. h) ends.has
   leaves-by (BadWords fault) ends = absurd ends
+  leaves-by (BadConf at) ends = absurd ends
   leaves-by (BadFormat which fault) ends = absurd ends
   leaves-by (BadRules at) ends = inl (of-untouched ends.0.disk)
   leaves-by (FileFault file) ends = inl (of-input file PlaceFailed ends.0.misses)

@@ -18,3 +18,4 @@ pub mod SomeCourse
 pub mod Takes
 pub mod Telling
 pub mod WordLaw
+pub mod Configuring

@@ -18,7 +18,7 @@ use Rattle.ga_ports.specs.Files.{FilesView, told}
 use Rattle.ga_ports.specs.Outs.{TargetView, takes, target}
 use Rattle.ga_store.specs.Database.{DbOf, DbValue}
 use Rattle.ga_store.specs.Database.Reading.{stored as reads_as}
-use Rattle.ga_words.specs.WordsOf.{WordsOf}
+use Rattle.ga_words.specs.Joined.{JoinedOf}
 use Rattle.ga_words.specs.declared.settings.Settings.{Settings}
 use Rattle.ga_agents.specs.declared.row.Rule.{Rule}
 use Rattle.ga_one_run.specs.Ends.{Ends, HasReport, SaysOnly}
@@ -37,7 +37,7 @@ use Rattle.ga_summary.specs.SummaryRows.{SummaryValue}
 use Rattle.ga_one_run.specs.declared.status.Which.{Which}
 use Rattle.ga_one_run.specs.declared.status.Which.TheVariants.{Log, Date, Time}
 use Rattle.ga_one_run.specs.declared.status.Status.{Status}
-use Rattle.ga_one_run.specs.declared.status.Status.TheVariants.{Done, BadWords, BadFormat, BadRules, FileFault, FileShort, DiskFault, DbDamaged, KeepDiffers, OutFault, CounterFull, NoMemory}
+use Rattle.ga_one_run.specs.declared.status.Status.TheVariants.{Done, BadWords, BadConf, BadFormat, BadRules, FileFault, FileShort, DiskFault, DbDamaged, KeepDiffers, OutFault, CounterFull, NoMemory}
 use Rattle.ga_one_run.proofs.Agreeing.{answers-on}
 use Rattle.ga_one_run.proofs.Endings.{stops-rose}
 use Rattle.ga_one_run.proofs.OneAnswer.{OneDatabase}
@@ -129,24 +129,25 @@ module _ (line : LineSetup) (s : Settings) (a b : FilesView) (same : Same a b (i
 
 -- a fault line that names no file and no target
 abbrev Nameless : Status → Type 0
-Nameless status = (words : List (List ℕ)) (name : List ℕ) → NamesFailed words status name → name ≡ []
+Nameless status = (conf words : List (List ℕ)) (name : List ℕ) → NamesFailed conf words status name → name ≡ []
 
 nameless : (status : Status) → ¬ IsTrouble status → Nameless status
-nameless Done h = λ words name e. e
-nameless (BadWords fault) h = λ words name e. e
-nameless (BadFormat which fault) h = λ words name e. e
-nameless (BadRules at) h = λ words name e. e
+nameless Done h = λ conf words name e. e
+nameless (BadWords fault) h = λ conf words name e. e
+nameless (BadConf at) h = λ conf words name e. e
+nameless (BadFormat which fault) h = λ conf words name e. e
+nameless (BadRules at) h = λ conf words name e. e
 nameless (FileFault file) h = absurd (h tt)
 nameless (FileShort file at) h = absurd (h tt)
 nameless DiskFault h = absurd (h tt)
-nameless (DbDamaged side at) h = λ words name e. e
-nameless (KeepDiffers number given) h = λ words name e. e
+nameless (DbDamaged side at) h = λ conf words name e. e
+nameless (KeepDiffers number given) h = λ conf words name e. e
 nameless (OutFault to at) h = absurd (h tt)
-nameless (CounterFull which total) h = λ words name e. e
+nameless (CounterFull which total) h = λ conf words name e. e
 nameless NoMemory h = absurd (h tt)
 
-one-line : (words words' : List (List ℕ)) (status : Status) (line other : List ℕ) → Nameless status → IsFaultLine words status line → IsFaultLine words' status other → line ≡ other
-one-line words words' status line other none h k = h.is ∙ ap (λ (name : List ℕ). fault_line name status) (none words h.name h.names ∙ sym (none words' k.name k.names)) ∙ sym k.is
+one-line : (conf words conf' words' : List (List ℕ)) (status : Status) (line other : List ℕ) → Nameless status → IsFaultLine conf words status line → IsFaultLine conf' words' status other → line ≡ other
+one-line conf words conf' words' status line other none h k = h.is ∙ ap (λ (name : List ℕ). fault_line name status) (none conf words h.name h.names ∙ sym (none conf' words' k.name k.names)) ∙ sym k.is
 
 -- a target without a fault took all
 taken : (text : List ℕ) (old new : TargetView) → ¬ Rose old.faults new.faults → TakesOrStops text old new → new ≡ takes text old
@@ -154,10 +155,10 @@ taken text old new still (inl all) = all
 taken text old new still (inr (at, stops)) = absurd (still (stops-rose at text old new stops))
 
 -- no fault of the report's target rose
-output-still : (words : List (List ℕ)) (sides : Sides) (r : RunView) → IsUntroubled words sides r → (file : Option (List ℕ))
+output-still : (conf words : List (List ℕ)) (sides : Sides) (r : RunView) → IsUntroubled conf words sides r → (file : Option (List ℕ))
     → ¬ Rose (target (target_of file) r.old.outs).faults (target (target_of file) r.new.outs).faults
-output-still words sides r u None = u.output
-output-still words sides r u (Some name) = u.file
+output-still conf words sides r u None = u.output
+output-still conf words sides r u (Some name) = u.file
 
 -- the database that a run left, by what it yields and what these sides had
 pub record IsLeftBy (mode : Mode) (keep : ℕ) (sides : Sides) (yield : Yield) (db : DbValue) : Type 0 where
@@ -184,17 +185,18 @@ abbrev Shows : Settings → RunView → Option Yield → Type 0
 Shows s r None = SaysOnly r.old r.new × (r.new.disk.seen ≡ r.old.disk.seen)
 Shows s r (Some yield) = (r.new.outs ≡ but_errors r.new.outs (delivered (report_file s.generate s.output.name) yield.text r.old.outs)) × Left s r yield
 
-module _ (law : ReadAsTold) (database : OneDatabase) (words : List (List ℕ)) (sides : Sides) (s : Settings) (line : LineSetup) (says : WordsOf words (Ok s)) (is : IsLineSetup s line) where
-  module _ (r : RunView) (u : IsUntroubled words sides r) where
+module _ (law : ReadAsTold) (database : OneDatabase) (conf words : List (List ℕ)) (sides : Sides) (s : Settings) (line : LineSetup) (says : JoinedOf conf words (Ok s)) (is : IsLineSetup s line) where
+  module _ (r : RunView) (u : IsUntroubled conf words sides r) where
     over : RunsOver line s r.old r.new r.status
     over = u.is_run.runs s line says is
 
     ends-as : HasGoodInput r.status → (r.status ≡ Done) ⊎ (r.status ≡ NoMemory)
-    ends-as good = over.complete (inr (u.faults, u.shorts)) u.disk (inr (output-still words sides r u (report_file s.generate s.output.name))) good
+    ends-as good = over.complete (inr (u.faults, u.shorts)) u.disk (inr (output-still conf words sides r u (report_file s.generate s.output.name))) good
 
     pub settled : (status : Status) → r.status ≡ status → ¬ IsTrouble status
     settled Done e h = h
     settled (BadWords fault) e h = h
+    settled (BadConf at) e h = h
     settled (BadFormat which fault) e h = h
     settled (BadRules at) e h = h
     settled (FileFault file) e h = by (ends-as (record { rules = λ n f. cc; database = λ n m f. cc; number = λ n m f. cc; counters = λ w n f. cc }))
@@ -264,6 +266,7 @@ module _ (law : ReadAsTold) (database : OneDatabase) (words : List (List ℕ)) (
     ending Done fine h =
         (Some (yield-of law line s r.old r.new sides u.told_all (u.told_sides s says) h), done-answers law line s r.old r.new sides u.told_all (u.told_sides s says) h, (h.printed, left-by h.has (yield-of law line s r.old r.new sides u.told_all (u.told_sides s says) h) refl refl))
     ending (BadWords fault) fine h = absurd h
+    ending (BadConf at) fine h = absurd h
     ending (BadFormat which fault) fine h = absurd h
     ending (BadRules at) fine h = by-refusal (BadRules at) (untroubled (BadRules at) fine (answers law line s r.old r.new sides u.told_all (u.told_sides s says) (BadRules at) h)) (λ e. cc) h.1
         (ap (λ (v : DiskView). v.seen) h.0.disk.view)
@@ -310,8 +313,8 @@ next-same s x y db db' e h k =
     let h' = subst (λ (v : DbValue). IsNext (mode_of s) v db) e h in
     (h'.generation ∙ sym k.generation, h'.records ∙ sym k.records)
 
-module _ (database : OneDatabase) (words words' : List (List ℕ)) (sides sides' : Sides) (agree : SidesAgree sides sides') (a b : RunView) (u : IsUntroubled words sides a)
-    (v : IsUntroubled words' sides' b) where
+module _ (database : OneDatabase) (conf words conf' words' : List (List ℕ)) (sides sides' : Sides) (agree : SidesAgree sides sides') (a b : RunView) (u : IsUntroubled conf words sides a)
+    (v : IsUntroubled conf' words' sides' b) where
   -- with one status and one report, all is alike
   alike : (status : Status) → Nameless status → a.status ≡ status → b.status ≡ status → (report : Option (Option (List ℕ) × List ℕ)) → Wrote report a.old.outs a.new.outs → Wrote report b.old.outs b.new.outs
       → (a.old.disk.seen ≡ Some sides → b.old.disk.seen ≡ Some sides' → SameDatabase a.new b.new) → Alike sides sides' a b
@@ -319,7 +322,7 @@ module _ (database : OneDatabase) (words words' : List (List ℕ)) (sides sides'
       let here = u.is_run.reports.line in
       let there = v.is_run.reports.line in
       let lines : there.0 ≡ here.0 =
-      one-line words' words status there.0 here.0 unnamed (subst (λ (st : Status). IsFaultLine words' st there.0) f there.1) (subst (λ (st : Status). IsFaultLine words st here.0) e here.1) in
+      one-line conf' words' conf words status there.0 here.0 unnamed (subst (λ (st : Status). IsFaultLine conf' words' st there.0) f there.1) (subst (λ (st : Status). IsFaultLine conf words st here.0) e here.1) in
       record {
         status = e ∙ sym f;
         report = report;
@@ -395,19 +398,19 @@ abbrev pub OneAnswer : Type 0
 OneAnswer = (s : Settings) (line : LineSetup) → IsLineSetup s line → (files : FilesView) (sides : Sides) (a b : Status) (yielded other : Option Yield) → Answers line s files sides a yielded
     → Answers line s files sides b other → (a ≡ b) × (yielded ≡ other)
 
-module _ (answer : OneAnswer) (law : ReadAsTold) (database : OneDatabase) (words words' : List (List ℕ)) (sides sides' : Sides) (agree : SidesAgree sides sides') (a b : RunView)
-    (u : IsUntroubled words sides a) (v : IsUntroubled words' sides' b) (same : HaveSameInputs words a b) where
+module _ (answer : OneAnswer) (law : ReadAsTold) (database : OneDatabase) (conf words conf' words' : List (List ℕ)) (sides sides' : Sides) (agree : SidesAgree sides sides') (a b : RunView)
+    (u : IsUntroubled conf words sides a) (v : IsUntroubled conf' words' sides' b) (same : HaveSameInputs conf words a b) where
   -- both ran over their inputs, by the same settings but for the workers
-  module _ (s : Settings) (line : LineSetup) (jobs chunk : ℕ) (says : WordsOf words (Ok s)) (is : IsLineSetup s line) (says' : WordsOf words' (Ok (with_workers jobs chunk s))) where
+  module _ (s : Settings) (line : LineSetup) (jobs chunk : ℕ) (says : JoinedOf conf words (Ok s)) (is : IsLineSetup s line) (says' : JoinedOf conf' words' (Ok (with_workers jobs chunk s))) where
     is' : IsLineSetup (with_workers jobs chunk s) line
     is' = setup-by line s jobs chunk is
 
     shown-alike : (yield : Option Yield) → a.status ≡ b.status → Shows s a yield → Shows s b yield → Alike sides sides' a b
     shown-alike None e (quiet, still) (quiet', still') =
-        alike database words words' sides sides' agree a b u v b.status (nameless b.status (settled law database words' sides' (with_workers jobs chunk s) line says' is' b v b.status refl)) e refl None quiet quiet'
+        alike database conf words conf' words' sides sides' agree a b u v b.status (nameless b.status (settled law database conf' words' sides' (with_workers jobs chunk s) line says' is' b v b.status refl)) e refl None quiet quiet'
         (still-same database sides sides' agree a b still still')
     shown-alike (Some yield) e (printed, left) (printed', left') =
-        alike database words words' sides sides' agree a b u v b.status (nameless b.status (settled law database words' sides' (with_workers jobs chunk s) line says' is' b v b.status refl)) e refl
+        alike database conf words conf' words' sides sides' agree a b u v b.status (nameless b.status (settled law database conf' words' sides' (with_workers jobs chunk s) line says' is' b v b.status refl)) e refl
         (Some (report_file s.generate s.output.name, yield.text)) printed printed' (by left left')
       where
         by : Left s a yield → Left s b yield → a.old.disk.seen ≡ Some sides → b.old.disk.seen ≡ Some sides' → SameDatabase a.new b.new
@@ -429,51 +432,51 @@ module _ (answer : OneAnswer) (law : ReadAsTold) (database : OneDatabase) (words
 
     both-alike : Alike sides sides' a b
     both-alike =
-        let (yield, answers-a, shows-a) = ended law database words sides s line says is a u in
-        let (other, answers-b, shows-b) = ended law database words' sides' (with_workers jobs chunk s) line says' is' b v in
+        let (yield, answers-a, shows-a) = ended law database conf words sides s line says is a u in
+        let (other, answers-b, shows-b) = ended law database conf' words' sides' (with_workers jobs chunk s) line says' is' b v in
         let alike-b = answers-on agree line s b.old.files b.status other (answers-by line s jobs chunk b.old.files sides' b.status other answers-b) in
         let one = answer s line is a.old.files sides a.status b.status yield other answers-a (answers-along line s a.old.files b.old.files (same s says) sides b.status other alike-b) in
         shown-alike yield one.0 shows-a (subst (λ (y : Option Yield). Shows s b y) (sym one.1) shows-b)
 
 -- both have the same words
-module _ (answer : OneAnswer) (law : ReadAsTold) (database : OneDatabase) (words : List (List ℕ)) (sides sides' : Sides) (agree : SidesAgree sides sides') (a b : RunView)
-    (u : IsUntroubled words sides a) (v : IsUntroubled words sides' b) (same : HaveSameInputs words a b) where
+module _ (answer : OneAnswer) (law : ReadAsTold) (database : OneDatabase) (conf words : List (List ℕ)) (sides sides' : Sides) (agree : SidesAgree sides sides') (a b : RunView)
+    (u : IsUntroubled conf words sides a) (v : IsUntroubled conf words sides' b) (same : HaveSameInputs conf words a b) where
   pub one-run : Alike sides sides' a b
   one-run = by u.is_run.reads.decided
     where
-      refused : AreRefused words → Alike sides sides' a b
+      refused : AreRefused conf words → Alike sides sides' a b
       refused (inl (fault, bad)) =
-          refused-alike database words words sides sides' agree a b u v (BadWords fault) (λ ws name e. e) (λ e. cc) (λ to at e. cc) ((u.is_run.reads.bad_words fault).1 (bad, u.fed)) ((v.is_run.reads.bad_words fault).1 (bad, v.fed))
+          refused-alike database conf words conf words sides sides' agree a b u v (BadWords fault) (λ front ws name e. e) (λ e. cc) (λ to at e. cc) ((u.is_run.reads.bad_words fault).1 (bad, u.fed)) ((v.is_run.reads.bad_words fault).1 (bad, v.fed))
           (u.is_run.reads.untouched (inl (fault, bad))) (v.is_run.reads.untouched (inl (fault, bad)))
       refused (inr (which, fault, bad)) =
-          refused-alike database words words sides sides' agree a b u v (BadFormat which fault) (λ ws name e. e) (λ e. cc) (λ to at e. cc) ((u.is_run.reads.bad_format which fault).1 (bad, u.fed))
+          refused-alike database conf words conf words sides sides' agree a b u v (BadFormat which fault) (λ front ws name e. e) (λ e. cc) (λ to at e. cc) ((u.is_run.reads.bad_format which fault).1 (bad, u.fed))
           ((v.is_run.reads.bad_format which fault).1 (bad, v.fed)) (u.is_run.reads.untouched (inr (which, fault, bad))) (v.is_run.reads.untouched (inr (which, fault, bad)))
 
-      by : AreRefused words ⊎ HaveSetup words ⊎ ((a.status ≡ NoMemory) × NothingWasRead a.old a.new) → Alike sides sides' a b
+      by : AreRefused conf words ⊎ HaveSetup conf words ⊎ ((a.status ≡ NoMemory) × NothingWasRead a.old a.new) → Alike sides sides' a b
       by (inl h) = refused h
-      by (inr (inl (s, says, (line, is)))) = both-alike answer law database words words sides sides' agree a b u v same s line s.jobs s.chunk says is says
+      by (inr (inl (s, says, (line, is)))) = both-alike answer law database conf words conf words sides sides' agree a b u v same s line s.jobs s.chunk says is says
       by (inr (inr e)) = absurd (u.fed e.0)
 
 -- their words say the same but for the workers
-module _ (reading : OneWords) (answer : OneAnswer) (law : ReadAsTold) (database : OneDatabase) (words words' : List (List ℕ)) (sides sides' : Sides) (agree : SidesAgree sides sides') (a b : RunView)
-    (u : IsUntroubled words sides a) (v : IsUntroubled words' sides' b) (same : HaveSameInputs words a b) (say : DifferInWorkers words words') where
-  one-settings : (s : Settings) → WordsOf words (Ok s) → s ≡ say.settings
-  one-settings s says = let e = reading words (Ok s) (Ok say.settings) says say.says in cc
+module _ (reading : OneWords) (answer : OneAnswer) (law : ReadAsTold) (database : OneDatabase) (conf words conf' words' : List (List ℕ)) (sides sides' : Sides) (agree : SidesAgree sides sides') (a b : RunView)
+    (u : IsUntroubled conf words sides a) (v : IsUntroubled conf' words' sides' b) (same : HaveSameInputs conf words a b) (say : DifferInWorkers conf words conf' words') where
+  one-settings : (s : Settings) → JoinedOf conf words (Ok s) → s ≡ say.settings
+  one-settings s says = let e = reading conf words (Ok s) (Ok say.settings) says say.says in cc
 
   pub one-run-by : Alike sides sides' a b
   one-run-by = by u.is_run.reads.decided
     where
-      refused : AreRefused words → Alike sides sides' a b
-      refused (inl (fault, bad)) = let e = reading words (Ok say.settings) (Err fault) say.says bad in absurd (cc e)
+      refused : AreRefused conf words → Alike sides sides' a b
+      refused (inl (fault, bad)) = let e = reading conf words (Ok say.settings) (Err fault) say.says bad in absurd (cc e)
       refused (inr (which, fault, (s, says, bad))) =
           let bad' : IsRefused say.settings which fault = subst (λ (s : Settings). IsRefused s which fault) (one-settings s says) bad in
-          let here : HaveRefused words which fault = (say.settings, say.says, bad') in
-          let there : HaveRefused words' which fault = (with_workers say.jobs say.chunk say.settings, say.says', refused-by say.settings say.jobs say.chunk which fault bad') in
-          refused-alike database words words' sides sides' agree a b u v (BadFormat which fault) (λ ws name e. e) (λ e. cc) (λ to at e. cc) ((u.is_run.reads.bad_format which fault).1 (here, u.fed))
+          let here : HaveRefused conf words which fault = (say.settings, say.says, bad') in
+          let there : HaveRefused conf' words' which fault = (with_workers say.jobs say.chunk say.settings, say.says', refused-by say.settings say.jobs say.chunk which fault bad') in
+          refused-alike database conf words conf' words' sides sides' agree a b u v (BadFormat which fault) (λ front ws name e. e) (λ e. cc) (λ to at e. cc) ((u.is_run.reads.bad_format which fault).1 (here, u.fed))
           ((v.is_run.reads.bad_format which fault).1 (there, v.fed)) (u.is_run.reads.untouched (inr (which, fault, here))) (v.is_run.reads.untouched (inr (which, fault, there)))
 
-      by : AreRefused words ⊎ HaveSetup words ⊎ ((a.status ≡ NoMemory) × NothingWasRead a.old a.new) → Alike sides sides' a b
+      by : AreRefused conf words ⊎ HaveSetup conf words ⊎ ((a.status ≡ NoMemory) × NothingWasRead a.old a.new) → Alike sides sides' a b
       by (inl h) = refused h
       by (inr (inl (s, says, (line, is)))) =
-          both-alike answer law database words words' sides sides' agree a b u v same say.settings line say.jobs say.chunk say.says (subst (λ (s : Settings). IsLineSetup s line) (one-settings s says) is) say.says'
+          both-alike answer law database conf words conf' words' sides sides' agree a b u v same say.settings line say.jobs say.chunk say.says (subst (λ (s : Settings). IsLineSetup s line) (one-settings s says) is) say.says'
       by (inr (inr e)) = absurd (u.fed e.0)

@@ -34,7 +34,7 @@ use Rattle.ga_one_run.specs.Told.{Answers, CountsTold, FillsTold, RulesAreTold, 
 use Rattle.ga_one_run.specs.Told.Answers.{answers_rules, answers_damage, answers_differs, answers_full, answers_generation, answers_done}
 use Rattle.ga_one_run.specs.Outside.{Outside}
 use Rattle.ga_one_run.specs.declared.status.Status.{Status}
-use Rattle.ga_one_run.specs.declared.status.Status.TheVariants.{Done, BadWords, BadFormat, BadRules, FileFault, FileShort, DiskFault, DbDamaged, KeepDiffers, OutFault, CounterFull, NoMemory}
+use Rattle.ga_one_run.specs.declared.status.Status.TheVariants.{Done, BadWords, BadConf, BadFormat, BadRules, FileFault, FileShort, DiskFault, DbDamaged, KeepDiffers, OutFault, CounterFull, NoMemory}
 
 -- what the law of told logs says
 pub record ReadAsTold : Type 0 where
@@ -197,6 +197,7 @@ module _ (law : ReadAsTold) (line : LineSetup) (s : Settings) where
     pub answers : (status : Status) → Ends line s old new status → IsTrouble status ⊎ ((yield : Option Yield) × Answers line s old.files sides status yield)
     answers Done h = inr (Some (yield-of h), done-answers h)
     answers (BadWords fault) h = absurd h
+    answers (BadConf at) h = absurd h
     answers (BadFormat which fault) h = absurd h
     answers (BadRules at) h = inr (None, bad-answers at h.0)
     answers (FileFault file) h = inl tt

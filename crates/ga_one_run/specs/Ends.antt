@@ -35,9 +35,9 @@ use Rattle.ga_one_run.specs.Reports.{IsTextOf}
 use Rattle.ga_one_run.specs.Setups.{setup_of}
 use Rattle.ga_one_run.specs.Outside.{Outside}
 use Rattle.ga_one_run.specs.declared.status.Input.{Input}
-use Rattle.ga_one_run.specs.declared.status.Input.TheVariants.{Rules, Log}
+use Rattle.ga_one_run.specs.declared.status.Input.TheVariants.{Conf, Rules, Log}
 use Rattle.ga_one_run.specs.declared.status.Status.{Status}
-use Rattle.ga_one_run.specs.declared.status.Status.TheVariants.{Done, BadWords, BadFormat, BadRules, FileFault, FileShort, DiskFault, DbDamaged, KeepDiffers, OutFault, CounterFull, NoMemory}
+use Rattle.ga_one_run.specs.declared.status.Status.TheVariants.{Done, BadWords, BadConf, BadFormat, BadRules, FileFault, FileShort, DiskFault, DbDamaged, KeepDiffers, OutFault, CounterFull, NoMemory}
 
 -- no target but standard error took a byte, and no file was made
 abbrev pub SaysOnly : Outside → Outside → Type 0
@@ -97,6 +97,7 @@ pub record MissesTheLog (line : LineSetup) (s : Settings) (old new : Outside) (p
 
 -- a file wasn't read, for this fault
 abbrev pub MissesInput : LineSetup → Settings → Outside → Outside → Input → PlaceFault → Type 0
+MissesInput line s old new Conf fault = ⊥
 MissesInput line s old new Rules fault = (name : List ℕ) × (s.browsers_file ≡ Some name)
     × MissesLog Whole [] name old.files new.files fault × IsUntouched old.disk new.disk old.images new.images
 MissesInput line s old new (Log place) fault = MissesTheLog line s old new place fault
@@ -154,6 +155,7 @@ pub record FailsAtLast (line : LineSetup) (s : Settings) (old new : Outside) : T
 abbrev pub Ends : LineSetup → Settings → Outside → Outside → Status → Type 0
 Ends line s old new Done = Finishes line s old new
 Ends line s old new (BadWords fault) = ⊥
+Ends line s old new (BadConf at) = ⊥
 Ends line s old new (BadFormat which fault) = ⊥
 Ends line s old new (BadRules at) = HasBadRule s old new at × SaysOnly old new
 Ends line s old new (FileFault file) = FailsInput line s old new file × SaysOnly old new
@@ -173,10 +175,13 @@ Ends line s old new NoMemory = LooksAtMost s old.disk new.disk old.images new.im
 abbrev pub AreFollowed : (line : LineSetup) (s : Settings) (old new : Outside) (status : Status) → Ends line s old new status → List Entry → Type 0
 AreFollowed line s old new Done ends entries = entries ≡ ends.has.come.counted.entries
 AreFollowed line s old new (BadWords fault) ends entries = ⊥
+AreFollowed line s old new (BadConf at) ends entries = ⊥
 AreFollowed line s old new (BadFormat which fault) ends entries = ⊥
 AreFollowed line s old new (BadRules at) ends entries = ⊥
+AreFollowed line s old new (FileFault Conf) ends entries = ⊥
 AreFollowed line s old new (FileFault Rules) ends entries = ⊥
 AreFollowed line s old new (FileFault (Log place)) ends entries = entries ≡ ends.0.misses.begun.entries
+AreFollowed line s old new (FileShort Conf at) ends entries = ⊥
 AreFollowed line s old new (FileShort Rules at) ends entries = ⊥
 AreFollowed line s old new (FileShort (Log place) at) ends entries = entries ≡ ends.0.begun.entries
 AreFollowed line s old new DiskFault (inl h, quiet) entries = ⊥

@@ -12,7 +12,7 @@ use Rattle.ga_ports.specs.Files.{FilesView}
 use Rattle.ga_store.specs.Database.{DbValue}
 use Rattle.ga_words.specs.declared.settings.Settings.{Settings}
 use Rattle.ga_one_run.specs.declared.status.Input.{Input}
-use Rattle.ga_one_run.specs.declared.status.Input.TheVariants.{Rules, Log}
+use Rattle.ga_one_run.specs.declared.status.Input.TheVariants.{Conf, Rules, Log}
 
 -- the names of a run's files
 abbrev pub rules_file : Option (List ℕ) → List (List ℕ)
@@ -22,8 +22,9 @@ rules_file (Some name) = name ∷ []
 abbrev pub inputs_of : Settings → List (List ℕ)
 inputs_of s = rules_file s.browsers_file ++ s.logs
 
--- how many files stand before this one
+-- how many of a run's files stand before this one; a configuration file is read before all of them
 abbrev pub place_of : Settings → Input → ℕ
+place_of s Conf = 0
 place_of s Rules = 0
 place_of s (Log place) = length (rules_file s.browsers_file) + place
 

@@ -8,6 +8,7 @@ pub mod Outside
 pub mod Printing
 pub mod Reports
 pub mod Run
+pub mod Configured
 pub mod Setups
 pub mod Statuses
 pub mod Steps

@@ -7,11 +7,11 @@ use Rattle.ga_ports.specs.Files.{told}
 use Rattle.ga_ports.specs.Outs.{OutsView, takes}
 use Rattle.ga_store.specs.Database.{DbOf, DbValue, Reading}
 use Rattle.ga_store.specs.Database.Reading.{stored as reads_as}
-use Rattle.ga_words.specs.WordsOf.{WordsOf}
+use Rattle.ga_words.specs.Joined.{JoinedOf}
 use Rattle.ga_words.specs.declared.settings.Settings.{Settings}
 use Rattle.ga_one_run.specs.Inputs.{inputs_of}
 use Rattle.ga_one_run.specs.Printing.{but_errors, delivered}
-use Rattle.ga_one_run.specs.Run.{IsRun, TellsSides}
+use Rattle.ga_one_run.specs.Run.{RunsWords, TellsSides}
 use Rattle.ga_one_run.specs.Outside.{Outside}
 use Rattle.ga_one_run.specs.declared.status.Status.{Status}
 use Rattle.ga_one_run.specs.declared.status.Status.TheVariants.{NoMemory}
@@ -26,10 +26,10 @@ abbrev pub run_of : Outside → Outside → Status → RunView
 run_of old new status = record { old = old; new = new; status = status }
 
 -- the run was over told files, and over told sides where it uses them; no count of a fault rose, and no memory was wanted
-pub record IsUntroubled (words : List (List ℕ)) (sides : Sides) (run : RunView) : Type 0 where
-  pub is_run : IsRun words run.old run.new run.status
+pub record IsUntroubled (conf words : List (List ℕ)) (sides : Sides) (run : RunView) : Type 0 where
+  pub is_run : RunsWords conf words run.old run.new run.status
   pub told_all : run.old.files.contents ≢ None
-  pub told_sides : (s : Settings) → WordsOf words (Ok s) → TellsSides s run.old.disk sides
+  pub told_sides : (s : Settings) → JoinedOf conf words (Ok s) → TellsSides s run.old.disk sides
   pub faults : ¬ Rose run.old.files.counts.faults run.new.files.counts.faults
   pub shorts : ¬ Rose run.old.files.counts.shorts run.new.files.counts.shorts
   pub disk : ¬ Rose run.old.disk.counts.faults run.new.disk.counts.faults
@@ -39,8 +39,8 @@ pub record IsUntroubled (words : List (List ℕ)) (sides : Sides) (run : RunView
   pub fed : run.status ≢ NoMemory
 
 -- the files that the words name have the same contents
-abbrev pub HaveSameInputs : List (List ℕ) → RunView → RunView → Type 0
-HaveSameInputs words a b = (s : Settings) → WordsOf words (Ok s)
+abbrev pub HaveSameInputs : List (List ℕ) → List (List ℕ) → RunView → RunView → Type 0
+HaveSameInputs conf words a b = (s : Settings) → JoinedOf conf words (Ok s)
     → AllByRecursion (λ name. told name a.old.files.contents ≡ told name b.old.files.contents) (inputs_of s)
 
 -- the same settings but for the workers: other jobs, and other lines that a job takes at once
@@ -48,12 +48,12 @@ abbrev pub with_workers : ℕ → ℕ → Settings → Settings
 with_workers jobs chunk s = record s { jobs = jobs; chunk = chunk }
 
 -- two command lines say the same settings but for the workers
-pub record DifferInWorkers (words words' : List (List ℕ)) : Type 0 where
+pub record DifferInWorkers (conf words conf' words' : List (List ℕ)) : Type 0 where
   pub settings : Settings
   pub jobs : ℕ
   pub chunk : ℕ
-  pub says : WordsOf words (Ok settings)
-  pub says' : WordsOf words' (Ok (with_workers jobs chunk settings))
+  pub says : JoinedOf conf words (Ok settings)
+  pub says' : JoinedOf conf' words' (Ok (with_workers jobs chunk settings))
 
 -- what a run wrote as its report: nothing, or a text to a file of some name or to standard output
 abbrev pub Wrote : Option (Option (List ℕ) × List ℕ) → OutsView → OutsView → Type 0

@@ -1,5 +1,6 @@
--- What one run of goaccess is: over the words, plain views of the files, the disk and the targets before and after, and the
--- status.
+-- What one run of goaccess is by settings: over the words of a configuration file, which may be none, and then those of the
+-- command line, plain views of the files, the disk and the targets before and after, and the status. A run by the words of the
+-- command line alone, which may name such a file, is `IsRun` of specs/Configured.antt.
 use Rattle.std.specs.Prelude.{◌≡◌, ◌≢◌, ℕ, ◌⊎◌, ◌↔◌, ◌≤◌, true, false, List, length, Some, None, Ok, Err, Option, slice_get}
 use Rattle.ga_base.specs.declared.counts.Counter.{Counter}
 use Rattle.ga_base.specs.declared.formats.FormatFault.{FormatFault}
@@ -15,7 +16,7 @@ use Rattle.ga_ports.specs.Outs.{OutsView, target}
 use Rattle.ga_ports.specs.Trace.{FilesTrace, OutsTrace}
 use Rattle.ga_ports.specs.declared.file_counts.FileCounts.{FileCounts}
 use Rattle.ga_ports.specs.declared.outs.To.{To}
-use Rattle.ga_words.specs.WordsOf.{WordsOf}
+use Rattle.ga_words.specs.Joined.{JoinedOf}
 use Rattle.ga_words.specs.declared.fault.WordFault.{WordFault}
 use Rattle.ga_words.specs.declared.settings.Settings.{Settings}
 use Rattle.ga_one_run.specs.Ends.{AreFollowed, Ends, HasReport}
@@ -33,33 +34,33 @@ use Rattle.ga_one_run.specs.declared.status.Which.{Which}
 -- ---- the words
 
 -- this of the formats that the words say is the first that is refused
-abbrev pub HaveRefused : List (List ℕ) → Which → FormatFault → Type 0
-HaveRefused words which fault = (s : Settings) × WordsOf words (Ok s) × IsRefused s which fault
+abbrev pub HaveRefused : List (List ℕ) → List (List ℕ) → Which → FormatFault → Type 0
+HaveRefused conf words which fault = (s : Settings) × JoinedOf conf words (Ok s) × IsRefused s which fault
 
 -- the words are refused, or one of their formats is
-abbrev pub AreRefused : List (List ℕ) → Type 0
-AreRefused words = ((fault : WordFault) × WordsOf words (Err fault)) ⊎ ((which : Which) × (fault : FormatFault) × HaveRefused words which fault)
+abbrev pub AreRefused : List (List ℕ) → List (List ℕ) → Type 0
+AreRefused conf words = ((fault : WordFault) × JoinedOf conf words (Err fault)) ⊎ ((which : Which) × (fault : FormatFault) × HaveRefused conf words which fault)
 
 -- the words say settings whose formats are good
-abbrev pub HaveSetup : List (List ℕ) → Type 0
-HaveSetup words = (s : Settings) × WordsOf words (Ok s) × ((line : LineSetup) × IsLineSetup s line)
+abbrev pub HaveSetup : List (List ℕ) → List (List ℕ) → Type 0
+HaveSetup conf words = (s : Settings) × JoinedOf conf words (Ok s) × ((line : LineSetup) × IsLineSetup s line)
 
 -- no file was asked for, and the disk wasn't touched
 pub record NothingWasRead (old new : Outside) : Type 0 where
   pub files : new.files ≡ old.files
   pub disk : IsUntouched old.disk new.disk old.images new.images
 
-pub record ReadsWords (words : List (List ℕ)) (old new : Outside) (status : Status) : Type 0 where
+pub record ReadsWords (conf words : List (List ℕ)) (old new : Outside) (status : Status) : Type 0 where
   -- words are refused exactly where they say no settings, with the fault that they have, unless memory runs out
-  pub bad_words : (fault : WordFault) → (status ≡ BadWords fault) ↔ (WordsOf words (Err fault) × (status ≢ NoMemory))
+  pub bad_words : (fault : WordFault) → (status ≡ BadWords fault) ↔ (JoinedOf conf words (Err fault) × (status ≢ NoMemory))
   -- a format is refused exactly where it is the first bad one
   pub bad_format : (which : Which) (fault : FormatFault)
-      → (status ≡ BadFormat which fault) ↔ (HaveRefused words which fault × (status ≢ NoMemory))
-  pub untouched : AreRefused words → NothingWasRead old new
+      → (status ≡ BadFormat which fault) ↔ (HaveRefused conf words which fault × (status ≢ NoMemory))
+  pub untouched : AreRefused conf words → NothingWasRead old new
   -- nor does a run read anything whose words say no setup
-  pub unsaid : (HaveSetup words → ⊥) → NothingWasRead old new
+  pub unsaid : (HaveSetup conf words → ⊥) → NothingWasRead old new
   -- all other words say a run whose formats are good, unless memory ran out before anything was read
-  pub decided : AreRefused words ⊎ HaveSetup words ⊎ ((status ≡ NoMemory) × NothingWasRead old new)
+  pub decided : AreRefused conf words ⊎ HaveSetup conf words ⊎ ((status ≡ NoMemory) × NothingWasRead old new)
 
 -- ---- what served
 
@@ -138,7 +139,7 @@ pub record RunsOver (line : LineSetup) (s : Settings) (old new : Outside) (statu
   -- a call of the disk failed exactly where the status says so
   pub disk_faults : new.disk.counts.faults ≡ disk_faults_after status old.disk.counts.faults
 
--- ---- one run
+-- ---- one run by these words
 
 -- the counts of the files' failed and short calls after a run with this status
 abbrev pub faults_after : Status → FileCounts → FileCounts
@@ -153,19 +154,19 @@ pub record SameFaults (old new : FileCounts) : Type 0 where
   pub short_at : new.short_at ≡ old.short_at
 
 -- what is said of the run
-pub record Reports (words : List (List ℕ)) (old new : OutsView) (status : Status) : Type 0 where
+pub record Reports (conf words : List (List ℕ)) (old new : OutsView) (status : Status) : Type 0 where
   -- after a refusal no file was made, and no target but standard error took a byte
   pub refused : status ≢ Done → ((to : To) (at : ℕ) → status ≢ OutFault to at) → new ≡ but_errors new old
   -- the fault line, or a proper front of it where standard error failed
-  pub line : (text : List ℕ) × IsFaultLine words status text × TakesOrStops text old.stderr new.stderr
+  pub line : (text : List ℕ) × IsFaultLine conf words status text × TakesOrStops text old.stderr new.stderr
   -- nothing is said where the run is done
   pub quiet : status ≡ Done → new.stderr ≡ old.stderr
 
-pub record IsRun (words : List (List ℕ)) (old new : Outside) (status : Status) : Type 0 where
-  pub reads : ReadsWords words old new status
+pub record RunsWords (conf words : List (List ℕ)) (old new : Outside) (status : Status) : Type 0 where
+  pub reads : ReadsWords conf words old new status
   -- the run is over what the words name
-  pub runs : (s : Settings) (line : LineSetup) → WordsOf words (Ok s) → IsLineSetup s line → RunsOver line s old new status
-  pub reports : Reports words old.outs new.outs status
+  pub runs : (s : Settings) (line : LineSetup) → JoinedOf conf words (Ok s) → IsLineSetup s line → RunsOver line s old new status
+  pub reports : Reports conf words old.outs new.outs status
   -- the files' faults are counted as the status says
   pub faults : SameFaults (faults_after status old.files.counts) new.files.counts
   -- calls led from the views before to those after, each by its own clauses

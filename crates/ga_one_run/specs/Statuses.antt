@@ -5,23 +5,25 @@ use Rattle.ga_base.specs.declared.counts.Counter.{Counter}
 use Rattle.ga_base.specs.declared.counts.Counter.TheVariants.{Lines, Bytes, Micros, Generations}
 use Rattle.ga_base.specs.FormatFaults.{fault_place, fault_text}
 use Rattle.ga_ports.specs.declared.outs.To.{To}
-use Rattle.ga_words.specs.WordsOf.{WordsOf}
+use Rattle.ga_words.specs.Joined.{JoinedOf}
 use Rattle.ga_words.specs.declared.fault.WordFault.{WordFault}
 use Rattle.ga_words.specs.declared.fault.WordFault.TheVariants.{UnknownOption, MissingValue, BadValue, NoFormat, NoInput, Conflict, NoMemory as WordNoMemory}
 use Rattle.ga_words.specs.declared.settings.Settings.{Settings}
 use Rattle.ga_one_run.specs.Printing.{report_file, target_of}
 use Rattle.ga_one_run.specs.declared.status.Input.{Input}
-use Rattle.ga_one_run.specs.declared.status.Input.TheVariants.{Rules as RulesInput, Log as LogInput}
+use Rattle.ga_one_run.specs.declared.status.Input.TheVariants.{Conf as ConfInput, Rules as RulesInput, Log as LogInput}
 use Rattle.ga_one_run.specs.declared.status.Status.{Status}
-use Rattle.ga_one_run.specs.declared.status.Status.TheVariants.{Done, BadWords, BadFormat, BadRules, FileFault, FileShort, DiskFault, DbDamaged, KeepDiffers, OutFault, CounterFull, NoMemory}
+use Rattle.ga_one_run.specs.declared.status.Status.TheVariants.{Done, BadWords, BadConf, BadFormat, BadRules, FileFault, FileShort, DiskFault, DbDamaged, KeepDiffers, OutFault, CounterFull, NoMemory}
 use Rattle.ga_one_run.specs.declared.status.Which.{Which}
 use Rattle.ga_one_run.specs.declared.status.Which.TheVariants.{Log, Date, Time}
 
--- 0 where all is done, 1 for the words, their formats and the rules, 2 for the files, 3 for the disk, 4 for the report's target,
--- 5 for a full counter, 6 for a damaged database, 7 for lack of memory, 8 for a database that keeps another number of days
+-- 0 where all is done, 1 for the words, those of the configuration file, their formats and the rules, 2 for the files, 3 for the
+-- disk, 4 for the report's target, 5 for a full counter, 6 for a damaged database, 7 for lack of memory, 8 for a database that
+-- keeps another number of days
 abbrev pub code_of : Status → ℕ
 code_of Done = 0
 code_of (BadWords fault) = 1
+code_of (BadConf line) = 1
 code_of (BadFormat which fault) = 1
 code_of (BadRules line) = 1
 code_of (FileFault file) = 2
@@ -68,6 +70,7 @@ word_pieces WordNoMemory = codes "goaccess: no memory\n" ∷ []
 abbrev pub fault_pieces : List ℕ → Status → List (List ℕ)
 fault_pieces name Done = []
 fault_pieces name (BadWords fault) = word_pieces fault
+fault_pieces name (BadConf line) = codes "goaccess: config file, line " ∷ decimal line ∷ codes ": not a setting\n" ∷ []
 fault_pieces name (BadFormat which fault) =
     codes "goaccess: " ∷ format_name which ∷ (place_pieces (fault_place fault) ++ codes ": " ∷ fault_text fault ∷ codes "\n" ∷ [])
 fault_pieces name (BadRules line) = codes "goaccess: browsers file, line " ∷ decimal line ∷ codes ": not a rule\n" ∷ []
@@ -87,29 +90,30 @@ fault_pieces name NoMemory = codes "goaccess: no memory\n" ∷ []
 abbrev pub fault_line : List ℕ → Status → List ℕ
 fault_line name status = joined (fault_pieces name status)
 
--- the name of an input, as the words have it
-abbrev pub NamesInput : List (List ℕ) → Input → List ℕ → Type 0
-NamesInput words RulesInput name = (s : Settings) × WordsOf words (Ok s) × (s.browsers_file ≡ Some name)
-NamesInput words (LogInput place) name = (s : Settings) × WordsOf words (Ok s) × (slice_get s.logs place ≡ Some name)
+-- the name of an input, as the words have it; a configuration file is read before they mean anything
+abbrev pub NamesInput : List (List ℕ) → List (List ℕ) → Input → List ℕ → Type 0
+NamesInput conf words RulesInput name = (s : Settings) × JoinedOf conf words (Ok s) × (s.browsers_file ≡ Some name)
+NamesInput conf words ConfInput name = ⊥
+NamesInput conf words (LogInput place) name = (s : Settings) × JoinedOf conf words (Ok s) × (slice_get s.logs place ≡ Some name)
 
 -- what a line calls the target that `-o` says: its file by its name, or standard output
 abbrev pub target_name : Option (List ℕ) → List ℕ
 target_name None = codes "standard output"
 target_name (Some name) = name
 
-abbrev pub NamesTarget : List (List ℕ) → To → List ℕ → Type 0
-NamesTarget words to name = (s : Settings) × WordsOf words (Ok s) × (to ≡ target_of (report_file s.generate s.output.name))
+abbrev pub NamesTarget : List (List ℕ) → List (List ℕ) → To → List ℕ → Type 0
+NamesTarget conf words to name = (s : Settings) × JoinedOf conf words (Ok s) × (to ≡ target_of (report_file s.generate s.output.name))
     × (name ≡ target_name (report_file s.generate s.output.name))
 
 -- the name of what failed, as the words give it; a status without one leaves it empty
-abbrev pub NamesFailed : List (List ℕ) → Status → List ℕ → Type 0
-NamesFailed words (FileFault file) name = NamesInput words file name
-NamesFailed words (FileShort file at) name = NamesInput words file name
-NamesFailed words (OutFault to at) name = NamesTarget words to name
-NamesFailed words _ name = name ≡ []
+abbrev pub NamesFailed : List (List ℕ) → List (List ℕ) → Status → List ℕ → Type 0
+NamesFailed conf words (FileFault file) name = NamesInput conf words file name
+NamesFailed conf words (FileShort file at) name = NamesInput conf words file name
+NamesFailed conf words (OutFault to at) name = NamesTarget conf words to name
+NamesFailed conf words _ name = name ≡ []
 
 -- the line of a run with these words and this status
-pub record IsFaultLine (words : List (List ℕ)) (status : Status) (line : List ℕ) : Type 0 where
+pub record IsFaultLine (conf words : List (List ℕ)) (status : Status) (line : List ℕ) : Type 0 where
   pub name : List ℕ
-  pub names : NamesFailed words status name
+  pub names : NamesFailed conf words status name
   pub is : line ≡ fault_line name status

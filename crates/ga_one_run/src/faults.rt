@@ -22,6 +22,10 @@ pub fn tell<O: Outs>(outs: &mut O, name: &[u8], status: &Status)
     match status {
         Status::Done => say(outs, &[]),
         Status::BadWords(fault) => tell_words(outs, fault),
+        Status::BadConf { line } => {
+            let file = b"goaccess: config file, line ";
+            tell_number(outs, file, *line, b": not a setting\n")
+        }
         Status::BadFormat { which, fault } => tell_format(outs, *which, fault),
         Status::BadRules { line } => {
             let file = b"goaccess: browsers file, line ";

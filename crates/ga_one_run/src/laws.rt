@@ -11,7 +11,7 @@ ghost use Rattle.ga_outcomes.specs.LineOutcomes.{CountsLines, FillsAmong};
 ghost use Rattle.ga_ports.specs.Files.{FilesView};
 ghost use Rattle.ga_ports.specs.Outs.{OutsView};
 ghost use Rattle.ga_summary.specs.SummaryRows.{SummaryValue};
-ghost use Rattle.ga_words.specs.WordsOf.{WordsOf};
+ghost use Rattle.ga_words.specs.Joined.{JoinedOf};
 ghost use Rattle.ga_words.specs.declared.settings.Settings.{Settings as TheSettings};
 ghost use Rattle.ga_one_run.specs.OneRun.{Alike, DifferInWorkers, HaveSameInputs, IsUntroubled, RunView, SidesAgree, run_of};
 ghost use Rattle.ga_one_run.specs.Reports.{IsTextOf};
@@ -34,7 +34,7 @@ use ga_report::laws::{one_report as one_report_of_rows, some_report};
 use ga_resume::laws::a_choice_exists;
 use ga_store::laws::{one_database, some_database};
 use ga_summary::laws::{one_sum, some_merged};
-use ga_words::laws::one_reading as one_reading_of_words;
+use ga_words::laws::joined_words;
 
 /// The formats of settings mean one thing: a way to read lines, or one refusal.
 pub(crate) fn one_outcome()
@@ -44,13 +44,13 @@ pub(crate) fn one_outcome()
     one_answer_of_formats();
 }
 
-/// Words say settings once at the most, and the formats of these are read in one way.
+/// Words say settings once at the most, after those of a configuration file, and the formats of these are read in one way.
 pub fn one_setup()
-    ensures { (words : List (List ℕ)) (s other : TheSettings) (a b : TheSetup) → WordsOf words (Ok s) → WordsOf words (Ok other)
+    ensures { (conf words : List (List ℕ)) (s other : TheSettings) (a b : TheSetup) → JoinedOf conf words (Ok s) → JoinedOf conf words (Ok other)
         → IsLineSetup s a → IsLineSetup other b → (s ≡ other) × (a ≡ b) }
 {
     one_outcome();
-    one_reading_of_words();
+    joined_words();
 }
 
 /// Lines that are read as settings say have one sum, or fill one counter with one value, and not both.
@@ -107,33 +107,33 @@ pub fn some_answer()
     some_report();
 }
 
-/// A run ends alike by any workers: two runs whose words say the same but for `--jobs` and `--chunk-size`, over told files with
-/// the same contents and told sides that say one database or one damage, have one status, the same report in the same place, the
+/// A run ends alike by any workers: two runs whose words, after those of their configuration files, say the same but for
+/// `--jobs` and `--chunk-size`, over told files with the same contents and told sides that say one database or one damage, have one status, the same report in the same place, the
 /// same bytes written to standard error, and the same database, where no count of a fault rose and no memory was wanted.
 pub fn one_run_by_any_workers<D: Disk, E: Disk>()
-    ensures { (words words' : List (List ℕ)) (sides sides' : Sides) (files files' others others' : FilesView) (disk disk' : D) (other other' : E)
+    ensures { (conf words conf' words' : List (List ℕ)) (sides sides' : Sides) (files files' others others' : FilesView) (disk disk' : D) (other other' : E)
         (outs outs' targets targets' : OutsView) (status end : TheStatus)
         → let a : RunView = run_of (outside_of files (D.view disk) (D.images disk) outs) (outside_of files' (D.view disk') (D.images disk') outs') status in
         let b : RunView = run_of (outside_of others (E.view other) (E.images other) targets) (outside_of others' (E.view other') (E.images other') targets') end in
-        DifferInWorkers words words' → IsUntroubled words sides a → IsUntroubled words' sides' b → SidesAgree sides sides'
-        → HaveSameInputs words a b → Alike sides sides' a b }
+        DifferInWorkers conf words conf' words' → IsUntroubled conf words sides a → IsUntroubled conf' words' sides' b → SidesAgree sides sides'
+        → HaveSameInputs conf words a b → Alike sides sides' a b }
 {
     one_answer();
     one_database();
-    one_reading_of_words();
+    joined_words();
     read_as_told();
 }
 
-/// Two runs with the same words, over told files with the same contents and told sides that say one database or one damage, end
-/// alike where no count of a fault rose and no memory was wanted: with one status, the same report in the same place, the same
+/// Two runs with the same words, after the same of a configuration file, over told files with the same contents and told sides
+/// that say one database or one damage, end alike where no count of a fault rose and no memory was wanted: with one status, the same report in the same place, the same
 /// bytes written to standard error, and the same database. So a run is a function of the database that it finds, and not of the
 /// bytes that hold it.
 pub fn one_run<D: Disk, E: Disk>()
-    ensures { (words : List (List ℕ)) (sides sides' : Sides) (files files' others others' : FilesView) (disk disk' : D) (other other' : E)
+    ensures { (conf words : List (List ℕ)) (sides sides' : Sides) (files files' others others' : FilesView) (disk disk' : D) (other other' : E)
         (outs outs' targets targets' : OutsView) (status end : TheStatus)
         → let a : RunView = run_of (outside_of files (D.view disk) (D.images disk) outs) (outside_of files' (D.view disk') (D.images disk') outs') status in
         let b : RunView = run_of (outside_of others (E.view other) (E.images other) targets) (outside_of others' (E.view other') (E.images other') targets') end in
-        IsUntroubled words sides a → IsUntroubled words sides' b → SidesAgree sides sides' → HaveSameInputs words a b
+        IsUntroubled conf words sides a → IsUntroubled conf words sides' b → SidesAgree sides sides' → HaveSameInputs conf words a b
         → Alike sides sides' a b }
 {
     one_answer();

@@ -19,24 +19,21 @@ ghost use Rattle.ga_workers.specs.Workers.{AreWorkers};
 ghost use Rattle.ga_summary.specs.Sound.{IsSummary};
 ghost use Rattle.ga_one_run.specs.Printing.{report_file, target_of};
 ghost use Rattle.ga_one_run.specs.Reports.{IsTextTold, text_as};
-ghost use Rattle.ga_one_run.specs.Run.{IsRun};
 ghost use Rattle.ga_one_run.specs.Statuses.{target_name};
 ghost use Rattle.ga_one_run.specs.Outside.{outside_of};
 ghost use Rattle.ga_totals.specs.Totals.{IsOfCountable};
 ghost use Rattle.ga_one_run.specs.Steps.Run.{AreSums, CountsOn, CountsRun, Differs, EndsAlone, EndsInputs, EndsLast, EndsReport, EndsRun, HasPanels, IsOfLines, IsReady, IsSetUp, IsTextAlone, IsTextOfTotal, NoFileFailed, StopsAlone, StopsCounting, StopsFrom, StopsPanels, failed_name, input_name, whole_in, workers_said};
 
-use crate::faults::tell;
 use crate::printing::deliver;
 use crate::rules::rules_of;
 use crate::setups::{SetupFault, line_setup, panel_setup};
-use crate::{Input, Status, laws};
+use crate::{Input, Status};
 use ga_base::{Bytes, Entries, NoMemory, Text};
 use ga_disk::Disk;
 use ga_generate::summary;
 use ga_keep::{Base, add_run, base_of, differs, find, keep, start, uses_database, whole};
 use ga_line::LineSetup;
 use ga_logs::count_logs;
-use ga_logs::laws::read_as_told;
 use ga_outcomes::Setup;
 use ga_panels::PanelSetup;
 use ga_ports::laws::files_stay;
@@ -47,8 +44,7 @@ use ga_resume::Start;
 use ga_store::{Db, Position};
 use ga_summary::Summary;
 use ga_totals::Total;
-use ga_words::laws::one_reading;
-use ga_words::{Kind, Settings, read_words};
+use ga_words::{Kind, Settings};
 use ga_workers::{Crew, Workers};
 use std::alloc::Global;
 use std::mem;
@@ -56,11 +52,11 @@ use std::thread::Threads;
 
 /// What a run works with: threads, the gate that its workers pass, memory, and what the words say.
 #[derive(Drop)]
-struct RunContext<'a, R, G> {
-    rt: &'a R,
-    gate: &'a G,
-    alloc: Global,
-    settings: &'a Settings,
+pub(crate) struct RunContext<'a, R, G> {
+    pub(crate) rt: &'a R,
+    pub(crate) gate: &'a G,
+    pub(crate) alloc: Global,
+    pub(crate) settings: &'a Settings,
 }
 
 /// What a run counted, and what it began with.
@@ -74,51 +70,8 @@ struct RunCounts {
     run: Summary,
 }
 
-/// Runs goaccess over the words of a command line, without the program's name.
-///
-/// The browsers file is read first, where one is named; then the database is recovered, where it is used, and the logs are
-/// counted in their order, each opened once. With `--persist` the run is kept; then the report goes where `-o` says. With any
-/// status but `Done` a fault line goes to standard error. Lines are counted by as many threads as `--jobs` says; nothing that
-/// the run does depends on how many they are, on which of them takes which lines, or on the gate that they ask.
-pub fn goaccess_run<R: Threads + Sync, F: Files, D: Disk, O: Outs, G: Gate>(
-    rt: &R,
-    alloc: Global,
-    words: &[Text],
-    files: &mut F,
-    disk: &mut D,
-    outs: &mut O,
-    gate: &G,
-) -> Status
-    ensures { IsRun words.now
-        (outside_of (F.view files.old) (D.view disk.old) (D.images disk.old) (O.view outs.old))
-        (outside_of (F.view files.new) (D.view disk.new) (D.images disk.new) (O.view outs.new)) result }
-{
-    // What is known of words, formats and lines, for the proof alone: the calls do nothing.
-    laws::one_outcome();
-    read_as_told();
-    one_reading();
-    match read_words(alloc, words) {
-        Err(fault) => {
-            let status = Status::from(fault);
-            tell(outs, b"", &status);
-            status
-        }
-        Ok(settings) => {
-            let context = RunContext {
-                rt,
-                gate,
-                alloc,
-                settings: &settings,
-            };
-            let status = run_settings(&context, files, disk, outs);
-            tell(outs, failed_name(&settings, &status), &status);
-            status
-        }
-    }
-}
-
 /// What the fault line of a status calls what failed: a file by its name, or the report's target.
-fn failed_name<'a>(settings: &'a Settings, status: &Status) -> &'a [u8]
+pub(crate) fn failed_name<'a>(settings: &'a Settings, status: &Status) -> &'a [u8]
     ensures { result.now ≡ failed_name settings.now status.now }
 {
     match status {
@@ -133,6 +86,7 @@ fn input_name(settings: &Settings, file: Input) -> &[u8]
     ensures { result.now ≡ input_name settings.now file }
 {
     let name = match file {
+        Input::Conf => None,
         Input::Rules => settings.browsers_file.as_ref(),
         Input::Log(place) => settings.logs.items().get(place as usize),
     };
@@ -165,7 +119,7 @@ fn report_file(settings: &Settings) -> Option<&Text>
 }
 
 /// Runs as the settings say: their formats first, then the inputs.
-fn run_settings<R: Threads + Sync, G: Gate, F: Files, D: Disk, O: Outs>(
+pub(crate) fn run_settings<R: Threads + Sync, G: Gate, F: Files, D: Disk, O: Outs>(
     context: &RunContext<'_, R, G>,
     files: &mut F,
     disk: &mut D,

@@ -1,8 +1,10 @@
 ghost use Rattle.std.specs.Prelude.{◌≡◌};
 ghost use Rattle.ga_one_run.specs.Statuses.{code_of};
+ghost use Rattle.ga_one_run.specs.Steps.Conf.{status_of_conf};
 ghost use Rattle.ga_one_run.specs.Steps.Run.{status_of_count, status_of_rules, status_of_store, status_of_words};
 ghost use Rattle.ga_one_run.specs.declared.status.Status.TheVariants.{NoMemory as WantsMemory};
 
+use crate::conf::ConfFileFault;
 use crate::rules::RulesFault;
 use ga_base::{Counter, FormatFault, NoMemory};
 use ga_logs::CountFault;
@@ -14,6 +16,8 @@ use ga_words::WordFault;
 /// A file that a run reads.
 #[derive(Clone, Copy, Debug, PartialEq, Eq)]
 pub enum Input {
+    /// The configuration file.
+    Conf,
     /// The browsers file.
     Rules,
     /// The log at this place in the list of logs, from 0.
@@ -38,6 +42,8 @@ pub enum Status {
     Done,
     /// The words say no settings. The fault is never lack of memory.
     BadWords(WordFault),
+    /// The line with this number, from 1, is the first of the configuration file that is no setting.
+    BadConf { line: u64 },
     /// That format of the words is refused, and those before it are good. The fault is never lack of memory.
     BadFormat { which: Which, fault: FormatFault },
     /// The line with this number, from 1, is the first of the browsers file that is no rule.
@@ -67,7 +73,10 @@ impl Status {
     {
         match self {
             Status::Done => 0,
-            Status::BadWords(_) | Status::BadFormat { .. } | Status::BadRules { .. } => 1,
+            Status::BadWords(_)
+            | Status::BadConf { .. }
+            | Status::BadFormat { .. }
+            | Status::BadRules { .. } => 1,
             Status::FileFault { .. } | Status::FileShort { .. } => 2,
             Status::DiskFault => 3,
             Status::OutFault { .. } => 4,
@@ -86,6 +95,20 @@ impl From<WordFault> for Status {
         match fault {
             WordFault::NoMemory => Status::NoMemory,
             _ => Status::BadWords(fault),
+        }
+    }
+}
+
+impl From<ConfFileFault> for Status {
+    ghost from_gives = { λ fault status. status ≡ status_of_conf fault };
+
+    fn from(fault: ConfFileFault) -> Status {
+        let file = Input::Conf;
+        match fault {
+            ConfFileFault::Bad { line } => Status::BadConf { line },
+            ConfFileFault::Unread(PlaceFault::FileFault) => Status::FileFault { file },
+            ConfFileFault::Unread(PlaceFault::FileShort { at }) => Status::FileShort { file, at },
+            ConfFileFault::Unread(PlaceFault::NoMemory) => Status::NoMemory,
         }
     }
 }

@@ -10,6 +10,8 @@ mod agents;
 #[cfg(test)]
 mod base;
 #[cfg(test)]
+mod confs;
+#[cfg(test)]
 mod dates;
 #[cfg(test)]
 mod formats;

@@ -1,6 +1,6 @@
 use ga_base::{Text, Texts};
 use ga_cases::hold;
-use ga_words::{Kind, Settings, read_words};
+use ga_words::{Kind, Settings, join_words, read_words, scan_words};
 use std::alloc::Global;
 use std::test::Fail;
 
@@ -86,6 +86,44 @@ const DAYS: &str = "\
 --hour-spec => word 0: value missing
 ";
 
+/// Words with bars between them, and the configuration file that they name; or the first fault with a place.
+const NAMED: &str = "\
+## none, one, and the last of several
+-o|csv|a.log => none
+--config-file=g.conf|-o|csv|a.log => g.conf
+--config-file=a|--config-file|b|--restore => b
+## words that lack a format, lines or both are looked through all the same
+a.log => none
+--config-file=g.conf => g.conf
+--generate=5|--persist|--config-file=g.conf => g.conf
+## after two dashes, and as a value
+--log-format|--config-file|--|--config-file=g.conf => none
+## a fault of a word
+--config-file=g.conf|--jobs=17 => word 1: bad value
+--config-file= => word 0: bad value
+--config-file => word 0: value missing
+--config-files=g.conf => word 0: unknown option
+";
+
+/// Words of a configuration file, a slash and words of a command line, and what they mean together.
+const JOINED: &str = "\
+## the words of the command line count, where one value does
+--jobs=2|--log-format=F/--jobs=3|a => json |F|%d/%b/%Y|%H:%M:%S|3|1024|366|/tmp|a,
+--jobs=2/--log-format=F|a => json |F|%d/%b/%Y|%H:%M:%S|2|1024|366|/tmp|a,
+--log-format=COMMON/--log-format=F|a => json |F|%d/%b/%Y|%H:%M:%S|1|1024|366|/tmp|a,
+## no words of a file
+/a => no log format
+/ => no input
+/--log-format=F|a => json |F|%d/%b/%Y|%H:%M:%S|1|1024|366|/tmp|a,
+## a flag of the file stays, and is in conflict
+--persist|--jobs=2/--jobs=3|--generate=5 => word 1: conflict
+--restore|--jobs=2|--max-items=3/--generate|5 => word 0: conflict
+--restore/ => json |none|%d/%b/%Y|%H:%M:%S|1|1024|366|/tmp|
+## what the words lack
+--jobs=2/a => no log format
+--log-format=F/--jobs=2 => no input
+";
+
 /// The words between bars; none of an empty text.
 fn words_of(alloc: Global, row: &str) -> Result<Texts, Fail> {
     let mut words = Texts::new(alloc);
@@ -142,6 +180,24 @@ fn days_said(alloc: Global, row: &str) -> Result<String, Fail> {
     }
 }
 
+/// The configuration file that words name.
+fn named(alloc: Global, row: &str) -> Result<String, Fail> {
+    match scan_words(alloc, words_of(alloc, row)?.items()) {
+        Ok(None) => Ok(String::from_str(alloc, "none")?),
+        Ok(Some(name)) => Ok(String::from_str(alloc, name.as_str())?),
+        Err(fault) => Ok(format!(in alloc; "{fault}")?),
+    }
+}
+
+/// What the words of a configuration file and those after them mean.
+fn joined(alloc: Global, row: &str) -> Result<String, Fail> {
+    let (conf, words) = row.split_once('/').unwrap_or(("", row));
+    match join_words(alloc, &words_of(alloc, conf)?, words_of(alloc, words)?.items()) {
+        Ok(settings) => shown(alloc, &settings),
+        Err(fault) => Ok(format!(in alloc; "{fault}")?),
+    }
+}
+
 /// What words mean.
 fn said(alloc: Global, row: &str) -> Result<String, Fail> {
     match read_words(alloc, words_of(alloc, row)?.items()) {
@@ -153,6 +209,16 @@ fn said(alloc: Global, row: &str) -> Result<String, Fail> {
 #[test]
 fn words_say_how_days_are_kept_and_told(rt: HostRuntime) -> Result<(), Fail> {
     hold(rt.alloc(), DAYS, days_said)
+}
+
+#[test]
+fn words_name_a_configuration_file(rt: HostRuntime) -> Result<(), Fail> {
+    hold(rt.alloc(), NAMED, named)
+}
+
+#[test]
+fn words_follow_those_of_a_file(rt: HostRuntime) -> Result<(), Fail> {
+    hold(rt.alloc(), JOINED, joined)
 }
 
 #[test]

@@ -29,15 +29,15 @@ use Rattle.ga_summary.specs.Outcomes.{Outcome}
 use Rattle.ga_summary.specs.Sound.{IsSummary}
 use Rattle.ga_summary.specs.SummaryRows.{SummaryValue}
 use Rattle.ga_summary.specs.Sums.{IsSumOf}
-use Rattle.ga_words.specs.WordsOf.{WordsOf}
 use Rattle.ga_words.specs.declared.settings.Settings.{Settings}
+use Rattle.ga_one_run.specs.Configured.{ConfIsTold, HasBadConf, SayOver}
 use Rattle.ga_one_run.specs.Printing.{but_errors, delivered, report_file}
 use Rattle.ga_one_run.specs.Reports.{IsTextOf}
 use Rattle.ga_one_run.specs.Run.{HaveRefused}
 use Rattle.ga_one_run.specs.Setups.{IsLineSetup, setup_of}
 use Rattle.ga_one_run.specs.Told.{HasBadLine, FillsTold, RulesAreTold}
 use Rattle.ga_one_run.specs.declared.status.Status.{Status}
-use Rattle.ga_one_run.specs.declared.status.Status.TheVariants.{Done, BadWords, BadFormat, BadRules, FileFault, FileShort, DiskFault, DbDamaged, KeepDiffers, OutFault, CounterFull, NoMemory}
+use Rattle.ga_one_run.specs.declared.status.Status.TheVariants.{Done, BadWords, BadConf, BadFormat, BadRules, FileFault, FileShort, DiskFault, DbDamaged, KeepDiffers, OutFault, CounterFull, NoMemory}
 use Rattle.ga_run.specs.History.{History, IsBlank}
 use Rattle.ga_run.specs.History.History.{no_step, step_then}
 use Rattle.ga_run.specs.Parts.{ArePartsOf, AreToldApart, EachOnce, Part}
@@ -200,7 +200,7 @@ words_of (Crash words calls pick) = Some words
 -- a run with these words and settings persists, and this is how it is kept
 pub record IsKeptAs (words : List (List ℕ)) (s : Settings) (files : FilesState) (kept : List RunCount) (run : RunCount)
     : Type 0 where
-  pub says : WordsOf words (Ok s)
+  pub says : SayOver words (files_view files) (Ok s)
   pub line : LineSetup
   pub means : IsLineSetup s line
   pub persists : s.persist ≡ true
@@ -222,14 +222,14 @@ pub data Changes (step : Step) (status : Option Status) (old : World) (db db' : 
       (record { runs = before; earlier = earlier })
 
 -- the run of this step persists and doesn't restore, and took the place of all others
-abbrev pub Overwrites : Step → List RunCount → Type 0
-Overwrites step runs = (words : List (List ℕ)) × (s : Settings) × (run : RunCount) × (words_of step ≡ Some words)
-    × WordsOf words (Ok s) × (s.persist ≡ true) × (s.restore ≡ false) × (runs ≡ run ∷ [])
+abbrev pub Overwrites : Step → FilesState → List RunCount → Type 0
+Overwrites step files runs = (words : List (List ℕ)) × (s : Settings) × (run : RunCount) × (words_of step ≡ Some words)
+    × SayOver words (files_view files) (Ok s) × (s.persist ≡ true) × (s.restore ≡ false) × (runs ≡ run ∷ [])
 
 -- an acknowledged run stays among the kept ones, or is overwritten
-abbrev pub AcknowledgedStay : Step → List RunCount → List RunCount → Type 0
-AcknowledgedStay step runs runs' = (run : RunCount) → Contains runs run → IsAcknowledged run.status
-    → Contains runs' run ⊎ Overwrites step runs'
+abbrev pub AcknowledgedStay : Step → FilesState → List RunCount → List RunCount → Type 0
+AcknowledgedStay step files runs runs' = (run : RunCount) → Contains runs run → IsAcknowledged run.status
+    → Contains runs' run ⊎ Overwrites step files runs'
 
 -- ---- fails only by
 
@@ -242,26 +242,28 @@ IsFull line s old which total = (stored : DbValue) × SidesHave s (bytes_of (sta
 
 abbrev pub FailsOnlyBy : List (List ℕ) → World → World → Status → Type 0
 FailsOnlyBy words old new Done = Unit {0}
-FailsOnlyBy words old new (BadWords fault) = WordsOf words (Err fault)
-FailsOnlyBy words old new (BadFormat which fault) = HaveRefused words which fault
-FailsOnlyBy words old new (BadRules at) = (s : Settings) × WordsOf words (Ok s) × HasBadLine s (files_view old.files) at
+FailsOnlyBy words old new (BadWords fault) = SayOver words (files_view old.files) (Err fault)
+FailsOnlyBy words old new (BadConf line) = HasBadConf words (files_view old.files) line
+FailsOnlyBy words old new (BadFormat which fault) =
+    (conf : List (List ℕ)) × ConfIsTold words (files_view old.files) conf × HaveRefused conf words which fault
+FailsOnlyBy words old new (BadRules at) = (s : Settings) × SayOver words (files_view old.files) (Ok s) × HasBadLine s (files_view old.files) at
 -- a call of the files failed
 FailsOnlyBy words old new (FileFault file) = Rose old.files.counts.faults new.files.counts.faults
 -- files whose contents are told never give less than their size
 FailsOnlyBy words old new (FileShort file at) = ⊥
 -- a call of the disk failed, which the run used
 FailsOnlyBy words old new DiskFault =
-    ((s : Settings) × WordsOf words (Ok s) × (uses_database s ≡ true)) × Rose old.disk.counts.faults new.disk.counts.faults
+    ((s : Settings) × SayOver words (files_view old.files) (Ok s) × (uses_database s ≡ true)) × Rose old.disk.counts.faults new.disk.counts.faults
 -- a database never breaks
 FailsOnlyBy words old new (DbDamaged side at) = ⊥
 -- the database keeps another number of days than the run, which restores it
-FailsOnlyBy words old new (KeepDiffers number given) = (s : Settings) × WordsOf words (Ok s) × (given ≡ s.keep)
+FailsOnlyBy words old new (KeepDiffers number given) = (s : Settings) × SayOver words (files_view old.files) (Ok s) × (given ≡ s.keep)
     × ((stored : DbValue) × SidesHave s (bytes_of (states old.disk)) stored × (differing s stored ≡ Some number))
 -- a call of the report's target failed
 FailsOnlyBy words old new (OutFault to at) =
     Rose (target to (outs_view old.outs)).faults (target to (outs_view new.outs)).faults
 FailsOnlyBy words old new (CounterFull which total) =
-    (s : Settings) × (line : LineSetup) × WordsOf words (Ok s) × IsLineSetup s line × IsFull line s old which total
+    (s : Settings) × (line : LineSetup) × SayOver words (files_view old.files) (Ok s) × IsLineSetup s line × IsFull line s old which total
 FailsOnlyBy words old new NoMemory = Unit {0}
 
 -- ---- the promise
@@ -269,13 +271,13 @@ FailsOnlyBy words old new NoMemory = Unit {0}
 -- of a run, from the kept runs before it to those after it
 pub record RunKeeps (words : List (List ℕ)) (status : Status) (old new : World) (kept kept' : Kept) : Type 0 where
   -- a run that is done printed the report on what it found and on its own lines
-  pub done : (s : Settings) → WordsOf words (Ok s) → status ≡ Done
+  pub done : (s : Settings) → SayOver words (files_view old.files) (Ok s) → status ≡ Done
       → (line : LineSetup) × IsLineSetup s line × IsDone line s kept.runs old new
   -- a tracked run that is done printed exactly the report on all lines of the kept runs, it being the last of them
-  pub tracked : (s : Settings) → WordsOf words (Ok s) → IsTracked s → status ≡ Done
+  pub tracked : (s : Settings) → SayOver words (files_view old.files) (Ok s) → IsTracked s → status ≡ Done
       → PrintsExactly s (outcomes_of kept'.runs) (outs_view old.outs) (outs_view new.outs)
   -- an acknowledged run is kept
-  pub acknowledged : (s : Settings) → WordsOf words (Ok s) → s.persist ≡ true → IsAcknowledged status
+  pub acknowledged : (s : Settings) → SayOver words (files_view old.files) (Ok s) → s.persist ≡ true → IsAcknowledged status
       → (run : RunCount) × (run.status ≡ status) × IsKeptAs words s old.files kept.runs run
       × (kept'.runs ≡ with_run s.restore run kept.runs)
   pub fails : FailsOnlyBy words old new status
@@ -293,7 +295,7 @@ pub record StepKeeps (step : Step) (status : Option Status) (old new : World) (k
   pub db' : DbValue
   pub holds : Holds kept' db' new
   pub changes : Changes step status old db db' kept kept'
-  pub stay : AcknowledgedStay step kept.runs kept'.runs
+  pub stay : AcknowledgedStay step old.files kept.runs kept'.runs
   -- each byte of the logs was counted once, where digests tell the logs apart
   pub once : AreToldApart new.files.contents (all_parts kept'.runs) → EachOnce new.files.contents (all_parts kept'.runs)
   pub run : IfRun step status (λ words ended. RunKeeps words ended old new kept kept')

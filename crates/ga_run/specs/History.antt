@@ -6,7 +6,7 @@ use Rattle.ga_disk.specs.Pick.{after_bound, after_crash}
 use Rattle.ga_ports.specs.MemFiles.{after_growth, after_renaming, files_view}
 use Rattle.ga_ports.specs.MemOuts.{outs_view}
 use Rattle.ga_one_run.specs.Outside.{Outside, outside_of}
-use Rattle.ga_one_run.specs.Run.{IsRun}
+use Rattle.ga_one_run.specs.Configured.{IsRun}
 use Rattle.ga_run.specs.declared.history.Step.{Step}
 use Rattle.ga_run.specs.declared.history.Step.TheVariants.{Grow, Rename, Run, Crash}
 use Rattle.ga_run.specs.declared.history.World.{World}

@@ -7,6 +7,8 @@
 #[cfg(test)]
 mod causes;
 #[cfg(test)]
+mod configured;
+#[cfg(test)]
 mod failing_calls;
 #[cfg(test)]
 mod faults;

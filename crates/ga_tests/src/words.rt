@@ -1,19 +1,43 @@
 //! Words, formats and generated lines.
 
-use ga_base::{Bytes, FormatFault, FormatItem, Needed, NoMemory, Text};
+use ga_base::{Bytes, FormatFault, FormatItem, Needed, NoMemory, Text, Texts};
 use ga_dates::{
     DateFormat, TimeFormat, compile_date, compile_time, read_both, read_date, read_time,
 };
 use ga_format::{Format, compile};
 use ga_generate::{generate, summary};
 use ga_report::General;
-use ga_words::{Kind, Output, Settings, WordFault, read_words};
+use ga_conf::{ConfFault, read_conf};
+use ga_words::{
+    Kind, OptionForm, Output, Settings, WordFault, form_of, read_words, scan_words, takes_value,
+};
 use std::alloc::Global;
 
 /// What words say.
 pub fn settings_of(alloc: Global, words: &[Text]) -> Result<Settings, WordFault> {
     read_words(alloc, words)
 }
+
+/// The configuration file that words name.
+pub fn file_of(alloc: Global, words: &[Text]) -> Result<Option<Text>, WordFault> {
+    scan_words(alloc, words)
+}
+
+/// The words of a configuration file.
+pub fn words_of(alloc: Global, bytes: &[u8]) -> Result<Texts, ConfFault> {
+    read_conf(alloc, bytes)
+}
+
+/// Whether an option takes a value, and this one.
+pub fn is_setting(alloc: Global, name: &str, value: &str) -> Result<bool, NoMemory> {
+    match form_of(name) {
+        Some(OptionForm::Value) => takes_value(alloc, name, value),
+        Some(OptionForm::Flag) | None => Ok(false),
+    }
+}
+
+/// The faults of configuration files.
+pub const CONF_FAULTS: [ConfFault; 2] = [ConfFault::BadConf { line: 1 }, ConfFault::NoMemory];
 
 /// The number of logs of settings.
 pub fn logs_of(settings: &Settings) -> usize {
@@ -23,6 +47,7 @@ pub fn logs_of(settings: &Settings) -> usize {
         time_format: _,
         output: Output { kind: _, name: _ },
         browsers_file: _,
+        config_file: _,
         statics: _,
         all_static: _,
         ranges: _,

@@ -15,3 +15,5 @@ mod SomeRange
 mod SomeValue
 mod FirstUnit
 mod SomeAnswer
+mod JoinLemmas
+mod OptionLemmas

@@ -122,7 +122,7 @@ module _ (one_range : OneRange) where
       let both = one-trace (at + length (written unit)) rest next units others end other more moved in
       (λ i. sym unit_is i ∷ both.0 i, both.1)
 
-  same-units : (words : List (List ℕ)) (units others : List WordUnit) (s t : Settings) → AreUnits words units s → AreUnits words others t → (units ≡ others) × (s ≡ t)
+  pub same-units : (words : List (List ℕ)) (units others : List WordUnit) (s t : Settings) → AreUnits words units s → AreUnits words others t → (units ≡ others) × (s ≡ t)
   same-units words units others s t h k =
       let both = one-trace 0 words defaults units others (Whole h.tail h.before) (Whole k.tail k.before) (units-trace words units s h) (units-trace words others t k) in
       let ends = both.1 in
@@ -130,11 +130,11 @@ module _ (one_range : OneRange) where
       let before_is : h.before ≡ k.before = cc in
       (both.0, h.makes ∙ (λ i. record (before_is i) { logs = (before_is i).logs ++ tail_logs (tail_is i) }) ∙ sym k.makes)
 
-  no-fault : (words : List (List ℕ)) (units : List WordUnit) (s : Settings) (fault : WordFault) → AreUnits words units s → HasFault words fault → ⊥
+  pub no-fault : (words : List (List ℕ)) (units : List WordUnit) (s : Settings) (fault : WordFault) → AreUnits words units s → HasFault words fault → ⊥
   no-fault words units s fault h k =
       let ends = (one-trace 0 words defaults units k.units (Whole h.tail h.before) (Broken fault) (units-trace words units s h) (fault-trace words fault k)).1 in cc
 
-  same-fault : (words : List (List ℕ)) (fault other : WordFault) → HasFault words fault → HasFault words other → fault ≡ other
+  pub same-fault : (words : List (List ℕ)) (fault other : WordFault) → HasFault words fault → HasFault words other → fault ≡ other
   same-fault words fault other h k =
       let ends = (one-trace 0 words defaults h.units k.units (Broken fault) (Broken other) (fault-trace words fault h) (fault-trace words other k)).1 in cc
 

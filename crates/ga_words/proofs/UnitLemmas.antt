@@ -40,7 +40,7 @@ module _ (word : List ℕ) (after : List (List ℕ)) (at : ℕ) (old : Reading) 
   unit-joined name value takes place joined sets is =
       record { unit = Joined name value; spells = ap (λ (x : List ℕ). x ∷ after) joined.is; makes = (meaning takes, joined.option, joined.long, sets); place = is }
 
-takes-value : (takes : CodeTakes) → ((flag : CodeFlag) → takes ≡ C.Flag flag → ⊥) → TakesValue (meaning takes)
+pub takes-value : (takes : CodeTakes) → ((flag : CodeFlag) → takes ≡ C.Flag flag → ⊥) → TakesValue (meaning takes)
 takes-value (C.Flag flag) none = absurd (none flag refl)
 takes-value (C.Format format) none = λ set e. cc
 takes-value (C.Name name) none = λ set e. cc

@@ -20,6 +20,7 @@ defaults = record {
   time_format = codes "%H:%M:%S";
   output = standard Json;
   browsers_file = None;
+  config_file = None;
   statics = [];
   all_static = false;
   ranges = [];

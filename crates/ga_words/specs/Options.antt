@@ -50,6 +50,7 @@ options =
     ∷ (codes "-o", Target (λ output s. record s { output = output }))
     ∷ (codes "--output", Target (λ output s. record s { output = output }))
     ∷ (codes "--browsers-file", Name (λ name s. record s { browsers_file = Some name }))
+    ∷ (codes "--config-file", Name (λ name s. record s { config_file = Some name }))
     ∷ (codes "--static-file", Name (λ ending s. record s { statics = s.statics ++ ending ∷ [] }))
     ∷ (codes "--all-static-files", Flag (λ s. record s { all_static = true }))
     ∷ (codes "--exclude-ip", Addresses (λ range s. record s { ranges = s.ranges ++ range ∷ [] }))
@@ -102,3 +103,11 @@ IsOutside takes value = (old new : Settings) → ¬ Sets takes value old new
 -- an option that takes a value
 abbrev pub TakesValue : Takes → Type 0
 TakesValue takes = (set : Settings → Settings) → takes ≢ Flag set
+
+-- the value is one that the option takes: it makes settings of some
+abbrev pub IsTaken : Takes → List ℕ → Type 0
+IsTaken takes value = (old new : Settings) × Sets takes value old new
+
+-- an option that takes none
+abbrev pub IsFlag : Takes → Type 0
+IsFlag takes = (set : Settings → Settings) × (takes ≡ Flag set)

@@ -56,6 +56,7 @@ pub(crate) enum Format {
 #[derive(Clone, Copy)]
 pub(crate) enum Name {
     BrowsersFile,
+    ConfigFile,
     StaticFile,
     DbPath,
 }
@@ -71,13 +72,14 @@ pub(crate) enum Number {
 }
 
 /// The options (own profile: the greatest numbers, and `--double-decode-url` and `--generate`).
-const OPTIONS: [TableRow<Takes>; 29] = [
+const OPTIONS: [TableRow<Takes>; 30] = [
     TableRow("--log-format", Takes::Format(Format::Log)),
     TableRow("--date-format", Takes::Format(Format::Date)),
     TableRow("--time-format", Takes::Format(Format::Time)),
     TableRow("-o", Takes::Target),
     TableRow("--output", Takes::Target),
     TableRow("--browsers-file", Takes::Name(Name::BrowsersFile)),
+    TableRow("--config-file", Takes::Name(Name::ConfigFile)),
     TableRow("--static-file", Takes::Name(Name::StaticFile)),
     TableRow("--all-static-files", Takes::Flag(Flag::AllStatic)),
     TableRow("--exclude-ip", Takes::Addresses),

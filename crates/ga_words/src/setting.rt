@@ -101,6 +101,7 @@ fn set_name(
     let text = Text::of(alloc, value)?;
     match name {
         Name::BrowsersFile => settings.browsers_file = Some(text),
+        Name::ConfigFile => settings.config_file = Some(text),
         Name::StaticFile => settings.statics.push(text)?,
         Name::DbPath => settings.db_path = text,
     }

@@ -57,6 +57,8 @@ pub struct Settings {
     pub output: Output,
     /// The name of the browsers file, where one is given.
     pub browsers_file: Option<Text>,
+    /// The name of the configuration file, where one is given. Its words stand before these.
+    pub config_file: Option<Text>,
     /// The endings of static files beside the built-in ones.
     pub statics: Texts,
     /// Whether a file is static by the ending before its query string.
@@ -118,6 +120,7 @@ pub(crate) fn default_settings(alloc: Global) -> Result<Settings, NoMemory>
             name: Text::new(),
         },
         browsers_file: None,
+        config_file: None,
         statics: Texts::new(alloc),
         all_static: false,
         ranges: Ranges::new(alloc),

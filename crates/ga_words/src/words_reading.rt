@@ -27,7 +27,7 @@ const GENERATE: &str = "--generate";
 #[derive(Drop)]
 pub(crate) struct Reading {
     /// What they set.
-    settings: Settings,
+    pub(crate) settings: Settings,
     /// The place of the word that names `--generate`, the last of them.
     generate_at: Option<u64>,
 }
@@ -65,7 +65,7 @@ fn answer_of(alloc: Global, words: &[Text]) -> Result<Settings, WordFault>
 }
 
 /// Reads all words, the units and the logs after them.
-fn read_all(alloc: Global, words: &[Text]) -> Result<Reading, WordFault>
+pub(crate) fn read_all(alloc: Global, words: &[Text]) -> Result<Reading, WordFault>
     ensures ok { IfOk result (HasReadAll words.now) }
     ensures fault { IfErr result (λ f. (f ≡ WordFault.NoMemory) ⊎ HasFault words.now f) }
 {

@@ -37,6 +37,10 @@ Formats:
 
 Input and filters:
   LOG                 a regular file, whose name isn't empty
+  --config-file FILE  lines of an option's name and its value, read before the
+                      words, which count where one value does; a flag is
+                      true or false, and names that aren't here are passed
+                      over; default none
   --browsers-file FILE
                       rules for user agents, asked before those built in; a
                       line is a token, tabs and a category; default none
@@ -106,8 +110,8 @@ About itself, as the only word:
 
 Exit status:
   0  done
-  1  the words, a format or the browsers file is refused
-  2  a log or the browsers file can't be read
+  1  the words, a format, the configuration or the browsers file is refused
+  2  a log, the configuration or the browsers file can't be read
   3  the database can't be read or written, or another program uses it
   4  the report can't be written; a run with --persist is kept all the same
   5  a counter is full
@@ -115,7 +119,7 @@ Exit status:
   7  no memory
   8  --keep-last isn't that of the database
 Where a run ends with any but 0, one line on standard error says why. It counts
-words and bytes from 0, and lines of the browsers file from 1.
+words and bytes from 0, and lines of these two files from 1.
 
 Examples:
   An nginx log in the combined format, as JSON on standard output:

@@ -60,13 +60,14 @@ use Rattle.ga_one_run.specs.declared.rules.RulesFault.{RulesFault}
 use Rattle.ga_one_run.specs.declared.rules.RulesFault.TheVariants.{Unread, Bad}
 use Rattle.ga_one_run.specs.declared.run.RunCounts.{RunCounts}
 use Rattle.ga_one_run.specs.declared.status.Input.{Input}
-use Rattle.ga_one_run.specs.declared.status.Input.TheVariants.{Rules, Log}
+use Rattle.ga_one_run.specs.declared.status.Input.TheVariants.{Conf, Rules, Log}
 use Rattle.ga_one_run.specs.declared.status.Status.{Status}
 use Rattle.ga_one_run.specs.declared.status.Status.TheVariants.{Done, BadWords, BadFormat, BadRules, FileFault, FileShort, DiskFault, DbDamaged, KeepDiffers, OutFault, CounterFull, NoMemory}
 
 -- ---- the names that a fault line has
 
 abbrev pub input_name : Settings → Input → List ℕ
+input_name s Conf = []
 input_name s Rules = unwrap_or s.browsers_file []
 input_name s (Log place) = unwrap_or (slice_get s.logs place) []
 

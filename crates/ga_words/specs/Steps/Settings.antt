@@ -45,6 +45,7 @@ with_format T.Time text s = record s { time_format = text }
 
 abbrev pub with_name : CodeName → List ℕ → Settings → Settings
 with_name N.BrowsersFile name s = record s { browsers_file = Some name }
+with_name N.ConfigFile name s = record s { config_file = Some name }
 with_name N.StaticFile name s = record s { statics = s.statics ++ name ∷ [] }
 with_name N.DbPath name s = record s { db_path = name }
 

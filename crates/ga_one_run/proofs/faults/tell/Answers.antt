@@ -3,8 +3,11 @@ use Rattle.ga_one_run.proofs.faults.tell.Goals as goal
 pub returns-in-BadFormat-clause-line : goal.returns-in-BadFormat-clause-line
 returns-in-BadFormat-clause-line g c = rw c.in-BadFormat.is c.tell_format.ensures.line
 
+pub returns-in-BadConf-clause-line : goal.returns-in-BadConf-clause-line
+returns-in-BadConf-clause-line g c = rw c.in-BadConf.is c.tell_number.ensures.line
+
 pub returns-in-BadRules-clause-line : goal.returns-in-BadRules-clause-line
-returns-in-BadRules-clause-line g c = rw c.in-BadRules.is c.tell_number.ensures.line
+returns-in-BadRules-clause-line g c = rw c.in-BadRules.is c.tell_number-in-BadRules.ensures.line
 
 pub returns-in-FileFault-clause-line : goal.returns-in-FileFault-clause-line
 returns-in-FileFault-clause-line g c = rw c.in-FileFault.is c.say-in-FileFault.ensures.line

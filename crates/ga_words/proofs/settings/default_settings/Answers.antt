@@ -11,6 +11,7 @@ returns c = λ i. record {
   time_format = c.in_ok-of-2.ensures i;
   output = record { kind = Json; name = c.new.ensures i };
   browsers_file = None;
+  config_file = None;
   statics = c.new-2.ensures i;
   all_static = false;
   ranges = c.new-3.ensures i;

@@ -1,0 +1,2 @@
+pub mod ConfFile
+pub mod Steps
