@@ -1,5 +1,5 @@
 -- Words after those of a configuration file: all of them are units again, and what is wrong with them is among the words.
-use Rattle.std.proofs.Common.{◌≡◌, ◌⊎◌, ◌↔◌, ◌+◌, ◌-◌, ◌≤◌, ℕ, Bool, true, false, if◌then◌else◌, Option, Some, None, List, [], ◌∷◌, ◌++◌, length, refl, sym, ap, ◌∙◌, subst, arith, append_assoc, append-nil, length-append, Result, Ok, Err, IfOk, IfErr, inl, inr}
+use Rattle.std.proofs.Common.{◌≡◌, ◌⊎◌, ◌↔◌, ◌+◌, ◌-◌, ◌≤◌, ℕ, Bool, true, false, if◌then◌else◌, Option, List, [], ◌∷◌, ◌++◌, length, refl, sym, ap, ◌∙◌, subst, arith, append_assoc, length-append, Result, Ok, Err, IfOk, IfErr, inl, inr}
 use Rattle.std.specs.List.{AllByRecursion}
 use Rattle.ga_words.specs.declared.settings.Settings.{Settings}
 use Rattle.ga_words.specs.declared.fault.WordFault.{WordFault}
@@ -9,7 +9,7 @@ use Rattle.ga_words.specs.Options.{Takes, Sets}
 use Rattle.ga_words.specs.Options.Takes.{Flag, Format, Name, Number, Status, Target, Addresses, OfPanel, OneOf}
 use Rattle.ga_words.specs.Units.{WordUnit, written, spelled, Makes, RowMakes, tail_words, tail_logs, names_generate, generate_places}
 use Rattle.ga_words.specs.Units.WordUnit.{Alone, Joined, Separate, Log}
-use Rattle.ga_words.specs.WordsOf.{AreUnits, HasFault, AreRefused, IsLastOf, WordsOf, IsSame}
+use Rattle.ga_words.specs.WordsOf.{AreUnits, HasFault, WordsOf, IsSame}
 use Rattle.ga_words.specs.Joined.{AreConfWords, HasNoPlace, IsConfUnit, JoinedOf, NamesConf, among_all, ScanOf}
 use Rattle.ga_words.specs.Steps.Joined.{alone}
 use Rattle.ga_words.proofs.OneEvent.{OneRange}
@@ -55,19 +55,20 @@ spelled-append (unit ∷ units) more = ap (λ (x : List (List ℕ)). written uni
 pub joined-units : (conf words : List (List ℕ)) (name : Option (List ℕ)) (front : AreConfWords conf) (back : NamesConf words name) → (s : Settings) × AreUnits (conf ++ words) (front.units ++ back.units) s
 joined-units conf words name front back =
     let own = back.are_units in
-    let moved = row-any back.units defaults own.before front.settings own.row in
-    (record moved.0 { logs = moved.0.logs ++ tail_logs own.tail },
-    record {
-      tail = own.tail;
-      spells =
-          ap (λ (x : List (List ℕ)). x ++ words) front.spells ∙ ap (λ (x : List (List ℕ)). spelled front.units ++ x) own.spells
-          ∙ sym (append_assoc (spelled front.units) (spelled back.units) (tail_words own.tail))
-          ∙ ap (λ (x : List (List ℕ)). x ++ tail_words own.tail) (sym (spelled-append front.units back.units));
-      before = moved.0;
-      row = row-append front.units back.units defaults front.settings moved.0 front.row moved.1;
-      named = own.named;
-      makes = refl;
-    })
+    let moved = row-any back.units defaults own.before front.settings own.row in (
+      record moved.0 { logs = moved.0.logs ++ tail_logs own.tail },
+      record {
+        tail = own.tail;
+        spells =
+            ap (λ (x : List (List ℕ)). x ++ words) front.spells ∙ ap (λ (x : List (List ℕ)). spelled front.units ++ x) own.spells
+            ∙ sym (append_assoc (spelled front.units) (spelled back.units) (tail_words own.tail))
+            ∙ ap (λ (x : List (List ℕ)). x ++ tail_words own.tail) (sym (spelled-append front.units back.units));
+        before = moved.0;
+        row = row-append front.units back.units defaults front.settings moved.0 front.row moved.1;
+        named = own.named;
+        makes = refl;
+      },
+    )
 
 -- ---- the places of --generate
 

@@ -1,5 +1,5 @@
 -- What an option found in the code's table takes, and whether it takes a value.
-use Rattle.std.proofs.Common.{◌≡◌, ◌⊎◌, ℕ, Bool, false, MatchBool, List, Option, Some, None, option_map, Result, Ok, Err, IfOk, sym, ap, ◌∙◌, subst, inl, inr}
+use Rattle.std.proofs.Common.{◌≡◌, ℕ, Bool, false, MatchBool, List, Option, Some, None, option_map, Result, Ok, Err, IfOk, sym, ap, ◌∙◌, subst, inl, inr}
 use Rattle.ga_base.specs.declared.no_memory.NoMemory.{NoMemory as NoMemoryFault}
 use Rattle.ga_words.specs.declared.settings.Settings.{Settings}
 use Rattle.ga_words.specs.declared.fault.WordFault.{WordFault}
@@ -8,7 +8,7 @@ use Rattle.ga_words.specs.declared.options.Takes.{Takes as CodeTakes}
 use Rattle.ga_words.specs.declared.options.Takes.TheVariants as C
 use Rattle.ga_words.specs.declared.options.Flag.{Flag as CodeFlag}
 use Rattle.ga_words.specs.Forms.{Accepts}
-use Rattle.ga_words.specs.Options.{IsFlag, IsOutside, Sets, Takes, TakesValue, takes_of}
+use Rattle.ga_words.specs.Options.{IsFlag, Sets, Takes, TakesValue, takes_of}
 use Rattle.ga_words.specs.Steps.Settings.{IsValueFault, meaning, with_flag}
 use Rattle.ga_words.proofs.UnitLemmas.{takes-value}
 

@@ -2,9 +2,8 @@ ghost use Rattle.std.specs.Prelude.{◌≡◌, ◌⊎◌, ℕ, Option, List, Res
 ghost use Rattle.ga_words.specs.Joined.{ScanOf};
 ghost use Rattle.ga_words.specs.declared.fault.WordFault.{WordFault as FaultSpec};
 
-use crate::WordFault;
-use crate::laws;
 use crate::words_reading::read_all;
+use crate::{WordFault, laws};
 use ga_base::Text;
 use std::alloc::Global;
 

@@ -1,4 +1,3 @@
-use Rattle.std.proofs.Common.{sym, ◌∙◌}
 use Rattle.ga_words.proofs.OptionLemmas.{form-flag, form-value}
 use Rattle.ga_words.proofs.option_form.form_of.Goals as goal
 
