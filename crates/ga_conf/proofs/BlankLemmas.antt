@@ -1,5 +1,5 @@
 -- Blanks at the ends of a text: where they end, and that a text may be cut there.
-use Rattle.std.proofs.Common.{◌≡◌, ◌⊎◌, ℕ, zero, suc, ◌+◌, ◌-◌, ◌<◌, ◌≤◌, Bool, true, false, not, List, [], ◌∷◌, ◌++◌, length, take, drop, get_or, Some, None, refl, sym, ap, ◌∙◌, subst, arith, length-append, length-drop, length-take-le, take-append-drop, get_or-take, get_or-drop, ⊎_elim, inl, inr}
+use Rattle.std.proofs.Common.{◌≡◌, ℕ, zero, suc, ◌+◌, ◌-◌, ◌<◌, ◌≤◌, Bool, true, false, not, List, [], ◌∷◌, ◌++◌, length, take, drop, get_or, Some, None, sym, ap, ◌∙◌, subst, arith, length-append, length-drop, length-take-le, take-append-drop, get_or-take, get_or-drop, ⊎_elim}
 use Rattle.std.proofs.lemmas.Bool.{cond-true, lt-ltb, cases_Bool, cases_lt}
 use Rattle.std.proofs.lemmas.Bool.Decides.{nat_tests}
 use Rattle.std.proofs.lemmas.List.{get_or_at, drop_more}
@@ -9,8 +9,8 @@ use Rattle.std.proofs.lemmas.List.Sums.{fails_before_first}
 use Rattle.std.proofs.lemmas.Str.{IsCharBoundary-start, IsCharBoundary-end, IsCharBoundary-before_ascii, IsCharBoundary-after_ascii}
 use Rattle.std.specs.List.{AllByRecursion, position, position_or_len}
 use Rattle.std.specs.Str.{IsCharBoundary, IsUtf8}
-use Rattle.ga_conf.specs.ConfFile.{AreBlanks, HasNoBlank, BeginsBare, EndsBare, is_blank}
-use Rattle.ga_conf.specs.Steps.{BeginsBlank, DropsBlanks, IsCutAtBlank, SkipsBlanks, is_other}
+use Rattle.ga_conf.specs.ConfFile.{HasNoBlank, is_blank}
+use Rattle.ga_conf.specs.Steps.{DropsBlanks, IsCutAtBlank, SkipsBlanks, is_other}
 
 -- a fact of each byte up to a place, and of all
 pub all_before : (P : ℕ → Type 0) (text : List ℕ) (i : ℕ) → i ≤ length text → ((k : ℕ) → k < i → P (get_or text k 0)) → AllByRecursion P (take i text)

@@ -1,5 +1,5 @@
 -- What a configuration file gives, and its first bad line: one of them at most, and once.
-use Rattle.std.proofs.Common.{◌≡◌, ◌⊎◌, Bor, ℕ, ◌+◌, ◌<◌, ◌≤◌, List, [], ◌∷◌, ◌++◌, length, refl, sym, ap, ◌∙◌, subst, arith, length-append, append_assoc, Result, Ok, Err, inl, inr, ⊎_elim}
+use Rattle.std.proofs.Common.{◌≡◌, ◌⊎◌, Bor, ℕ, ◌+◌, ◌≤◌, List, [], ◌∷◌, ◌++◌, length, refl, sym, ap, ◌∙◌, subst, arith, length-append, append_assoc, Result, Ok, Err, inl, inr}
 use Rattle.std.proofs.lemmas.List.{append-nil}
 use Rattle.std.specs.Result.{IfOk, IfErr}
 use Rattle.std.specs.Str.Lines.{lines}

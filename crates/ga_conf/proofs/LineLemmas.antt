@@ -1,6 +1,5 @@
 -- What a line says, by its parts; and that it is one name and one value at most.
-use Rattle.std.proofs.Common.{◌≡◌, ◌≢◌, ◌⊎◌, ℕ, ◌+◌, ◌<◌, ◌≤◌, Bool, true, false, List, [], ◌∷◌, ◌++◌, length, take, drop, get_or, Some, None, refl, sym, ap, ◌∙◌, subst, arith, append_assoc, IsTrue, inl, inr}
-use Rattle.std.proofs.lemmas.List.{append-nil}
+use Rattle.std.proofs.Common.{◌≡◌, ◌≢◌, ℕ, true, false, List, [], ◌∷◌, ◌++◌, refl, sym, ap, ◌∙◌, subst, append_assoc, IsTrue, inl, inr}
 use Rattle.std.specs.List.{AllByRecursion}
 use Rattle.ga_conf.specs.ConfFile.{AreBlanks, HasNoBlank, BeginsBare, EndsBare, IsPassedOver, IsSetting, is_blank, number_sign}
 use Rattle.ga_conf.specs.Steps.{BeginsBlank, BeginsNothing, DropsBlanks, IsCutAtBlank, SkipsBlanks}

@@ -1,5 +1,5 @@
 -- A setting gives one list of words at most.
-use Rattle.std.proofs.Common.{◌≡◌, ◌≢◌, ◌⊎◌, ℕ, List, [], ◌∷◌, ◌++◌, Option, Some, None, MatchOption, refl, sym, ap, ◌∙◌, subst, inl, inr, ⊎_elim, Result, Ok, Err}
+use Rattle.std.proofs.Common.{◌≡◌, ℕ, Bool, false, List, [], ◌∷◌, ◌++◌, Option, Some, None, MatchOption, refl, sym, ap, ◌∙◌, subst, inl, inr, ⊎_elim, Result, Ok, Err}
 use Rattle.std.specs.Prelude.{codes, ◌||◌}
 use Rattle.std.specs.Result.{IfOk}
 use Rattle.std.specs.Str.{bytes_eq}
@@ -7,13 +7,11 @@ use Rattle.std.proofs.lemmas.Bool.{cond-true, cond-false, cases_Bool}
 use Rattle.ga_base.specs.declared.no_memory.NoMemory.{NoMemory}
 use Rattle.ga_words.specs.Forms.{Accepts, IsFormOf}
 use Rattle.ga_words.specs.Options.{IsFlag, IsTaken, Sets, Takes, TakesValue, takes_of}
-use Rattle.ga_words.specs.Options.Takes.{Flag}
-use Rattle.ga_conf.specs.ConfFile.{FlagGives, IsOtherName, OptionGives, SettingGives, ValueGives, option_of, takes_in_file}
-use Rattle.ga_conf.specs.Steps.{GivesAs, GivesFlag, GivesValue, IsAs, words_of}
+use Rattle.ga_conf.specs.ConfFile.{FlagGives, IsOtherName, OptionGives, SettingGives, option_of, takes_in_file}
+use Rattle.ga_conf.specs.Steps.{GivesAs, GivesFlag, GivesValue, words_of}
 use Rattle.ga_words.specs.declared.option_form.OptionForm.{OptionForm}
 use Rattle.ga_words.specs.declared.option_form.OptionForm.TheVariants as O
 use Rattle.ga_conf.specs.declared.setting.Setting.{Setting}
-use Rattle.ga_conf.specs.declared.setting.Setting.TheVariants as S
 
 -- a flag takes no value
 pub flag_takes_none : (takes : Takes) (value : List ℕ) → IsFlag takes → ¬ IsTaken takes value
@@ -111,3 +109,15 @@ pub value_answer : (name value shown : List ℕ) (form : OptionForm) (r : Result
 value_answer name value shown form (Err e) is_value is found h = tt
 value_answer name value shown form (Ok setting) is_value is found h =
     value_given name value found.0 setting found.1 (in_table name found.0 found.1) (subst (IsFormOf found.0) is_value found.2) (subst (λ option. GivesValue option value setting) is h)
+
+-- the form of an option whose name a file may have
+neither : (a b : Bool) → a ≡ false → b ≡ false → (a || b) ≡ false
+neither a b first second = subst (λ c. (c || b) ≡ false) (sym first) second
+
+pub form_in_file : (name option : List ℕ) (found : Option OptionForm) → option ≡ option_of name → bytes_eq name (codes "generate") ≡ false → bytes_eq name (codes "config-file") ≡ false
+    → MatchOption found (takes_of option ≡ None) (λ form. (takes : Takes) × (takes_of option ≡ Some takes) × IsFormOf takes form)
+    → MatchOption found (takes_in_file name ≡ None) (λ form. (takes : Takes) × (takes_in_file name ≡ Some takes) × IsFormOf takes form)
+form_in_file name option found is other none form =
+    let same : takes_of option ≡ takes_in_file name =
+    ap takes_of is ∙ sym (cond-false _ _ _ (neither (bytes_eq name (codes "generate")) (bytes_eq name (codes "config-file")) other none)) in
+    subst (λ (takes : Option Takes). MatchOption found (takes ≡ None) (λ form. (t : Takes) × (takes ≡ Some t) × IsFormOf t form)) same form

@@ -1,8 +1,8 @@
 -- Each file gives words, or has a first bad line.
-use Rattle.std.proofs.Common.{◌≡◌, ◌≢◌, ◌⊎◌, ℕ, ◌+◌, ◌<◌, ◌≤◌, Bool, true, false, List, [], ◌∷◌, ◌++◌, length, Option, Some, None, MatchOption, refl, sym, ap, ◌∙◌, subst, arith, inl, inr, ⊎_elim}
+use Rattle.std.proofs.Common.{◌≡◌, ◌≢◌, ◌⊎◌, ℕ, ◌+◌, true, false, List, [], ◌∷◌, ◌++◌, length, Option, Some, None, MatchOption, refl, sym, ap, ◌∙◌, subst, arith, inl, inr, ⊎_elim}
 use Rattle.std.specs.Prelude.{codes, ◌==◌}
 use Rattle.std.specs.List.{list_all}
-use Rattle.std.specs.Str.{IsUtf8, bytes_eq, is_utf8}
+use Rattle.std.specs.Str.{bytes_eq, is_utf8}
 use Rattle.std.specs.Str.Lines.{lines}
 use Rattle.std.proofs.lemmas.Bool.{cases_Bool, cases_lt, eqb-true}
 use Rattle.std.proofs.lemmas.Slice.Eq.{bytes_eq-Decides}
@@ -82,8 +82,10 @@ line_says line =
     let value = some_skips cut.1 in
     ⊎_elim
     (λ nothing. inl (passes_over line text.0 trim nothing))
-    (λ something. inr (lives line text.0 trim (λ nothing. absurd (something nothing)),
-    (cut.0, value.0, setting_found line text.0 cut.0 cut.1 value.0 trim (λ empty. something (inl empty)) cut.2 value.1)))
+    (λ something. inr (
+      lives line text.0 trim (λ nothing. absurd (something nothing)),
+      (cut.0, value.0, setting_found line text.0 cut.0 cut.1 value.0 trim (λ empty. something (inl empty)) cut.2 value.1),
+    ))
     (begins text.0)
 
 -- ---- each setting gives words or none

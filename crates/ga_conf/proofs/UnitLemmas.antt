@@ -1,5 +1,5 @@
 -- The words of a file are units of the command line, which set something of any settings.
-use Rattle.std.proofs.Common.{◌≡◌, ◌≢◌, ◌⊎◌, ℕ, Bool, true, false, List, [], ◌∷◌, ◌++◌, Option, Some, None, MatchOption, refl, sym, ap, ◌∙◌, subst, append_assoc, append-nil, inl, inr, ⊎_elim}
+use Rattle.std.proofs.Common.{◌≡◌, ◌⊎◌, ℕ, true, false, List, [], ◌∷◌, ◌++◌, Option, Some, None, MatchOption, refl, sym, ap, ◌∙◌, subst, append_assoc, append-nil, inl, inr, ⊎_elim}
 use Rattle.std.specs.Prelude.{codes, ◌||◌}
 use Rattle.std.specs.List.{AllByRecursion}
 use Rattle.std.specs.Str.{bytes_eq}
@@ -8,12 +8,11 @@ use Rattle.std.proofs.lemmas.Bool.{cond-true, cases_Bool}
 use Rattle.std.proofs.lemmas.Slice.Eq.{bytes_eq-Decides}
 use Rattle.ga_words.specs.Defaults.{defaults}
 use Rattle.ga_words.specs.Joined.{AreConfWords, IsConfUnit}
-use Rattle.ga_words.specs.Options.{IsFlag, IsLong, IsOutside, IsTaken, Sets, Takes, takes_of}
+use Rattle.ga_words.specs.Options.{IsLong, IsOutside, IsTaken, Sets, Takes}
 use Rattle.ga_words.specs.Units.{Makes, RowMakes, WordUnit, spelled, written}
-use Rattle.ga_words.specs.Options.Takes.{Flag}
 use Rattle.ga_words.specs.declared.settings.Settings.{Settings}
 use Rattle.ga_words.specs.Units.WordUnit.{Alone, Joined}
-use Rattle.ga_conf.specs.ConfFile.{ConfGives, LineGives, LinesGive, IsOtherName, OptionGives, SettingGives, option_of, takes_in_file}
+use Rattle.ga_conf.specs.ConfFile.{ConfGives, LineGives, LinesGive, IsOtherName, OptionGives, option_of, takes_in_file}
 use Rattle.ga_conf.proofs.SettingLemmas.{in_table}
 
 -- what is known of values

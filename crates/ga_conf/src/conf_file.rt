@@ -89,12 +89,7 @@ fn without_return(line: &[u8]) -> &[u8]
 }
 
 /// Adds the word of the line with this number, if it has one.
-fn read_line(
-    alloc: Global,
-    line: &[u8],
-    number: u64,
-    words: &mut Texts,
-) -> Result<(), ConfFault>
+fn read_line(alloc: Global, line: &[u8], number: u64, words: &mut Texts) -> Result<(), ConfFault>
     ensures ok { OnOk result ((given : List (List ℕ)) × LineGives line.now given × (words.new ≡ words.old ++ given)) }
     ensures fault { IfErr result (IsLineFault line.now number) }
 {
