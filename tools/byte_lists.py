@@ -2,7 +2,8 @@
 database_oracle.py calculates, and the run's answer with that of goaccess_oracle.py.
 
 Lines, formats and options are made by compare.py. Between two runs logs grow, are renamed, cut, emptied, copied and changed, and
-the two files may get what a crash leaves after their closed gates, which changes nothing of what is stored.
+the two files may get what a crash leaves after their closed gates, which changes nothing of what is stored. A run has the number
+of days that is stored, and now and then another; some lists begin with a database without a number, as an earlier program left it.
 """
 import collections
 import os
@@ -25,6 +26,8 @@ MODES = [TRACKED] * 12 + [ANEW] * 4 + [SHOWN] * 2 + [UNTRACKED]
 WIDE = 1500
 # a log that has more bytes begins anew
 LONGEST_LOG = 3_000_000
+# how many days runs keep, where they may have any number; 0 is that of a run without the option
+NUMBERS = (0, 0, 0, 1, 2, 3, 10, 4_294_967_295)
 # amounts of which five fill a counter; then nothing more is kept
 GREAT = re.compile(rb"10{12}|9{12}")
 
@@ -103,6 +106,20 @@ class KeptRuns:
         if rng.random() < 0.2:
             self.tear()
 
+    def begin_without_number(self):
+        """Begins with a database that an earlier program left: a snapshot without a number, and some records."""
+        self.db.begin_without_number()
+        words = [*compare.spelt(self.rng, b"--log-format", b"COMMON"), *TRACKED, b"a.log"]
+        for _ in range(self.rng.randrange(3)):
+            self.db.add_record_without_number(words, {b"a.log": oracle.generated(self.rng.randint(1, 40))})
+        self.write_sides()
+        self.seen["begun without a number"] += 1
+
+    def write_sides(self):
+        write_sides(self.path, self.db.sides)
+        for name in SIDES:
+            os.chmod(os.path.join(self.path, name), 0o666)
+
     def tear(self):
         """What a crash may leave of a commit that stores nothing: a closed gate, on either side, and any bytes after it."""
         rng, db = self.rng, self.db
@@ -112,16 +129,22 @@ class KeptRuns:
                 gate = bytes([rng.choice([0, 0, rng.randrange(79), rng.randrange(80, 256)])])
                 torn = gate + rng.randbytes(rng.choice((0, 1, 100, 5000, 50_000)))
                 db.sides[at] = front + rng.choice((b"", database_oracle.OPEN, torn, torn, torn))
-        write_sides(self.path, db.sides)
-        for name in SIDES:
-            os.chmod(os.path.join(self.path, name), 0o666)
+        self.write_sides()
         self.seen["torn"] += 1
+
+    def last_days(self, mode):
+        """The words for how many days a run keeps. One that restores has the number of the database, but now and then."""
+        number = self.db.number
+        if number is None or b"--restore" not in mode or self.rng.random() < 0.04:
+            number = self.rng.choice(NUMBERS)
+        return [compare.spelt(self.rng, b"--keep-last", b"%d" % number)] if number else []
 
     def random_words(self, mode):
         """The words of a run, in any order, and the files that they name beside the logs."""
         rng = self.rng
         formats = compare.formats(rng) if rng.random() < 0.06 else self.formats
-        units = [unit for unit in compare.settings(rng, *formats) if not unit[0].startswith(b"--db-path")]
+        units = [unit for unit in compare.settings(rng, *formats) if not unit[0].startswith((b"--db-path", b"--keep-last"))]
+        units += self.last_days(mode)
         for name, values in ((b"--jobs", (1, 2, 4, 16)), (b"--chunk-size", (1, 2, 7, 1024))):
             if rng.random() < 0.6:
                 units.append(compare.spelt(rng, name, b"%d" % rng.choice(values)))
@@ -214,6 +237,8 @@ def leave(tries, words, about):
 
 def short_list(play):
     """One to five runs."""
+    if play.rng.random() < 0.15:
+        play.begin_without_number()
     for _ in range(play.rng.randint(1, 5)):
         play.change()
         if not play.run(*play.random_words(play.rng.choice(MODES))):

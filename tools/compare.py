@@ -318,6 +318,17 @@ def finer(rng):
             yield spelt(rng, name, pick(rng, values, BAD_SPECS if name == b"--date-spec" else [*BAD_SPECS, b"date"], 0.02))
 
 
+NUMBERS = [b"1"] * 3 + [b"2"] * 3 + [b"3", b"5", b"0000000002", b"4294967295"]
+BAD_NUMBERS = [b"0", b"4294967296", b"-1", b"", b"+1", b"00000000001", b"two", b"1.5", b"1 ", b" 1", b"0000000000"]
+
+
+def last_days(rng):
+    """How many of the last days are kept, in a third of the runs, and now and then said again."""
+    for chance in (0.35, 0.05):
+        if rng.random() < chance:
+            yield spelt(rng, b"--keep-last", pick(rng, NUMBERS, BAD_NUMBERS, 0.03))
+
+
 def spelt(rng, name, value, flag_with_value=False):
     if value is None:
         return [name + rng.choice([b"=", b"=1"])] if flag_with_value else [name]
@@ -339,6 +350,7 @@ def settings(rng, text, date, time):
     for _ in range(rng.choice([0, 1, 1, 2, 3, 5, 8])):
         units.append(spelt(rng, *option(rng)))
     units += finer(rng)
+    units += last_days(rng)
     if rng.random() < 0.25:
         keep = rng.sample(oracle.PANELS, rng.randint(0, 4))
         units += [[b"--ignore-panel=" + panel] for panel in oracle.PANELS if panel not in keep]
@@ -383,7 +395,7 @@ def wide_words(rng, text, date, time):
     logs = [[pick(rng, LOGS, NO_LOGS, 0.02)] for _ in range(rng.choice([1] * 12 + [2] * 5 + [3, 3, 0]))]
     behind = rng.random() < 0.1
     if rng.random() < 0.03:
-        units.append(rng.choice([[b"--bogus"], [b"-"], [b"-o=json"], [b"--persist"], [b"--restore"], [b"--generate=5"], [b"--generate", b"0000000005"], [b""], [b"--jobs"],
+        units.append(rng.choice([[b"--bogus"], [b"-"], [b"-o=json"], [b"--persist"], [b"--restore"], [b"--generate=5"], [b"--generate", b"0000000005"], [b"--keep-last"], [b""], [b"--jobs"],
                                  [b"\xff"], [b"-ocsv"], [b"--bogus=1"], [b"--Log-Format=COMMON"], [b"--log-format="], [b"--generate=0"], [b"--date-format="],
                                  [b"--persist=x"], [b"--output"]]))
     if rng.random() < 0.02:

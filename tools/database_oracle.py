@@ -19,7 +19,8 @@ import sys
 import goaccess_oracle as oracle
 
 OPEN, CLOSED = b"\x4f", b"\x00"
-VERSION = b"\x01"
+# a snapshot without a number of days, and a run record, begin with the first; a snapshot with a number with the second
+FIRST_VERSION, SECOND_VERSION = b"\x01", b"\x02"
 MOST_RECORDS = 64
 DIGEST = 32
 
@@ -103,6 +104,16 @@ def merged(first, second):
     return both
 
 
+def last_days(summary, number):
+    """The totals of all lines, and the rows of the last days that are counted under VISITORS, as many as this; 0 keeps all."""
+    if number == 0:
+        return summary
+    days = sorted({key[1] for key in summary.rows if oracle.PANELS[key[0] - 1] == b"VISITORS"})[-number:]
+    last = merged(summary, Summary())
+    last.rows = {key: row for key, row in last.rows.items() if key[1] in days}
+    return last
+
+
 # ------------------------------------------------------------------------------------------------ bodies
 
 
@@ -136,12 +147,14 @@ def entries_bytes(entries):
     return list_bytes(n16(lead) + digest + n64(offset) for lead, digest, offset in entries)
 
 
-def snapshot(generation, summary, entries):
-    return VERSION + n64(generation) + summary_bytes(summary) + entries_bytes(entries)
+def snapshot(generation, number, summary, entries):
+    """That of a database without a number has None for it."""
+    head = FIRST_VERSION + n64(generation) if number is None else SECOND_VERSION + n64(generation) + n32(number)
+    return head + summary_bytes(summary) + entries_bytes(entries)
 
 
 def run_record(summary, entries):
-    return VERSION + summary_bytes(summary) + entries_bytes(entries)
+    return FIRST_VERSION + summary_bytes(summary) + entries_bytes(entries)
 
 
 # ------------------------------------------------------------------------------------------------ sides
@@ -156,7 +169,8 @@ class Database:
 
     def __init__(self):
         self.sides = [b"", b""]
-        self.summary, self.entries = Summary(), []
+        # with the number of days that are kept, None where none is stored
+        self.summary, self.entries, self.number = Summary(), [], None
         # the side that counts, its snapshot's number, how many records follow that, and the place of the closed gate after them
         self.side, self.generation, self.records, self.slot = None, 0, 0, 0
         # the same by goaccess_oracle.py, which the reports come from
@@ -173,16 +187,18 @@ class Database:
         if answer[0] == 0:
             s = oracle.settings_of(words, files.get)
             if s.persist:
-                self.keep(*counted(s, files, before if s.restore else []), s.restore)
+                self.keep(*counted(s, files, before if s.restore else []), s.keep_last, s.restore)
         return answer
 
-    def keep(self, run, entries, goes_on):
-        """Keeps a run: its summary and the entries after it. It goes on from what is stored, or takes its place."""
-        self.summary = merged(self.summary, run) if goes_on else run
+    def keep(self, run, entries, number, goes_on):
+        """Keeps a run: its summary, the entries after it and its number of days. It goes on from what is stored, or takes its place.
+        A record has all days of the run, and is added to a snapshot with a number alone."""
+        self.summary = last_days(merged(self.summary, run) if goes_on else run, number)
         self.entries = entries
-        if goes_on and self.side is not None and self.records < MOST_RECORDS:
+        if goes_on and self.number is not None and self.records < MOST_RECORDS:
             self.add_record(run)
         else:
+            self.number = number
             self.begin_generation()
 
     def add_record(self, run):
@@ -198,9 +214,24 @@ class Database:
         self.side = 0 if self.side is None else 1 - self.side
         self.generation += 1
         self.records = 0
-        part = part_of(snapshot(self.generation, self.summary, self.entries))
+        part = part_of(snapshot(self.generation, self.number, self.summary, self.entries))
         self.slot = len(OPEN + part)
         self.sides[self.side] = OPEN + part + CLOSED
+
+    def begin_without_number(self):
+        """Begins a generation whose snapshot has the first version, as a program without --keep-last wrote it."""
+        self.number = self.shown.number = None
+        self.begin_generation()
+
+    def add_record_without_number(self, words, files):
+        """Adds a run's record to such a snapshot, as that program did. Gives what the run answers."""
+        before = list(self.shown.entries)
+        answer = oracle.run(words, files, self.shown)
+        self.shown.number = None
+        run, self.entries = counted(oracle.read_words(words), files, before)
+        self.summary = merged(self.summary, run)
+        self.add_record(run)
+        return answer
 
 
 def counted(s, files, entries):
@@ -277,8 +308,15 @@ def place_in(side, place):
 # ------------------------------------------------------------------------------------------------ self-test
 
 # Bytes worked out by hand: hexadecimal digits; #N, the number N in eight bytes; and a text in quotes, before which its length stands.
-# A side after a run over an empty log, and what a second such run adds behind its first 114 bytes.
+# A side after a run over an empty log, and what a second such run adds behind its first 118 bytes.
 EMPTY_SIDE = """
+4f #77
+02 #1 00000000 #0 #0 #0 #0 #0 #0 #0 #0
+a7a98853d5e097f249cb418f57e542c3ced4146b3e964f4402c91064449397a2
+00
+"""
+# The same side without a number.
+FIRST_SIDE = """
 4f #73
 01 #1 #0 #0 #0 #0 #0 #0 #0 #0
 ba440565b58794095a0e79e52f7276db4b76b2340e1a7ee9fd9e071dda0b38d7
@@ -293,7 +331,7 @@ ae0798d0ecaed2b778eddebf18f071a561c53658c05e76cedecc27cafbdbc577
 # A snapshot of one line in the common format.
 ONE_LOG = b'192.0.2.1 - - [01/Jan/2024:00:00:00 +0000] "GET /a HTTP/1.1" 200 10\n'
 ONE_LINE = """
-01 #1
+02 #1 00000000
 #1 #0 #0 #1 #10 #0
 #6
 01 0134d6e5 #0 #8 "20240101" #0 #0              #1 #10 #0 #0   #1 #9 "192.0.2.1" #0
@@ -376,30 +414,31 @@ def self_test():
     over(db, "--persist a.log", empty)
     first = by_hand(EMPTY_SIDE)
     check("an empty log", db.sides, [first, b""])
-    check("an empty log, places", (len(first), first[:1].hex(), first[1:9].hex(), first[9], first[10:18].hex(), set(first[18:82]), first[114]),
-          (115, "4f", "0000000000000049", 1, "0000000000000001", {0}, 0))
-    check("an empty log, the body", (len(body(first, 0)), db.entries), (73, []))
+    check("an empty log, places", (len(first), first[:1].hex(), first[1:9].hex(), first[9], first[10:18].hex(), set(first[18:86]), first[118]),
+          (119, "4f", "000000000000004d", 2, "0000000000000001", {0}, 0))
+    check("an empty log, the body", (len(body(first, 0)), db.entries, db.number), (77, [], 0))
     over(db, tracked, empty)
-    second = first[:114] + by_hand(EMPTY_RECORD)
-    check("a record", (db.sides, db.records, db.slot), ([second, b""], 1, 220))
-    check("a record, places", (len(second), second[114:115].hex(), second[115:123].hex(), second[123], second[220]),
-          (221, "4f", "0000000000000041", 1, 0))
+    second = first[:118] + by_hand(EMPTY_RECORD)
+    check("a record", (db.sides, db.records, db.slot), ([second, b""], 1, 224))
+    check("a record, places", (len(second), second[118:119].hex(), second[119:127].hex(), second[127], second[224]),
+          (225, "4f", "0000000000000041", 1, 0))
     for name, side, found in (
-            ("as it is", second, (None, [(0, 0, 114), (0, 114, 220)])), ("the gate closed", second[:114] + b"\0" + second[115:], (None, [(0, 0, 114)])),
-            ("a byte of the record changed", second[:124] + b"\1" + second[125:], ((0, 115), [(0, 0, 114)])),
+            ("as it is", second, (None, [(0, 0, 118), (0, 118, 224)])), ("the gate closed", second[:118] + b"\0" + second[119:], (None, [(0, 0, 118)])),
+            ("a byte of the record changed", second[:128] + b"\1" + second[129:], ((0, 119), [(0, 0, 118)])),
             ("a byte of the snapshot changed", second[:20] + b"\1" + second[21:], ((0, 1), [])),
             ("the longest length", b"\x4f" + b"\xff" * 8 + second[9:], ((0, 1), [])), ("a gate alone", b"\x4f", (None, []))):
         check(f"a side is read, {name}", reading([side, b""]), found)
     check("equal generations", reading([second, first])[0], (1, 1))
     for _ in range(63):
         over(db, tracked, empty)
-    full = first[:114] + by_hand(EMPTY_RECORD)[:-1] * 64 + b"\0"
+    full = first[:118] + by_hand(EMPTY_RECORD)[:-1] * 64 + b"\0"
     check("64 records", (db.sides, db.records), ([full, b""], 64))
     over(db, tracked, empty)
-    check("the next generation", (db.sides[0], db.sides[1][:82], len(db.sides[1]), db.records, db.generation),
-          (full, by_hand("4f #73 01 #2" + " #0" * 8), 115, 0, 2))
+    check("the next generation", (db.sides[0], db.sides[1][:86], len(db.sides[1]), db.records, db.generation),
+          (full, by_hand("4f #77 02 #2 00000000" + " #0" * 8), 119, 0, 2))
     over(db, "--persist a.log", empty)
-    check("the next generation cuts the side", (db.sides[0][:82], len(db.sides[0]), len(db.sides[1])), (by_hand("4f #73 01 #3" + " #0" * 8), 115, 115))
+    check("the next generation cuts the side", (db.sides[0][:86], len(db.sides[0]), len(db.sides[1])),
+          (by_hand("4f #77 02 #3 00000000" + " #0" * 8), 119, 119))
     held = list(db.sides)
     for status, given in ((1, "--persist"), (1, "--persist --jobs=17 a.log"), (2, "--restore --persist a.log gone.log"), (0, "--restore a.log"), (0, "a.log")):
         check(f"not kept: {given}", (over(db, given, empty), db.sides), (status, held))
@@ -431,6 +470,48 @@ def self_test():
     fine = Database()
     over(fine, "--persist --date-spec=hr a.log", {b"a.log": ended})
     check("a day and an hour", [key[1:4] for key in sorted(fine.summary.rows) if key[0] == 1], [(20240101, b"", b"20240101"), (20240101, b"20240101", b"2024010100")])
+
+    # the last days
+    def on(*days):
+        return b"".join(ONE_LOG.replace(b"01/Jan", b"%02d/Jan" % day) for day in days)
+
+    def days_of(summary):
+        return sorted({key[1] - 20240100 for key in summary.rows})
+
+    files = {b"a.log": on(1, 2, 3), b"b.log": on(4, 1)}
+    days = Database()
+    over(days, "--keep-last=2 " + tracked, files)
+    check("two days of three", (days.number, days.summary.lines, days_of(days.summary), days.sides[0][9:22]), (2, 3, [2, 3], by_hand("02 #1 00000002")))
+    held = list(days.sides)
+    for given in ("--keep-last=3 " + tracked, "--restore", "--keep-last=1 --restore a.log"):
+        check(f"another number: {given}", (over(days, given, files), days.sides), (8, held))
+    over(days, "--keep-last=2 --restore --persist b.log", files)
+    record = body(days.sides[0], part_end(days.sides[0], 1))
+    both = Database()
+    over(both, "--persist b.log", files)
+    check("a record has all days of its run", record[: -len(entries_bytes(days.entries))], run_record(both.summary, [])[:-8])
+    check("and the database the last ones", (days.summary.lines, days.summary.hits, days_of(days.summary), days.records), (5, 5, [3, 4], 1))
+    over(days, "--persist --keep-last=4294967295 b.log", files)
+    check("--persist alone takes another number", (days.number, days.side, days.generation, days_of(days.summary), days.sides[1][18:22].hex()),
+          (4_294_967_295, 1, 2, [1, 4], "ffffffff"))
+
+    # a database without a number
+    earlier = Database()
+    earlier.begin_without_number()
+    first_side = by_hand(FIRST_SIDE)
+    check("a side without a number", (earlier.sides, len(first_side), reading(earlier.sides)), ([first_side, b""], 115, (None, [(0, 0, 114)])))
+    over(earlier, "--keep-last=2 " + tracked, empty)
+    check("its first kept run begins a generation", (earlier.sides[0], earlier.sides[1][:22], len(earlier.sides[1]), earlier.number, earlier.records),
+          (first_side, by_hand("4f #77 02 #2 00000002"), 119, 2, 0))
+    earlier = Database()
+    earlier.begin_without_number()
+    check("a record after it", (earlier.add_record_without_number(words("--log-format=COMMON " + tracked), files)[0], earlier.records, earlier.number), (0, 1, None))
+    check("a record after it, both are read", reading(earlier.sides)[0], None)
+    over(earlier, "--restore --keep-last=1", files)
+    check("--restore alone keeps no number", (earlier.number, days_of(earlier.summary)), (None, [1, 2, 3]))
+    over(earlier, "--keep-last=2 --restore --persist b.log", files)
+    check("days are left out once there is a number", (earlier.number, earlier.generation, earlier.records, days_of(earlier.summary)), (2, 2, 0, [3, 4]))
+
     torn = db.sides[1][: db.slot] + b"\x37" + b"torn" * 200
     db.sides[1] = torn
     over(db, tracked, {b"a.log": ended})
@@ -445,7 +526,18 @@ def self_test():
         db.run(words("--log-format=COMBINED --restore --persist a.log"), {b"a.log": log})
     whole = Database()
     whole.run(words("--log-format=COMBINED --persist a.log"), {b"a.log": log})
-    check("one pass", body(db.sides[1], 0), snapshot(2, whole.summary, whole.entries))
+    check("one pass", body(db.sides[1], 0), snapshot(2, 0, whole.summary, whole.entries))
+    # and with a number the last days of that
+    rng, lines = random.Random(2), oracle.generated(1000).split(b"\n")[:-1]
+    rng.shuffle(lines)
+    db, log = Database(), b""
+    while db.generation < 2:
+        count = rng.randint(1, 10)
+        log, lines = log + b"\n".join(lines[:count]) + b"\n", lines[count:]
+        db.run(words("--log-format=COMBINED --restore --persist --keep-last=5 a.log"), {b"a.log": log})
+    whole = Database()
+    whole.run(words("--log-format=COMBINED --persist a.log"), {b"a.log": log})
+    check("one pass and the last days", body(db.sides[1], 0), snapshot(2, 5, last_days(whole.summary, 5), whole.entries))
     print(f"{checks} checks, {wrong} wrong")
     return 1 if wrong else 0
 

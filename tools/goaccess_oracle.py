@@ -211,6 +211,7 @@ class Settings:
         self.as_404 = False
         self.double_decode = False
         self.max_items = 366
+        self.keep_last = 0
         self.jobs = 1
         self.chunk = 1024
         self.persist = False
@@ -289,6 +290,7 @@ VALUED = {
     b"--date-spec": lambda s, v: setattr(s, "date_spec", one_of(v, b"date", b"hr", b"min")),
     b"--hour-spec": lambda s, v: setattr(s, "hour_spec", one_of(v, b"hr", b"min")),
     b"--max-items": lambda s, v: setattr(s, "max_items", number_in(v, 1, 4_294_967_295)),
+    b"--keep-last": lambda s, v: setattr(s, "keep_last", number_in(v, 1, 4_294_967_295)),
     b"--jobs": lambda s, v: setattr(s, "jobs", number_in(v, 1, 16)),
     b"--chunk-size": lambda s, v: setattr(s, "chunk", number_in(v, 1, 32_768)),
     b"--db-path": lambda s, v: setattr(s, "db_path", name_in(v)),
@@ -964,13 +966,51 @@ class Sums:
         if visitor is not None:
             self.visitors.add(visitor)
 
+    def join(self, other):
+        self.hits += other.hits
+        self.bytes += other.bytes
+        self.micros += other.micros
+        self.top = max(self.top, other.top)
+        self.visitors |= other.visitors
 
-class Summary:
+
+def join_rows(rows, others):
+    for name, (sums, children) in others.items():
+        row = rows.setdefault(name, (Sums(), {}))
+        row[0].join(sums)
+        join_rows(row[1], children)
+
+
+class Counts:
+    """What is counted of the lines of one day, or of several: the sums of them all, and the rows of each panel."""
+
     def __init__(self):
-        self.lines = self.failed = self.excluded = self.bytes = self.micros = 0
         self.all = Sums()
         # (parent or data, method, protocol) -> (Sums, children); of VISITORS (data, method, protocol), for days and parts of days
         self.rows = {panel: {} for panel in PANELS}
+
+    def add(self, rec):
+        self.all.add(rec, rec.visitor)
+        for panel, parent, data, method, protocol in rec.keys:
+            rows = self.rows[panel]
+            if panel in WITH_PARENTS:
+                row = rows.setdefault((parent, b"", b""), (Sums(), {}))
+                row[0].add(rec, rec.visitor)
+                rows = row[1]
+            rows.setdefault((data, method, protocol), (Sums(), {}))[0].add(rec, rec.visitor)
+
+    def join(self, other):
+        self.all.join(other.all)
+        for panel, rows in other.rows.items():
+            join_rows(self.rows[panel], rows)
+
+
+class Summary:
+    """The totals of all lines, and what is counted under each day that a counted line has."""
+
+    def __init__(self):
+        self.lines = self.failed = self.excluded = self.bytes = self.micros = 0
+        self.days = {}
 
     def count(self, s, rules, setup, line):
         found = outcome_of(s, rules, setup, line)
@@ -989,14 +1029,19 @@ class Summary:
         if found is EXCLUDED:
             self.excluded += 1
             return
-        self.all.add(found, found.visitor)
-        for panel, parent, data, method, protocol in found.keys:
-            rows = self.rows[panel]
-            if panel in WITH_PARENTS:
-                row = rows.setdefault((parent, b"", b""), (Sums(), {}))
-                row[0].add(found, found.visitor)
-                rows = row[1]
-            rows.setdefault((data, method, protocol), (Sums(), {}))[0].add(found, found.visitor)
+        self.days.setdefault(found.date, Counts()).add(found)
+
+    def keep_last(self, number):
+        """Forgets all days but the last ones, as many as this; 0 keeps all. The totals stay those of all lines."""
+        if number > 0:
+            self.days = {date: self.days[date] for date in sorted(self.days)[-number:]}
+
+    def together(self):
+        """The counts of all days together."""
+        whole = Counts()
+        for day in self.days.values():
+            whole.join(day)
+        return whole
 
 
 def hundredths(n, t):
@@ -1023,9 +1068,9 @@ def ordered(panel, rows, most):
 SHOWN = {b"date": 8, b"hr": 10, b"min": 12}
 
 
-def shown_rows(s, summary, panel):
+def shown_rows(s, whole, panel):
     """The rows of a panel that a report may show."""
-    rows = summary.rows[panel]
+    rows = whole.rows[panel]
     if panel != b"VISITORS":
         return rows
     return {name: row for name, row in rows.items() if len(name[0]) == SHOWN[s.date_spec]}
@@ -1033,13 +1078,14 @@ def shown_rows(s, summary, panel):
 
 def report_of(s, summary):
     """The general numbers, and for each panel shown its rows, each with its children."""
-    general = [(b"total_requests", summary.lines), (b"valid_requests", summary.all.hits), (b"failed_requests", summary.failed),
-               (b"excluded_hits", summary.excluded), (b"unique_visitors", len(summary.all.visitors)),
-               (b"bandwidth", summary.all.bytes)]
+    whole = summary.together()
+    general = [(b"total_requests", summary.lines), (b"valid_requests", whole.all.hits), (b"failed_requests", summary.failed),
+               (b"excluded_hits", summary.excluded), (b"unique_visitors", len(whole.all.visitors)),
+               (b"bandwidth", whole.all.bytes)]
     panels = [(panel, [(name, sums, ordered(panel, children, s.max_items))
-                       for name, sums, children in ordered(panel, shown_rows(s, summary, panel), s.max_items)])
+                       for name, sums, children in ordered(panel, shown_rows(s, whole, panel), s.max_items)])
               for panel in PANELS if panel in s.panels]
-    return general, panels, summary.all
+    return general, panels, whole.all
 
 
 # ------------------------------------------------------------------------------------------------ CSV
@@ -1130,11 +1176,13 @@ def json_text(report):
 
 
 class Database:
-    """What a tracked run leaves to the next one: the sum of all lines that were counted, and how far each log was."""
+    """What a tracked run leaves to the next one: the sum of all lines that were counted, how far each log was, and the number of
+    --keep-last, which is None where none is stored."""
 
     def __init__(self):
         self.summary = Summary()
         self.entries = []  # (number of first bytes, their SHA-256, offset)
+        self.number = None
 
 
 def lead_of(log, offset):
@@ -1180,6 +1228,8 @@ def text_of(s, read, db):
         rules = read_rules(content(s.browsers_file))
         if isinstance(rules, int):
             raise Fault(1, b"browsers file, line %d: not a rule" % rules)
+    if s.restore and db.number not in (None, s.keep_last):
+        raise Fault(8, b"keep-last: stored %d, given %d" % (db.number, s.keep_last))
     begun = copy.deepcopy(db) if s.restore else Database()
     logs = [generated(s.generate)] if s.generate else map(content, s.logs)
     if s.persist or s.restore:
@@ -1187,9 +1237,10 @@ def text_of(s, read, db):
     for log in logs:
         for line in lines_of(log):
             begun.summary.count(s, rules, setup, line)
+    begun.summary.keep_last(s.keep_last)
     report = report_of(s, begun.summary)
     if s.persist:
-        db.summary, db.entries = begun.summary, begun.entries
+        db.summary, db.entries, db.number = begun.summary, begun.entries, s.keep_last
     if s.generate:
         return six_lines(s.generate, json_text(report))
     return csv_text(report) if s.kind == b"csv" else json_text(report)
@@ -1498,6 +1549,53 @@ def self_test():
     check("kept days and hours", (general(out), visitors(out)), ([4, 4, 0, 0, 1, 50], [b"1,25.00,1,100.00,20,40.00,0,0,0,,,2024010108"]))
     out = run(words("-o csv --restore"), {}, db)[1]
     check("kept days and hours, shown by days", visitors(out), [b"4,100.00,1,100.00,50,100.00,0,0,0,,,20240101"])
+
+    # the last days
+    def on(*days):
+        return b"".join(line_of(b"/a", 200, b"10", date=b"%02d/Jan/2024" % day) for day in days)
+
+    three = {b"a.log": on(1, 2, 3)}
+    rows = [b"%d,,visitors,1,50.00,1,50.00,10,50.00,0,0,0,,,%s" % row for row in enumerate((b"20240103", b"20240102"))]
+    out = shows("two days of three", [b"--keep-last=2", *common], three, *rows)
+    check("two days of three, general", (general(out), len(visitors(out))), ([3, 2, 0, 0, 2, 20], 2))
+    whole = run(common, three)[1]
+    check("as many days as there are, and more", [run([b"--keep-last=%d" % n, *common], three)[1] == whole for n in (3, 4, 4_294_967_295)], [True] * 3)
+    hosts = [b"--keep-last=1", b"--ignore-panel=VISITORS", *common]
+    shows("the last day where days aren't shown", hosts, three, b"0,,hosts,1,100.00,1,100.00,10,100.00,0,0,0,,,192.0.2.1")
+    others = on(3, 1) + line_of(b"/a", 500, b"10", date=b"04/Jan/2024") + line_of(b"/a", 99, b"10", date=b"05/Jan/2024")
+    out = shows("days of lines that aren't counted", [b"--keep-last=1", b"--ignore-status=500", *common], {b"a.log": others})
+    check("days of lines that aren't counted, general", (general(out), visitors(out)[0][-8:]), ([4, 1, 1, 1, 1, 10], b"20240103"))
+    out = shows("the last of several numbers, and hours", [b"--keep-last=1", b"--keep-last", b"0000000002", b"--date-spec=hr", *common], three)
+    check("the last of several numbers, and hours, rows", [row[-10:] for row in visitors(out)], [b"2024010300", b"2024010200"])
+    check("the last day of generated lines", run(words("--keep-last=1 --generate=56"), {})[1].split(b"\n")[:5],
+          [b"generated 56", b"valid 2", b"failed 0", b"visitors 2", b"bandwidth 82"])
+    for text in ("0", "4294967296", "-1", "", "+1", "two", "1.5", "00000000001", " 1"):
+        refused(f"a number of days that is refused: {text}", [b"--keep-last=" + text.encode(), b"a"], 1, b"word 0: bad value")
+    refused("no number of days", words("--keep-last"), 1, b"word 0: value missing")
+    two_days = [b"--keep-last=2", *tracked, b"a.log"]
+    db = Database()
+    first = run(two_days, {b"a.log": on(1, 2)}, db)[1]
+    check("two days kept", general(first), [2, 2, 0, 0, 2, 20])
+    check("two days kept, and a third", run(two_days, three, db)[1], run([b"--keep-last=2", *common], three)[1])
+    refused_by = [*words("--keep-last=3 --log-format=COMMON --restore --persist gone.log"), b"a.log"]
+    check("three days where two are stored", run(refused_by, three, db), (8, b"", b"goaccess: keep-last: stored 2, given 3\n", {}))
+    check("all days where two are stored", run(words("--restore"), {}, db), (8, b"", b"goaccess: keep-last: stored 2, given 0\n", {}))
+    check("a bad format before another number", run(words("--restore --time-format=%H"), {}, db)[0], 1)
+    check("a browsers file that isn't there before another number", run(words("--restore --browsers-file=gone"), {}, db)[0], 2)
+    older = {**three, b"b.log": on(1, 3)}
+    out = run([*two_days, b"b.log"], older, db)[1]
+    check("a day that was left out before", (general(out), [row[-8:] for row in visitors(out)]), ([5, 3, 0, 0, 2, 30], [b"20240103", b"20240102"]))
+    out = run(words("--log-format=COMMON -o csv --restore --keep-last=2 c.log"), {b"c.log": on(4)}, db)[1]
+    check("--restore alone leaves the days as they are", (general(out), sorted(db.summary.days)), ([6, 3, 0, 0, 2, 30], [20240102, 20240103]))
+    check("--persist alone takes another number", (general(run([*words("--log-format=COMMON -o csv --persist --keep-last=1 a.log")], three, db)[1]), db.number),
+          ([3, 1, 0, 0, 1, 10], 1))
+    db.number = None
+    check("any number where none is stored", (general(run([*words("--keep-last=2"), *tracked, b"b.log"], older, db)[1]), db.number), ([5, 3, 0, 0, 2, 30], 2))
+    db = Database()
+    check("no number is 0", (run([*tracked, b"a.log"], three, db)[0], db.number, run(two_days, three, db)[2]),
+          (0, 0, b"goaccess: keep-last: stored 0, given 2\n"))
+    full = {b"a.log": b"".join(line_of(b"/a", 200, num(BIG), date=b"%02d/Jan/2024" % day) for day in range(1, 6))}
+    refused("a counter counts the days that are left out", [b"--keep-last=1", *common], 5, b"counter full: bytes 5000000000000000000", full)
 
     # odd cases
     for text, said in {"%h %h%d": "log format, byte 3: repeated", "%h%h": "log format, byte 0: no delimiter",

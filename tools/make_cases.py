@@ -82,6 +82,8 @@ www.example.org bob MISS ::1 [2024-01-01 09:00:00] HEAD /c - HTTP/2 204 0 "-" "-
 MOMENTS = line(clock="08:05:00") + line(clock="08:55:00") + line(clock="09:10:00")
 MORE_MOMENTS = MOMENTS + line(clock="08:55:59", host="192.0.2.2") + line("/x", 404, "5", clock="23:59:60") + line(date="02/Jan/2024", clock="08:05:00")
 TIMES = only("VISITORS", "VISIT_TIMES")
+SECOND_DAY, THIRD_DAY = line(date="02/Jan/2024"), line(date="03/Jan/2024")
+THREE_DAYS = A + SECOND_DAY + THIRD_DAY
 FAULTS = [
     ("an option that there isn't", ["--bogus"], {}),
     ("an option without its value", ["--jobs"], {}),
@@ -96,6 +98,12 @@ FAULTS = [
     ("no word for what VISITORS counts by", ["--date-spec=", "a"], {}),
     ("days for what VISIT_TIMES counts by", ["--hour-spec=date", "a"], {}),
     ("nothing after what VISIT_TIMES counts by", ["--hour-spec"], {}),
+    ("no days that are kept", ["--keep-last=0", "a"], {}),
+    ("more days than may be kept, in the word after its option", ["--keep-last", "4294967296", "a"], {}),
+    ("a number of days below none", ["--keep-last=-1", "a"], {}),
+    ("an empty number of days", ["--keep-last=", "a"], {}),
+    ("a word for a number of days", ["--keep-last=two", "a"], {}),
+    ("nothing after the option of days", ["--keep-last"], {}),
     ("a format of the generator's lines without a date", ["--generate=2", "--log-format=%h"], {}),
 ]
 
@@ -171,6 +179,14 @@ OVER_WORDS = [
     of("hours where VISITORS isn't shown", ["--date-spec=hr", *only("HOSTS", "VISIT_TIMES"), *CSV], MORE_MOMENTS),
     of("hours of lines without a time of day", ['--log-format=%h %^[%d:%^] "%r" %s %b', "--date-spec=hr", "--hour-spec=min", "-o", "csv", "a.log"], MOMENTS),
     of("minutes of the generator's lines", ["--generate=50", "--date-spec=min", "--hour-spec=min"]),
+    of("the last two days of three", ["--keep-last=2", *CSV], THREE_DAYS),
+    of("the last day of two logs, after lines of later days that aren't counted",
+       ["--keep-last", "1", "--ignore-status=500", COMMON, "-o", "json", "a.log", "b.log"],
+       THREE_DAYS + line(status=500, date="04/Jan/2024"), SECOND_DAY + "broken\n" + line("/b.css", 404, "5", "03/Jan/2024")),
+    of("as many days as there are, and the last number counts", ["--keep-last=1", "--keep-last=4294967295", *TIMES, *CSV], THREE_DAYS),
+    of("hours of the last day", ["--keep-last=1", "--date-spec=hr", *TIMES, *CSV], MORE_MOMENTS),
+    of("the last day where days aren't shown", ["--keep-last=1", *only("HOSTS", "STATUS_CODES"), *CSV], TWO_DAYS),
+    of("the last two days of the generator's lines", ["--generate=100", "--keep-last=2"]),
     of("the last of several outputs", [COMMON, "-o", "json", "--db-path=x", "--output", "csv", *only("HOSTS"), "a.log"], TWO_DAYS),
     of("a thousand lines of the generator", ["--generate=1000"]),
     of("the generator with options", ["--generate", "30", "-o", "r.csv", "--ignore-status=404", "--browsers-file=agents.txt", "--max-items=2"], "", None, "Firefox\tCrawlers\n"),
@@ -186,6 +202,8 @@ OVER_WORDS = [
     of("a counter that is full before the next log is opened", [COMMON, "a.log", "nothing.log"], line(size=BIG) * 5),
     of("a counter that is full in the second log", [COMMON, "a.log", "b.log"], line(size=BIG) * 3, line(size=BIG) * 2),
     of("a counter that is full before the last line", [COMMON, "a.log"], line(size=BIG) * 6),
+    of("a counter that is full by the lines of days that are left out", ["--keep-last=1", COMMON, "a.log"],
+       "".join(line(size=BIG, date=f"0{day}/Jan/2024") for day in range(1, 6))),
     of("microseconds past the limit", [TIMED + "%D", "a.log"], line(size="-", more=" " + BIG) * 5),
 ] + FAULTS
 
@@ -281,6 +299,14 @@ HISTORIES = [
      [("a.log", MOMENTS), [*TRACKED, *TIMES, "--date-spec=hr", "a.log"], ("b.log", MORE_MOMENTS), [*TRACKED, *TIMES, "--date-spec=min", "--hour-spec=min", "b.log"],
      ("a.log", A), [*TRACKED, *TIMES, "a.log"], *([*SHOWN, f"--date-spec={spec}"] for spec in ("date", "hr", "min")),
      [*TRACKED, "--date-spec=hr", "--ignore-panel=VISITORS"], [COMMON, "-o", "csv", "--persist", "--date-spec=hr", "b.log"], [*SHOWN, "--date-spec=min"]]),
+    ("the last two days, and runs with other numbers of them",
+     [("a.log", A + SECOND_DAY), [*TRACKED, "--keep-last=2", "a.log"], ("a.log", THIRD_DAY), [*TRACKED, "--keep-last=2", "a.log"],
+      [*TRACKED, "--keep-last=3", "gone.log"], [COMMON, "-o", "csv", "--restore"], ("b.log", A + THIRD_DAY), [*TRACKED, "--keep-last=2", "b.log"],
+      [COMMON, "-o", "csv", "--restore", "--keep-last=2"], [COMMON, "-o", "csv", "--persist", "--keep-last=3", "a.log"], [*SHOWN, "--keep-last=3"],
+      [*SHOWN, "--keep-last=2"]]),
+    ("all days are kept, and a number of them is refused",
+     [("a.log", THREE_DAYS), [COMMON, "-o", "csv", "--restore", "--keep-last=1", "a.log"], [*TRACKED, "a.log"], [*TRACKED, "--keep-last=3", "a.log"],
+      [*SHOWN, "--keep-last=1", "--time-format=%H"], SHOWN]),
     ("tracked runs without a log",
      [TRACKED, ("a.log", A), [*TRACKED, "a.log"], TRACKED, [COMMON, "-o", "csv", "--restore"]]),
     ("nothing stored, and logs of which no line was ended",

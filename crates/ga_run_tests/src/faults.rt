@@ -193,6 +193,66 @@ nothing after what VISIT_TIMES counts by
 goaccess: word 0: value missing
 
 =====
+no days that are kept
+-----
+--keep-last=0|a
+-----
+
+-----
+1
+goaccess: word 0: bad value
+
+=====
+more days than may be kept, in the word after its option
+-----
+--keep-last|4294967296|a
+-----
+
+-----
+1
+goaccess: word 1: bad value
+
+=====
+a number of days below none
+-----
+--keep-last=-1|a
+-----
+
+-----
+1
+goaccess: word 0: bad value
+
+=====
+an empty number of days
+-----
+--keep-last=|a
+-----
+
+-----
+1
+goaccess: word 0: bad value
+
+=====
+a word for a number of days
+-----
+--keep-last=two|a
+-----
+
+-----
+1
+goaccess: word 0: bad value
+
+=====
+nothing after the option of days
+-----
+--keep-last
+-----
+
+-----
+1
+goaccess: word 0: value missing
+
+=====
 a format of the generator's lines without a date
 -----
 --generate=2|--log-format=%h
@@ -269,6 +329,21 @@ a counter that is full before the last line
 192.0.2.1 - - [01/Jan/2024:00:00:00 +0000] \"GET /a HTTP/1.1\" 200 1000000000000000000
 192.0.2.1 - - [01/Jan/2024:00:00:00 +0000] \"GET /a HTTP/1.1\" 200 1000000000000000000
 192.0.2.1 - - [01/Jan/2024:00:00:00 +0000] \"GET /a HTTP/1.1\" 200 1000000000000000000
+
+-----
+5
+goaccess: counter full: bytes 5000000000000000000
+
+=====
+a counter that is full by the lines of days that are left out
+-----
+--keep-last=1|--log-format=COMMON|a.log
+-----
+192.0.2.1 - - [01/Jan/2024:00:00:00 +0000] \"GET /a HTTP/1.1\" 200 1000000000000000000
+192.0.2.1 - - [02/Jan/2024:00:00:00 +0000] \"GET /a HTTP/1.1\" 200 1000000000000000000
+192.0.2.1 - - [03/Jan/2024:00:00:00 +0000] \"GET /a HTTP/1.1\" 200 1000000000000000000
+192.0.2.1 - - [04/Jan/2024:00:00:00 +0000] \"GET /a HTTP/1.1\" 200 1000000000000000000
+192.0.2.1 - - [05/Jan/2024:00:00:00 +0000] \"GET /a HTTP/1.1\" 200 1000000000000000000
 
 -----
 5

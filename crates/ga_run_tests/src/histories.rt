@@ -717,6 +717,230 @@ id,parent_id,panel,hits,hits%,visitors,visitors%,bytes,bytes%,avgts,cumts,maxts,
 2,,visit_times,1,16.67,0,0.00,5,9.09,0,0,0,,,23
 
 =====
+the last two days, and runs with other numbers of them
+~~~~~
++a.log
+-----
+192.0.2.1 - - [01/Jan/2024:00:00:00 +0000] \"GET /a HTTP/1.1\" 200 10
+192.0.2.1 - - [02/Jan/2024:00:00:00 +0000] \"GET /a HTTP/1.1\" 200 10
+
+~~~~~
+--log-format=COMMON|-o|csv|--restore|--persist|--keep-last=2|a.log
+-----
+0
+id,parent_id,panel,hits,hits%,visitors,visitors%,bytes,bytes%,avgts,cumts,maxts,method,protocol,data
+0,,general,2,,,,,,,,,,,total_requests
+1,,general,2,,,,,,,,,,,valid_requests
+2,,general,0,,,,,,,,,,,failed_requests
+3,,general,0,,,,,,,,,,,excluded_hits
+4,,general,2,,,,,,,,,,,unique_visitors
+5,,general,20,,,,,,,,,,,bandwidth
+0,,visitors,1,50.00,1,50.00,10,50.00,0,0,0,,,20240102
+1,,visitors,1,50.00,1,50.00,10,50.00,0,0,0,,,20240101
+0,,requests,2,100.00,2,100.00,20,100.00,0,0,0,GET,HTTP/1.1,/a
+0,,hosts,2,100.00,2,100.00,20,100.00,0,0,0,,,192.0.2.1
+0,,visit_times,2,100.00,2,100.00,20,100.00,0,0,0,,,00
+0,,status_codes,2,100.00,2,100.00,20,100.00,0,0,0,,,2xx Success
+1,0,status_codes,2,100.00,2,100.00,20,100.00,0,0,0,,,200
+
+~~~~~
++a.log
+-----
+192.0.2.1 - - [03/Jan/2024:00:00:00 +0000] \"GET /a HTTP/1.1\" 200 10
+
+~~~~~
+--log-format=COMMON|-o|csv|--restore|--persist|--keep-last=2|a.log
+-----
+0
+id,parent_id,panel,hits,hits%,visitors,visitors%,bytes,bytes%,avgts,cumts,maxts,method,protocol,data
+0,,general,3,,,,,,,,,,,total_requests
+1,,general,2,,,,,,,,,,,valid_requests
+2,,general,0,,,,,,,,,,,failed_requests
+3,,general,0,,,,,,,,,,,excluded_hits
+4,,general,2,,,,,,,,,,,unique_visitors
+5,,general,20,,,,,,,,,,,bandwidth
+0,,visitors,1,50.00,1,50.00,10,50.00,0,0,0,,,20240103
+1,,visitors,1,50.00,1,50.00,10,50.00,0,0,0,,,20240102
+0,,requests,2,100.00,2,100.00,20,100.00,0,0,0,GET,HTTP/1.1,/a
+0,,hosts,2,100.00,2,100.00,20,100.00,0,0,0,,,192.0.2.1
+0,,visit_times,2,100.00,2,100.00,20,100.00,0,0,0,,,00
+0,,status_codes,2,100.00,2,100.00,20,100.00,0,0,0,,,2xx Success
+1,0,status_codes,2,100.00,2,100.00,20,100.00,0,0,0,,,200
+
+~~~~~
+--log-format=COMMON|-o|csv|--restore|--persist|--keep-last=3|gone.log
+-----
+8
+goaccess: keep-last: stored 2, given 3
+
+~~~~~
+--log-format=COMMON|-o|csv|--restore
+-----
+8
+goaccess: keep-last: stored 2, given 0
+
+~~~~~
++b.log
+-----
+192.0.2.1 - - [01/Jan/2024:00:00:00 +0000] \"GET /a HTTP/1.1\" 200 10
+192.0.2.1 - - [03/Jan/2024:00:00:00 +0000] \"GET /a HTTP/1.1\" 200 10
+
+~~~~~
+--log-format=COMMON|-o|csv|--restore|--persist|--keep-last=2|b.log
+-----
+0
+id,parent_id,panel,hits,hits%,visitors,visitors%,bytes,bytes%,avgts,cumts,maxts,method,protocol,data
+0,,general,5,,,,,,,,,,,total_requests
+1,,general,3,,,,,,,,,,,valid_requests
+2,,general,0,,,,,,,,,,,failed_requests
+3,,general,0,,,,,,,,,,,excluded_hits
+4,,general,2,,,,,,,,,,,unique_visitors
+5,,general,30,,,,,,,,,,,bandwidth
+0,,visitors,2,66.67,1,50.00,20,66.67,0,0,0,,,20240103
+1,,visitors,1,33.33,1,50.00,10,33.33,0,0,0,,,20240102
+0,,requests,3,100.00,2,100.00,30,100.00,0,0,0,GET,HTTP/1.1,/a
+0,,hosts,3,100.00,2,100.00,30,100.00,0,0,0,,,192.0.2.1
+0,,visit_times,3,100.00,2,100.00,30,100.00,0,0,0,,,00
+0,,status_codes,3,100.00,2,100.00,30,100.00,0,0,0,,,2xx Success
+1,0,status_codes,3,100.00,2,100.00,30,100.00,0,0,0,,,200
+
+~~~~~
+--log-format=COMMON|-o|csv|--restore|--keep-last=2
+-----
+0
+id,parent_id,panel,hits,hits%,visitors,visitors%,bytes,bytes%,avgts,cumts,maxts,method,protocol,data
+0,,general,5,,,,,,,,,,,total_requests
+1,,general,3,,,,,,,,,,,valid_requests
+2,,general,0,,,,,,,,,,,failed_requests
+3,,general,0,,,,,,,,,,,excluded_hits
+4,,general,2,,,,,,,,,,,unique_visitors
+5,,general,30,,,,,,,,,,,bandwidth
+0,,visitors,2,66.67,1,50.00,20,66.67,0,0,0,,,20240103
+1,,visitors,1,33.33,1,50.00,10,33.33,0,0,0,,,20240102
+0,,requests,3,100.00,2,100.00,30,100.00,0,0,0,GET,HTTP/1.1,/a
+0,,hosts,3,100.00,2,100.00,30,100.00,0,0,0,,,192.0.2.1
+0,,visit_times,3,100.00,2,100.00,30,100.00,0,0,0,,,00
+0,,status_codes,3,100.00,2,100.00,30,100.00,0,0,0,,,2xx Success
+1,0,status_codes,3,100.00,2,100.00,30,100.00,0,0,0,,,200
+
+~~~~~
+--log-format=COMMON|-o|csv|--persist|--keep-last=3|a.log
+-----
+0
+id,parent_id,panel,hits,hits%,visitors,visitors%,bytes,bytes%,avgts,cumts,maxts,method,protocol,data
+0,,general,3,,,,,,,,,,,total_requests
+1,,general,3,,,,,,,,,,,valid_requests
+2,,general,0,,,,,,,,,,,failed_requests
+3,,general,0,,,,,,,,,,,excluded_hits
+4,,general,3,,,,,,,,,,,unique_visitors
+5,,general,30,,,,,,,,,,,bandwidth
+0,,visitors,1,33.33,1,33.33,10,33.33,0,0,0,,,20240103
+1,,visitors,1,33.33,1,33.33,10,33.33,0,0,0,,,20240102
+2,,visitors,1,33.33,1,33.33,10,33.33,0,0,0,,,20240101
+0,,requests,3,100.00,3,100.00,30,100.00,0,0,0,GET,HTTP/1.1,/a
+0,,hosts,3,100.00,3,100.00,30,100.00,0,0,0,,,192.0.2.1
+0,,visit_times,3,100.00,3,100.00,30,100.00,0,0,0,,,00
+0,,status_codes,3,100.00,3,100.00,30,100.00,0,0,0,,,2xx Success
+1,0,status_codes,3,100.00,3,100.00,30,100.00,0,0,0,,,200
+
+~~~~~
+-o|csv|--restore|--ignore-panel=REQUESTS|--ignore-panel=REQUESTS_STATIC|--ignore-panel=NOT_FOUND|--ignore-panel=HOSTS|--ignore-panel=OS|--ignore-panel=BROWSERS|--ignore-panel=VIRTUAL_HOSTS|--ignore-panel=REFERRERS|--ignore-panel=REFERRING_SITES|--ignore-panel=KEYPHRASES|--ignore-panel=STATUS_CODES|--ignore-panel=REMOTE_USER|--ignore-panel=CACHE_STATUS|--ignore-panel=MIME_TYPE|--ignore-panel=TLS_TYPE|--keep-last=3
+-----
+0
+id,parent_id,panel,hits,hits%,visitors,visitors%,bytes,bytes%,avgts,cumts,maxts,method,protocol,data
+0,,general,3,,,,,,,,,,,total_requests
+1,,general,3,,,,,,,,,,,valid_requests
+2,,general,0,,,,,,,,,,,failed_requests
+3,,general,0,,,,,,,,,,,excluded_hits
+4,,general,3,,,,,,,,,,,unique_visitors
+5,,general,30,,,,,,,,,,,bandwidth
+0,,visitors,1,33.33,1,33.33,10,33.33,0,0,0,,,20240103
+1,,visitors,1,33.33,1,33.33,10,33.33,0,0,0,,,20240102
+2,,visitors,1,33.33,1,33.33,10,33.33,0,0,0,,,20240101
+0,,visit_times,3,100.00,3,100.00,30,100.00,0,0,0,,,00
+
+~~~~~
+-o|csv|--restore|--ignore-panel=REQUESTS|--ignore-panel=REQUESTS_STATIC|--ignore-panel=NOT_FOUND|--ignore-panel=HOSTS|--ignore-panel=OS|--ignore-panel=BROWSERS|--ignore-panel=VIRTUAL_HOSTS|--ignore-panel=REFERRERS|--ignore-panel=REFERRING_SITES|--ignore-panel=KEYPHRASES|--ignore-panel=STATUS_CODES|--ignore-panel=REMOTE_USER|--ignore-panel=CACHE_STATUS|--ignore-panel=MIME_TYPE|--ignore-panel=TLS_TYPE|--keep-last=2
+-----
+8
+goaccess: keep-last: stored 3, given 2
+
+=====
+all days are kept, and a number of them is refused
+~~~~~
++a.log
+-----
+192.0.2.1 - - [01/Jan/2024:00:00:00 +0000] \"GET /a HTTP/1.1\" 200 10
+192.0.2.1 - - [02/Jan/2024:00:00:00 +0000] \"GET /a HTTP/1.1\" 200 10
+192.0.2.1 - - [03/Jan/2024:00:00:00 +0000] \"GET /a HTTP/1.1\" 200 10
+
+~~~~~
+--log-format=COMMON|-o|csv|--restore|--keep-last=1|a.log
+-----
+0
+id,parent_id,panel,hits,hits%,visitors,visitors%,bytes,bytes%,avgts,cumts,maxts,method,protocol,data
+0,,general,3,,,,,,,,,,,total_requests
+1,,general,1,,,,,,,,,,,valid_requests
+2,,general,0,,,,,,,,,,,failed_requests
+3,,general,0,,,,,,,,,,,excluded_hits
+4,,general,1,,,,,,,,,,,unique_visitors
+5,,general,10,,,,,,,,,,,bandwidth
+0,,visitors,1,100.00,1,100.00,10,100.00,0,0,0,,,20240103
+0,,requests,1,100.00,1,100.00,10,100.00,0,0,0,GET,HTTP/1.1,/a
+0,,hosts,1,100.00,1,100.00,10,100.00,0,0,0,,,192.0.2.1
+0,,visit_times,1,100.00,1,100.00,10,100.00,0,0,0,,,00
+0,,status_codes,1,100.00,1,100.00,10,100.00,0,0,0,,,2xx Success
+1,0,status_codes,1,100.00,1,100.00,10,100.00,0,0,0,,,200
+
+~~~~~
+--log-format=COMMON|-o|csv|--restore|--persist|a.log
+-----
+0
+id,parent_id,panel,hits,hits%,visitors,visitors%,bytes,bytes%,avgts,cumts,maxts,method,protocol,data
+0,,general,3,,,,,,,,,,,total_requests
+1,,general,3,,,,,,,,,,,valid_requests
+2,,general,0,,,,,,,,,,,failed_requests
+3,,general,0,,,,,,,,,,,excluded_hits
+4,,general,3,,,,,,,,,,,unique_visitors
+5,,general,30,,,,,,,,,,,bandwidth
+0,,visitors,1,33.33,1,33.33,10,33.33,0,0,0,,,20240103
+1,,visitors,1,33.33,1,33.33,10,33.33,0,0,0,,,20240102
+2,,visitors,1,33.33,1,33.33,10,33.33,0,0,0,,,20240101
+0,,requests,3,100.00,3,100.00,30,100.00,0,0,0,GET,HTTP/1.1,/a
+0,,hosts,3,100.00,3,100.00,30,100.00,0,0,0,,,192.0.2.1
+0,,visit_times,3,100.00,3,100.00,30,100.00,0,0,0,,,00
+0,,status_codes,3,100.00,3,100.00,30,100.00,0,0,0,,,2xx Success
+1,0,status_codes,3,100.00,3,100.00,30,100.00,0,0,0,,,200
+
+~~~~~
+--log-format=COMMON|-o|csv|--restore|--persist|--keep-last=3|a.log
+-----
+8
+goaccess: keep-last: stored 0, given 3
+
+~~~~~
+-o|csv|--restore|--ignore-panel=REQUESTS|--ignore-panel=REQUESTS_STATIC|--ignore-panel=NOT_FOUND|--ignore-panel=HOSTS|--ignore-panel=OS|--ignore-panel=BROWSERS|--ignore-panel=VIRTUAL_HOSTS|--ignore-panel=REFERRERS|--ignore-panel=REFERRING_SITES|--ignore-panel=KEYPHRASES|--ignore-panel=STATUS_CODES|--ignore-panel=REMOTE_USER|--ignore-panel=CACHE_STATUS|--ignore-panel=MIME_TYPE|--ignore-panel=TLS_TYPE|--keep-last=1|--time-format=%H
+-----
+1
+goaccess: time format, byte 2: bad directive
+
+~~~~~
+-o|csv|--restore|--ignore-panel=REQUESTS|--ignore-panel=REQUESTS_STATIC|--ignore-panel=NOT_FOUND|--ignore-panel=HOSTS|--ignore-panel=OS|--ignore-panel=BROWSERS|--ignore-panel=VIRTUAL_HOSTS|--ignore-panel=REFERRERS|--ignore-panel=REFERRING_SITES|--ignore-panel=KEYPHRASES|--ignore-panel=STATUS_CODES|--ignore-panel=REMOTE_USER|--ignore-panel=CACHE_STATUS|--ignore-panel=MIME_TYPE|--ignore-panel=TLS_TYPE
+-----
+0
+id,parent_id,panel,hits,hits%,visitors,visitors%,bytes,bytes%,avgts,cumts,maxts,method,protocol,data
+0,,general,3,,,,,,,,,,,total_requests
+1,,general,3,,,,,,,,,,,valid_requests
+2,,general,0,,,,,,,,,,,failed_requests
+3,,general,0,,,,,,,,,,,excluded_hits
+4,,general,3,,,,,,,,,,,unique_visitors
+5,,general,30,,,,,,,,,,,bandwidth
+0,,visitors,1,33.33,1,33.33,10,33.33,0,0,0,,,20240103
+1,,visitors,1,33.33,1,33.33,10,33.33,0,0,0,,,20240102
+2,,visitors,1,33.33,1,33.33,10,33.33,0,0,0,,,20240101
+0,,visit_times,3,100.00,3,100.00,30,100.00,0,0,0,,,00
+
+=====
 tracked runs without a log
 ~~~~~
 --log-format=COMMON|-o|csv|--restore|--persist

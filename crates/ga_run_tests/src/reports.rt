@@ -1220,6 +1220,136 @@ bandwidth 1225
 report e36d76c464f62a679f85cfc45c993601323c5463dab18443b10c4e5bab422335
 
 =====
+the last two days of three
+-----
+--keep-last=2|--log-format=COMMON|-o|csv|a.log
+-----
+192.0.2.1 - - [01/Jan/2024:00:00:00 +0000] \"GET /a HTTP/1.1\" 200 10
+192.0.2.1 - - [02/Jan/2024:00:00:00 +0000] \"GET /a HTTP/1.1\" 200 10
+192.0.2.1 - - [03/Jan/2024:00:00:00 +0000] \"GET /a HTTP/1.1\" 200 10
+
+-----
+0
+id,parent_id,panel,hits,hits%,visitors,visitors%,bytes,bytes%,avgts,cumts,maxts,method,protocol,data
+0,,general,3,,,,,,,,,,,total_requests
+1,,general,2,,,,,,,,,,,valid_requests
+2,,general,0,,,,,,,,,,,failed_requests
+3,,general,0,,,,,,,,,,,excluded_hits
+4,,general,2,,,,,,,,,,,unique_visitors
+5,,general,20,,,,,,,,,,,bandwidth
+0,,visitors,1,50.00,1,50.00,10,50.00,0,0,0,,,20240103
+1,,visitors,1,50.00,1,50.00,10,50.00,0,0,0,,,20240102
+0,,requests,2,100.00,2,100.00,20,100.00,0,0,0,GET,HTTP/1.1,/a
+0,,hosts,2,100.00,2,100.00,20,100.00,0,0,0,,,192.0.2.1
+0,,visit_times,2,100.00,2,100.00,20,100.00,0,0,0,,,00
+0,,status_codes,2,100.00,2,100.00,20,100.00,0,0,0,,,2xx Success
+1,0,status_codes,2,100.00,2,100.00,20,100.00,0,0,0,,,200
+
+=====
+the last day of two logs, after lines of later days that aren't counted
+-----
+--keep-last|1|--ignore-status=500|--log-format=COMMON|-o|json|a.log|b.log
+-----
+192.0.2.1 - - [01/Jan/2024:00:00:00 +0000] \"GET /a HTTP/1.1\" 200 10
+192.0.2.1 - - [02/Jan/2024:00:00:00 +0000] \"GET /a HTTP/1.1\" 200 10
+192.0.2.1 - - [03/Jan/2024:00:00:00 +0000] \"GET /a HTTP/1.1\" 200 10
+192.0.2.1 - - [04/Jan/2024:00:00:00 +0000] \"GET /a HTTP/1.1\" 500 10
+
++++++
+192.0.2.1 - - [02/Jan/2024:00:00:00 +0000] \"GET /a HTTP/1.1\" 200 10
+broken
+192.0.2.1 - - [03/Jan/2024:00:00:00 +0000] \"GET /b.css HTTP/1.1\" 404 5
+
+-----
+0
+{\"browsers\":{\"data\":[]},\"cache_status\":{\"data\":[]},\"general\":{\"bandwidth\":15,\"excluded_hits\":1,\"failed_requests\":1,\"total_requests\":7,\"unique_visitors\":1,\"valid_requests\":2},\"hosts\":{\"data\":[{\"avgts\":0,\"bytes\":{\"count\":15,\"percent\":\"100.00\"},\"cumts\":0,\"data\":\"192.0.2.1\",\"hits\":{\"count\":2,\"percent\":\"100.00\"},\"maxts\":0,\"visitors\":{\"count\":1,\"percent\":\"100.00\"}}]},\"keyphrases\":{\"data\":[]},\"mime_type\":{\"data\":[]},\"not_found\":{\"data\":[{\"avgts\":0,\"bytes\":{\"count\":5,\"percent\":\"33.33\"},\"cumts\":0,\"data\":\"/b.css\",\"hits\":{\"count\":1,\"percent\":\"50.00\"},\"maxts\":0,\"method\":\"GET\",\"protocol\":\"HTTP/1.1\",\"visitors\":{\"count\":0,\"percent\":\"0.00\"}}]},\"os\":{\"data\":[]},\"referrers\":{\"data\":[]},\"referring_sites\":{\"data\":[]},\"remote_user\":{\"data\":[]},\"requests\":{\"data\":[{\"avgts\":0,\"bytes\":{\"count\":10,\"percent\":\"66.67\"},\"cumts\":0,\"data\":\"/a\",\"hits\":{\"count\":1,\"percent\":\"50.00\"},\"maxts\":0,\"method\":\"GET\",\"protocol\":\"HTTP/1.1\",\"visitors\":{\"count\":1,\"percent\":\"100.00\"}}]},\"requests_static\":{\"data\":[]},\"status_codes\":{\"data\":[{\"avgts\":0,\"bytes\":{\"count\":10,\"percent\":\"66.67\"},\"cumts\":0,\"data\":\"2xx Success\",\"hits\":{\"count\":1,\"percent\":\"50.00\"},\"items\":[{\"avgts\":0,\"bytes\":{\"count\":10,\"percent\":\"66.67\"},\"cumts\":0,\"data\":\"200\",\"hits\":{\"count\":1,\"percent\":\"50.00\"},\"maxts\":0,\"visitors\":{\"count\":1,\"percent\":\"100.00\"}}],\"maxts\":0,\"visitors\":{\"count\":1,\"percent\":\"100.00\"}},{\"avgts\":0,\"bytes\":{\"count\":5,\"percent\":\"33.33\"},\"cumts\":0,\"data\":\"4xx Client Errors\",\"hits\":{\"count\":1,\"percent\":\"50.00\"},\"items\":[{\"avgts\":0,\"bytes\":{\"count\":5,\"percent\":\"33.33\"},\"cumts\":0,\"data\":\"404\",\"hits\":{\"count\":1,\"percent\":\"50.00\"},\"maxts\":0,\"visitors\":{\"count\":0,\"percent\":\"0.00\"}}],\"maxts\":0,\"visitors\":{\"count\":0,\"percent\":\"0.00\"}}]},\"tls_type\":{\"data\":[]},\"virtual_hosts\":{\"data\":[]},\"visit_times\":{\"data\":[{\"avgts\":0,\"bytes\":{\"count\":15,\"percent\":\"100.00\"},\"cumts\":0,\"data\":\"00\",\"hits\":{\"count\":2,\"percent\":\"100.00\"},\"maxts\":0,\"visitors\":{\"count\":1,\"percent\":\"100.00\"}}]},\"visitors\":{\"data\":[{\"avgts\":0,\"bytes\":{\"count\":15,\"percent\":\"100.00\"},\"cumts\":0,\"data\":\"20240103\",\"hits\":{\"count\":2,\"percent\":\"100.00\"},\"maxts\":0,\"visitors\":{\"count\":1,\"percent\":\"100.00\"}}]}}
+
+=====
+as many days as there are, and the last number counts
+-----
+--keep-last=1|--keep-last=4294967295|--ignore-panel=REQUESTS|--ignore-panel=REQUESTS_STATIC|--ignore-panel=NOT_FOUND|--ignore-panel=HOSTS|--ignore-panel=OS|--ignore-panel=BROWSERS|--ignore-panel=VIRTUAL_HOSTS|--ignore-panel=REFERRERS|--ignore-panel=REFERRING_SITES|--ignore-panel=KEYPHRASES|--ignore-panel=STATUS_CODES|--ignore-panel=REMOTE_USER|--ignore-panel=CACHE_STATUS|--ignore-panel=MIME_TYPE|--ignore-panel=TLS_TYPE|--log-format=COMMON|-o|csv|a.log
+-----
+192.0.2.1 - - [01/Jan/2024:00:00:00 +0000] \"GET /a HTTP/1.1\" 200 10
+192.0.2.1 - - [02/Jan/2024:00:00:00 +0000] \"GET /a HTTP/1.1\" 200 10
+192.0.2.1 - - [03/Jan/2024:00:00:00 +0000] \"GET /a HTTP/1.1\" 200 10
+
+-----
+0
+id,parent_id,panel,hits,hits%,visitors,visitors%,bytes,bytes%,avgts,cumts,maxts,method,protocol,data
+0,,general,3,,,,,,,,,,,total_requests
+1,,general,3,,,,,,,,,,,valid_requests
+2,,general,0,,,,,,,,,,,failed_requests
+3,,general,0,,,,,,,,,,,excluded_hits
+4,,general,3,,,,,,,,,,,unique_visitors
+5,,general,30,,,,,,,,,,,bandwidth
+0,,visitors,1,33.33,1,33.33,10,33.33,0,0,0,,,20240103
+1,,visitors,1,33.33,1,33.33,10,33.33,0,0,0,,,20240102
+2,,visitors,1,33.33,1,33.33,10,33.33,0,0,0,,,20240101
+0,,visit_times,3,100.00,3,100.00,30,100.00,0,0,0,,,00
+
+=====
+hours of the last day
+-----
+--keep-last=1|--date-spec=hr|--ignore-panel=REQUESTS|--ignore-panel=REQUESTS_STATIC|--ignore-panel=NOT_FOUND|--ignore-panel=HOSTS|--ignore-panel=OS|--ignore-panel=BROWSERS|--ignore-panel=VIRTUAL_HOSTS|--ignore-panel=REFERRERS|--ignore-panel=REFERRING_SITES|--ignore-panel=KEYPHRASES|--ignore-panel=STATUS_CODES|--ignore-panel=REMOTE_USER|--ignore-panel=CACHE_STATUS|--ignore-panel=MIME_TYPE|--ignore-panel=TLS_TYPE|--log-format=COMMON|-o|csv|a.log
+-----
+192.0.2.1 - - [01/Jan/2024:08:05:00 +0000] \"GET /a HTTP/1.1\" 200 10
+192.0.2.1 - - [01/Jan/2024:08:55:00 +0000] \"GET /a HTTP/1.1\" 200 10
+192.0.2.1 - - [01/Jan/2024:09:10:00 +0000] \"GET /a HTTP/1.1\" 200 10
+192.0.2.2 - - [01/Jan/2024:08:55:59 +0000] \"GET /a HTTP/1.1\" 200 10
+192.0.2.1 - - [01/Jan/2024:23:59:60 +0000] \"GET /x HTTP/1.1\" 404 5
+192.0.2.1 - - [02/Jan/2024:08:05:00 +0000] \"GET /a HTTP/1.1\" 200 10
+
+-----
+0
+id,parent_id,panel,hits,hits%,visitors,visitors%,bytes,bytes%,avgts,cumts,maxts,method,protocol,data
+0,,general,6,,,,,,,,,,,total_requests
+1,,general,1,,,,,,,,,,,valid_requests
+2,,general,0,,,,,,,,,,,failed_requests
+3,,general,0,,,,,,,,,,,excluded_hits
+4,,general,1,,,,,,,,,,,unique_visitors
+5,,general,10,,,,,,,,,,,bandwidth
+0,,visitors,1,100.00,1,100.00,10,100.00,0,0,0,,,2024010208
+0,,visit_times,1,100.00,1,100.00,10,100.00,0,0,0,,,08
+
+=====
+the last day where days aren't shown
+-----
+--keep-last=1|--ignore-panel=VISITORS|--ignore-panel=REQUESTS|--ignore-panel=REQUESTS_STATIC|--ignore-panel=NOT_FOUND|--ignore-panel=OS|--ignore-panel=BROWSERS|--ignore-panel=VISIT_TIMES|--ignore-panel=VIRTUAL_HOSTS|--ignore-panel=REFERRERS|--ignore-panel=REFERRING_SITES|--ignore-panel=KEYPHRASES|--ignore-panel=REMOTE_USER|--ignore-panel=CACHE_STATUS|--ignore-panel=MIME_TYPE|--ignore-panel=TLS_TYPE|--log-format=COMMON|-o|csv|a.log
+-----
+192.0.2.1 - - [01/Jan/2024:00:00:00 +0000] \"GET /a HTTP/1.1\" 200 10
+192.0.2.1 - - [01/Jan/2024:00:00:00 +0000] \"GET /x HTTP/1.1\" 404 5
+192.0.2.2 - - [01/Jan/2024:00:00:00 +0000] \"GET /b.css HTTP/1.1\" 304 -
+192.0.2.1 - - [02/Jan/2024:23:00:00 +0000] \"POST /a HTTP/1.1\" 500 7
+
+-----
+0
+id,parent_id,panel,hits,hits%,visitors,visitors%,bytes,bytes%,avgts,cumts,maxts,method,protocol,data
+0,,general,4,,,,,,,,,,,total_requests
+1,,general,1,,,,,,,,,,,valid_requests
+2,,general,0,,,,,,,,,,,failed_requests
+3,,general,0,,,,,,,,,,,excluded_hits
+4,,general,1,,,,,,,,,,,unique_visitors
+5,,general,7,,,,,,,,,,,bandwidth
+0,,hosts,1,100.00,1,100.00,7,100.00,0,0,0,,,192.0.2.1
+0,,status_codes,1,100.00,1,100.00,7,100.00,0,0,0,,,5xx Server Errors
+1,0,status_codes,1,100.00,1,100.00,7,100.00,0,0,0,,,500
+
+=====
+the last two days of the generator's lines
+-----
+--generate=100|--keep-last=2
+-----
+
+-----
+0
+generated 100
+valid 6
+failed 0
+visitors 6
+bandwidth 327
+report a8f41e488c951c48eea922fc6054c6af2e49cd6f6b05a6b159d5d295ff8af642
+
+=====
 the last of several outputs
 -----
 --log-format=COMMON|-o|json|--db-path=x|--output|csv|--ignore-panel=VISITORS|--ignore-panel=REQUESTS|--ignore-panel=REQUESTS_STATIC|--ignore-panel=NOT_FOUND|--ignore-panel=OS|--ignore-panel=BROWSERS|--ignore-panel=VISIT_TIMES|--ignore-panel=VIRTUAL_HOSTS|--ignore-panel=REFERRERS|--ignore-panel=REFERRING_SITES|--ignore-panel=KEYPHRASES|--ignore-panel=STATUS_CODES|--ignore-panel=REMOTE_USER|--ignore-panel=CACHE_STATUS|--ignore-panel=MIME_TYPE|--ignore-panel=TLS_TYPE|a.log
