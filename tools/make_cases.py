@@ -380,8 +380,24 @@ LISTS = [
     ("a run with --persist alone is cut", "+ a.log /a; track a.log; + b.log /b; crash * 79 anew a.log b.log; track b.log a.log"),
     ("a run behind a kept run with --persist alone is cut",
      "+ a.log /a; anew a.log; + a.log /b; > a.log a.log.1; + a.log /c; crash * {} track a.log.1 a.log; track a.log.1 a.log; show"),
+    ("two days are kept, another number is refused before a log is opened, and a crash changes no report",
+     "+ a.log /a /b@2; track2 a.log; + a.log /c@3; track2 a.log; track3 gone.log; show; crash 10000 79 track2 a.log; show2"),
+    ("a day that was left out comes back in a later log, and is left out again",
+     "+ a.log /a@3 /b@4; track2 a.log; + b.log /c /d@2; track2 b.log; show2; + b.log /e@5 /f@4; track2 b.log a.log"),
+    ("a run with --persist alone takes another number",
+     "+ a.log /a /b@2 /c@3; track2 a.log; anew3 a.log; track2 a.log; + a.log /d@4; track3 a.log"),
+    ("runs that keep all days, and one that keeps two",
+     "+ a.log /a /b@2 /c@3; track a.log; track2 a.log; show2; + a.log /d@4; track a.log"),
+    ("a run that keeps two days is cut",
+     "+ a.log /a /b@2; track2 a.log; + a.log /c@3 /d; crash * {} track2 a.log; + a.log /e@4; track2 a.log; show2"),
+    ("a run with --persist alone that takes another number is cut",
+     "+ a.log /a /b@2 /c@3; anew3 a.log; crash * 79 anew3 a.log; + a.log /d@4; track3 a.log"),
 ]
-MODES = {"track": TRACKED, "anew": [COMMON, "-o", "csv", "--persist"], "show": [COMMON, "-o", "csv", "--restore"]}
+ANEW, SHOW = [COMMON, "-o", "csv", "--persist"], [COMMON, "-o", "csv", "--restore"]
+MODES = {
+    "track": TRACKED, "track2": [*TRACKED, "--keep-last=2"], "track3": [*TRACKED, "--keep-last=3"],
+    "anew": ANEW, "anew3": [*ANEW, "--keep-last=3"], "show": SHOW, "show2": [*SHOW, "--keep-last=2"],
+}
 # after fewer calls than this no run was kept
 FEWEST = 6
 
@@ -389,10 +405,11 @@ FEWEST = 6
 DOC_LISTS = """\
 /// Lists of steps, a case a line below a line that says what it shows: what is to fail, the steps, and what the list answers.
 ///
-/// `+ LOG PAGE..` grows a log by a line for each page, where `/a~` is the front of a line, `~` the rest of one, and `!` a line that
-/// doesn't fit. `> FROM TO` renames a log. `track LOG..` is a run with both words, `anew LOG..` one with `--persist` alone and
-/// `show LOG..` one with `--restore` alone; with `crash CALLS PICK` before it every call of the disk fails that comes after that many,
-/// and a crash comes after it. A star is tried with each number, until no run fails.
+/// `+ LOG PAGE..` grows a log by a line for each page, where `/a@2` is of the second day and others are of the first, `/a~` is the
+/// front of a line, `~` the rest of one, and `!` a line that doesn't fit. `> FROM TO` renames a log. `track LOG..` is a run with both
+/// words, `anew LOG..` one with `--persist` alone and `show LOG..` one with `--restore` alone; a digit after these is the number of
+/// `--keep-last`. With `crash CALLS PICK` before it every call of the disk fails that comes after that many, and a crash comes after
+/// it. A star is tried with each number, until no run fails.
 ///
 /// The answer is the exit status of each run, and of each report the numbers, with the pages before their hits. The answers were
 /// worked out by a program in another language.
@@ -408,7 +425,8 @@ def bytes_of_page(page):
     """What a log grows by."""
     if page in PIECES:
         return PIECES[page].encode()
-    return line(page.strip("~")).removesuffix(REST if page.endswith("~") else "").encode()
+    url, _, day = page.strip("~").partition("@")
+    return line(url, date=f"0{day or 1}/Jan/2024").removesuffix(REST if page.endswith("~") else "").encode()
 
 
 def shown(report):

@@ -21,7 +21,11 @@ fn number_of(text: &str, star: u64) -> Result<u64, Fail> {
 fn options_of(mode: &str) -> &'static str {
     match mode {
         "track" => "--log-format=COMMON|-o|csv|--restore|--persist",
+        "track2" => "--log-format=COMMON|-o|csv|--restore|--persist|--keep-last=2",
+        "track3" => "--log-format=COMMON|-o|csv|--restore|--persist|--keep-last=3",
         "anew" => "--log-format=COMMON|-o|csv|--persist",
+        "anew3" => "--log-format=COMMON|-o|csv|--persist|--keep-last=3",
+        "show2" => "--log-format=COMMON|-o|csv|--restore|--keep-last=2",
         _ => "--log-format=COMMON|-o|csv|--restore",
     }
 }
@@ -41,9 +45,12 @@ fn words_of(alloc: Global, run: &str) -> Result<Texts, NoMemory> {
     Ok(words)
 }
 
-/// The front of a line that asks for a page, and the rest of one.
+/// The front of a line that asks for a page, on the first day or on the one that is named, and the rest of one.
 fn push_front(lines: &mut String, page: &str) -> Result<(), NoMemory> {
-    lines.push_str("192.0.2.1 - - [01/Jan/2024:00:00:00 +0000] \"GET ")?;
+    let (page, day) = page.split_once('@').unwrap_or((page, "1"));
+    lines.push_str("192.0.2.1 - - [0")?;
+    lines.push_str(day)?;
+    lines.push_str("/Jan/2024:00:00:00 +0000] \"GET ")?;
     lines.push_str(page)?;
     Ok(())
 }

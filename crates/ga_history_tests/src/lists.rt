@@ -2,10 +2,11 @@
 
 /// Lists of steps, a case a line below a line that says what it shows: what is to fail, the steps, and what the list answers.
 ///
-/// `+ LOG PAGE..` grows a log by a line for each page, where `/a~` is the front of a line, `~` the rest of one, and `!` a line that
-/// doesn't fit. `> FROM TO` renames a log. `track LOG..` is a run with both words, `anew LOG..` one with `--persist` alone and
-/// `show LOG..` one with `--restore` alone; with `crash CALLS PICK` before it every call of the disk fails that comes after that many,
-/// and a crash comes after it. A star is tried with each number, until no run fails.
+/// `+ LOG PAGE..` grows a log by a line for each page, where `/a@2` is of the second day and others are of the first, `/a~` is the
+/// front of a line, `~` the rest of one, and `!` a line that doesn't fit. `> FROM TO` renames a log. `track LOG..` is a run with both
+/// words, `anew LOG..` one with `--persist` alone and `show LOG..` one with `--restore` alone; a digit after these is the number of
+/// `--keep-last`. With `crash CALLS PICK` before it every call of the disk fails that comes after that many, and a crash comes after
+/// it. A star is tried with each number, until no run fails.
 ///
 /// The answer is the exit status of each run, and of each report the numbers, with the pages before their hits. The answers were
 /// worked out by a program in another language.
@@ -58,4 +59,18 @@ files *: + a.log /a; track a.log; > a.log a.log.1; + a.log /b; track a.log a.log
 + a.log /a; anew a.log; + a.log /b; > a.log a.log.1; + a.log /c; crash * 0 track a.log.1 a.log; track a.log.1 a.log; show => 0000 | 1 1 0 0 1 10 /a=1 | 3 3 0 0 1 30 /a=1 /b=1 /c=1 | 3 3 0 0 1 30 /a=1 /b=1 /c=1 | 3 3 0 0 1 30 /a=1 /b=1 /c=1
 + a.log /a; anew a.log; + a.log /b; > a.log a.log.1; + a.log /c; crash * 255 track a.log.1 a.log; track a.log.1 a.log; show => 0000 | 1 1 0 0 1 10 /a=1 | 3 3 0 0 1 30 /a=1 /b=1 /c=1 | 3 3 0 0 1 30 /a=1 /b=1 /c=1 | 3 3 0 0 1 30 /a=1 /b=1 /c=1
 + a.log /a; anew a.log; + a.log /b; > a.log a.log.1; + a.log /c; crash * 79 track a.log.1 a.log; track a.log.1 a.log; show => 0000 | 1 1 0 0 1 10 /a=1 | 3 3 0 0 1 30 /a=1 /b=1 /c=1 | 3 3 0 0 1 30 /a=1 /b=1 /c=1 | 3 3 0 0 1 30 /a=1 /b=1 /c=1
+## two days are kept, another number is refused before a log is opened, and a crash changes no report
++ a.log /a /b@2; track2 a.log; + a.log /c@3; track2 a.log; track3 gone.log; show; crash 10000 79 track2 a.log; show2 => 008800 | 2 2 0 0 2 20 /a=1 /b=1 | 3 2 0 0 2 20 /b=1 /c=1 | 3 2 0 0 2 20 /b=1 /c=1 | 3 2 0 0 2 20 /b=1 /c=1
+## a day that was left out comes back in a later log, and is left out again
++ a.log /a@3 /b@4; track2 a.log; + b.log /c /d@2; track2 b.log; show2; + b.log /e@5 /f@4; track2 b.log a.log => 0000 | 2 2 0 0 2 20 /a=1 /b=1 | 4 2 0 0 2 20 /a=1 /b=1 | 4 2 0 0 2 20 /a=1 /b=1 | 6 3 0 0 2 30 /b=1 /e=1 /f=1
+## a run with --persist alone takes another number
++ a.log /a /b@2 /c@3; track2 a.log; anew3 a.log; track2 a.log; + a.log /d@4; track3 a.log => 0080 | 3 2 0 0 2 20 /b=1 /c=1 | 3 3 0 0 3 30 /a=1 /b=1 /c=1 | 4 3 0 0 3 30 /b=1 /c=1 /d=1
+## runs that keep all days, and one that keeps two
++ a.log /a /b@2 /c@3; track a.log; track2 a.log; show2; + a.log /d@4; track a.log => 0880 | 3 3 0 0 3 30 /a=1 /b=1 /c=1 | 4 4 0 0 4 40 /a=1 /b=1 /c=1 /d=1
+## a run that keeps two days is cut
++ a.log /a /b@2; track2 a.log; + a.log /c@3 /d; crash * 0 track2 a.log; + a.log /e@4; track2 a.log; show2 => 0000 | 2 2 0 0 2 20 /a=1 /b=1 | 4 2 0 0 2 20 /b=1 /c=1 | 5 2 0 0 2 20 /c=1 /e=1 | 5 2 0 0 2 20 /c=1 /e=1
++ a.log /a /b@2; track2 a.log; + a.log /c@3 /d; crash * 255 track2 a.log; + a.log /e@4; track2 a.log; show2 => 0000 | 2 2 0 0 2 20 /a=1 /b=1 | 4 2 0 0 2 20 /b=1 /c=1 | 5 2 0 0 2 20 /c=1 /e=1 | 5 2 0 0 2 20 /c=1 /e=1
++ a.log /a /b@2; track2 a.log; + a.log /c@3 /d; crash * 79 track2 a.log; + a.log /e@4; track2 a.log; show2 => 0000 | 2 2 0 0 2 20 /a=1 /b=1 | 4 2 0 0 2 20 /b=1 /c=1 | 5 2 0 0 2 20 /c=1 /e=1 | 5 2 0 0 2 20 /c=1 /e=1
+## a run with --persist alone that takes another number is cut
++ a.log /a /b@2 /c@3; anew3 a.log; crash * 79 anew3 a.log; + a.log /d@4; track3 a.log => 000 | 3 3 0 0 3 30 /a=1 /b=1 /c=1 | 3 3 0 0 3 30 /a=1 /b=1 /c=1 | 4 3 0 0 3 30 /b=1 /c=1 /d=1
 ";

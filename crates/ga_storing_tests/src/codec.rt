@@ -3,9 +3,17 @@ use ga_codec::{BodyReader, CodecFault, read_delta, read_snapshot, write_delta, w
 use std::alloc::Global;
 use std::test::Fail;
 
-/// The snapshot of an empty database, generation 1.
+/// The snapshot of an empty database that doesn't say how many days it keeps, generation 1.
 const EMPTY: &[u8] = b"\x01\
     \x00\x00\x00\x00\x00\x00\x00\x01\
+    \x00\x00\x00\x00\x00\x00\x00\x00\x00\x00\x00\x00\x00\x00\x00\x00\x00\x00\x00\x00\x00\x00\x00\x00\
+    \x00\x00\x00\x00\x00\x00\x00\x00\x00\x00\x00\x00\x00\x00\x00\x00\x00\x00\x00\x00\x00\x00\x00\x00\
+    \x00\x00\x00\x00\x00\x00\x00\x00\x00\x00\x00\x00\x00\x00\x00\x00";
+
+/// The snapshot of an empty database that keeps two days, generation 1.
+const TWO_DAYS: &[u8] = b"\x02\
+    \x00\x00\x00\x00\x00\x00\x00\x01\
+    \x00\x00\x00\x02\
     \x00\x00\x00\x00\x00\x00\x00\x00\x00\x00\x00\x00\x00\x00\x00\x00\x00\x00\x00\x00\x00\x00\x00\x00\
     \x00\x00\x00\x00\x00\x00\x00\x00\x00\x00\x00\x00\x00\x00\x00\x00\x00\x00\x00\x00\x00\x00\x00\x00\
     \x00\x00\x00\x00\x00\x00\x00\x00\x00\x00\x00\x00\x00\x00\x00\x00";
@@ -47,10 +55,20 @@ const THREE_ROWS: &[u8] = b"\
     \x18\x19\x1a\x1b\x1c\x1d\x1e\x1f\x00\x00\x00\x00\x00\x00\x00\xc8\
 ";
 
-/// Whether what these bytes spell is a snapshot of this generation with this many keys, and is spelled so.
-fn spells(alloc: Global, bytes: &[u8], generation: u64, keys: u64) -> Result<bool, CodecFault> {
+/// Whether what these bytes spell is a snapshot of this generation, which keeps this many days and has this many keys, and is
+/// spelled so.
+fn spells(
+    alloc: Global,
+    bytes: &[u8],
+    generation: u64,
+    keep: Option<u32>,
+    keys: u64,
+) -> Result<bool, CodecFault> {
     let snapshot = read_snapshot(alloc, bytes)?;
-    if snapshot.generation != generation || snapshot.summary.len() != keys {
+    if snapshot.generation != generation
+        || snapshot.keep != keep
+        || snapshot.summary.len() != keys
+    {
         return Ok(false);
     }
     if generation < 1 || generation > 2 {
@@ -95,11 +113,10 @@ fn spells_record_by_and_by(alloc: Global, bytes: &[u8]) -> Result<bool, CodecFau
 #[test]
 fn values_have_these_bytes(rt: HostRuntime) -> Result<(), Fail> {
     let alloc = rt.alloc();
-    assert_eq!(rt; spells(alloc, EMPTY, 1, 0), Ok(true));
-    assert_eq!(rt; spells(alloc, THREE_ROWS, 2, 3), Ok(true));
+    assert_eq!(rt; spells(alloc, EMPTY, 1, None, 0), Ok(true));
+    assert_eq!(rt; spells(alloc, TWO_DAYS, 1, Some(2), 0), Ok(true));
+    assert_eq!(rt; spells(alloc, THREE_ROWS, 2, None, 3), Ok(true));
     assert_eq!(rt; spells_record(alloc, NOTHING), Ok(true));
-    let short = read_snapshot(alloc, &EMPTY[..72]).err();
-    assert_eq!(rt; short, Some(CodecFault::NotInGrammar { at: 72 }));
     Ok(())
 }
 
@@ -107,6 +124,7 @@ fn values_have_these_bytes(rt: HostRuntime) -> Result<(), Fail> {
 fn pieces_are_read_as_the_whole(rt: HostRuntime) -> Result<(), Fail> {
     let alloc = rt.alloc();
     assert_eq!(rt; spells_by_and_by(alloc, EMPTY), Ok(true));
+    assert_eq!(rt; spells_by_and_by(alloc, TWO_DAYS), Ok(true));
     assert_eq!(rt; spells_by_and_by(alloc, THREE_ROWS), Ok(true));
     assert_eq!(rt; spells_record_by_and_by(alloc, NOTHING), Ok(true));
     let short = spells_by_and_by(alloc, &THREE_ROWS[..378]).err();
@@ -114,13 +132,28 @@ fn pieces_are_read_as_the_whole(rt: HostRuntime) -> Result<(), Fail> {
     Ok(())
 }
 
-/// Changes of the three rows, the byte that is put at a place or the number of bytes that are left, and what is said of the bytes then.
+/// Changes of the three rows, or after `empty` and `days` of the empty database and of the one that keeps two days: the byte that is
+/// put at a place or the number of bytes that are left, and what is said of the bytes then.
 const FAULTS: &str = "\
 ## bytes that end early
 0 => byte 0: not in the grammar
 428 => byte 428: not in the grammar
-## another version
-0=2 => byte 0: not in the grammar
+empty 72 => byte 72: not in the grammar
+days 12 => byte 12: not in the grammar
+days 76 => byte 76: not in the grammar
+## no version, and one that there isn't
+empty 0=0 => byte 0: not in the grammar
+days 0=3 => byte 0: not in the grammar
+0=3 => byte 0: not in the grammar
+## the other version, with four bytes too few or too many
+empty 0=2 => byte 73: not in the grammar
+days 0=1 => byte 73: not in the grammar
+0=2 => byte 69: not in the grammar
+## how many days are kept: all of the bytes are read, and their number is in four of them
+empty 73 => generation 1, keep None
+days 77 => generation 1, keep Some(2)
+days 12=0 => generation 1, keep Some(0)
+days 9=255 => generation 1, keep Some(4278190082)
 ## a generation above the limit, and of 0
 1=64 => byte 1: not in the grammar
 8=0 => byte 8: not in the grammar
@@ -143,9 +176,19 @@ const FAULTS: &str = "\
 388=199 => byte 429: not in the grammar
 ";
 
-/// The three rows, changed.
+/// The bytes that are changed, by their name.
+fn unchanged(name: &str) -> &'static [u8] {
+    match name {
+        "empty" => EMPTY,
+        "days" => TWO_DAYS,
+        _ => THREE_ROWS,
+    }
+}
+
+/// The bytes of a snapshot, changed.
 fn changed(alloc: Global, change: &str) -> Result<Vec<u8>, Fail> {
-    let mut bytes = Vec::from_slice(alloc, THREE_ROWS)?;
+    let (name, change) = change.split_once(' ').unwrap_or(("", change));
+    let mut bytes = Vec::from_slice(alloc, unchanged(name))?;
     match change.split_once('=') {
         None => bytes.truncate(change.parse::<usize>()?),
         Some((place, byte)) => {
@@ -157,15 +200,18 @@ fn changed(alloc: Global, change: &str) -> Result<Vec<u8>, Fail> {
     Ok(bytes)
 }
 
-/// What is said of the three rows, changed.
+/// What is said of such bytes.
 fn said(alloc: Global, change: &str) -> Result<String, Fail> {
     match read_snapshot(alloc, &changed(alloc, change)?) {
-        Ok(_) => Ok(String::from_str(alloc, "a snapshot")?),
+        Ok(snapshot) => Ok(format!(in alloc;
+            "generation {}, keep {:?}",
+            snapshot.generation, snapshot.keep
+        )?),
         Err(fault) => Ok(format!(in alloc; "{fault}")?),
     }
 }
 
 #[test]
-fn other_bytes_are_refused_at_their_place(rt: HostRuntime) -> Result<(), Fail> {
+fn other_bytes_are_read_or_refused_at_their_place(rt: HostRuntime) -> Result<(), Fail> {
     hold(rt.alloc(), FAULTS, said)
 }
