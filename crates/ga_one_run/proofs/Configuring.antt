@@ -1,5 +1,5 @@
 -- From how the reading of a configuration file ended to what the run is.
-use Rattle.std.proofs.Common.{◌≡◌, ◌⊎◌, ◌↔◌, ◌≢◌, ℕ, List, [], ◌∷◌, Option, Some, None, Result, Ok, Err, refl, sym, ap, subst, inl, inr}
+use Rattle.std.proofs.Common.{◌≡◌, ◌⊎◌, ◌↔◌, ◌≢◌, ℕ, List, [], Option, Some, None, Result, Ok, Err, refl, sym, ap, subst, inl, inr}
 use Rattle.ga_disk.specs.Disk.{DiskView}
 use Rattle.ga_disk.specs.Images.{Images}
 use Rattle.ga_disk.specs.Trace.DiskTrace.{no_disk_call}
@@ -9,7 +9,8 @@ use Rattle.ga_ports.specs.Outs.{OutsView}
 use Rattle.ga_ports.specs.Trace.{FilesTrace, OutsTrace, no_files_call}
 use Rattle.ga_ports.specs.declared.outs.To.TheVariants.{Stderr}
 use Rattle.ga_resume.specs.declared.fault.PlaceFault.TheVariants.{FileFault as PlaceFailed, FileShort as PlaceShort, NoMemory as PlaceNoMemory}
-use Rattle.ga_words.specs.Joined.{JoinedOf, NamesConf, ScanOf}
+use Rattle.ga_words.specs.Defaults.{defaults}
+use Rattle.ga_words.specs.Joined.{AreConfWords, JoinedOf, NamesConf, ScanOf}
 use Rattle.ga_words.specs.WordsOf.{HasFault, WordsOf}
 use Rattle.ga_words.specs.declared.settings.Settings.{Settings}
 use Rattle.ga_words.specs.declared.fault.WordFault.{WordFault}
@@ -26,6 +27,10 @@ use Rattle.ga_one_run.specs.declared.conf.ConfFileFault.TheVariants.{Unread, Bad
 use Rattle.ga_one_run.specs.declared.status.Status.{Status}
 use Rattle.ga_one_run.specs.declared.status.Status.TheVariants.{NoMemory}
 use Rattle.ga_one_run.proofs.Endings.{along, same-but}
+
+-- no words of a file
+pub no-conf : AreConfWords []
+no-conf = record { units = []; spells = refl; settings = defaults; row = refl; are = tt }
 
 -- what the law of scanned words says
 abbrev pub OneScan : Type 0

@@ -65,7 +65,7 @@ x***xxxxxxxxxxxxxxxxx =>
 ";
 
 /// The bytes of a case's file.
-fn file_of(alloc: Global, text: &str) -> Result<Vec<u8>, NoMemory> {
+pub(crate) fn file_of(alloc: Global, text: &str) -> Result<Vec<u8>, NoMemory> {
     let mut file = Vec::new(alloc);
     for byte in text.bytes() {
         match byte {

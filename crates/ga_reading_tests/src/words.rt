@@ -1,5 +1,7 @@
+use crate::confs::file_of;
 use ga_base::{Text, Texts};
 use ga_cases::hold;
+use ga_conf::read_conf;
 use ga_words::{Kind, Settings, join_words, read_words, scan_words};
 use std::alloc::Global;
 use std::test::Fail;
@@ -108,20 +110,20 @@ a.log => none
 /// Words of a configuration file, a slash and words of a command line, and what they mean together.
 const JOINED: &str = "\
 ## the words of the command line count, where one value does
---jobs=2|--log-format=F/--jobs=3|a => json |F|%d/%b/%Y|%H:%M:%S|3|1024|366|/tmp|a,
---jobs=2/--log-format=F|a => json |F|%d/%b/%Y|%H:%M:%S|2|1024|366|/tmp|a,
---log-format=COMMON/--log-format=F|a => json |F|%d/%b/%Y|%H:%M:%S|1|1024|366|/tmp|a,
+jobs 2;log-format F/--jobs=3|a => json |F|%d/%b/%Y|%H:%M:%S|3|1024|366|/tmp|a,
+jobs 2/--log-format=F|a => json |F|%d/%b/%Y|%H:%M:%S|2|1024|366|/tmp|a,
+log-format COMMON/--log-format=F|a => json |F|%d/%b/%Y|%H:%M:%S|1|1024|366|/tmp|a,
 ## no words of a file
 /a => no log format
 / => no input
 /--log-format=F|a => json |F|%d/%b/%Y|%H:%M:%S|1|1024|366|/tmp|a,
 ## a flag of the file stays, and is in conflict
---persist|--jobs=2/--jobs=3|--generate=5 => word 1: conflict
---restore|--jobs=2|--max-items=3/--generate|5 => word 0: conflict
---restore/ => json |none|%d/%b/%Y|%H:%M:%S|1|1024|366|/tmp|
+persist true;jobs 2/--jobs=3|--generate=5 => word 1: conflict
+restore true;jobs 2;max-items 3/--generate|5 => word 0: conflict
+restore true/ => json |none|%d/%b/%Y|%H:%M:%S|1|1024|366|/tmp|
 ## what the words lack
---jobs=2/a => no log format
---log-format=F/--jobs=2 => no input
+jobs 2/a => no log format
+log-format F/--jobs=2 => no input
 ";
 
 /// The words between bars; none of an empty text.
@@ -189,10 +191,18 @@ fn named(alloc: Global, row: &str) -> Result<String, Fail> {
     }
 }
 
-/// What the words of a configuration file and those after them mean.
+/// What the words that a configuration file gives and those after them mean.
 fn joined(alloc: Global, row: &str) -> Result<String, Fail> {
-    let (conf, words) = row.split_once('/').unwrap_or(("", row));
-    match join_words(alloc, &words_of(alloc, conf)?, words_of(alloc, words)?.items()) {
+    let (file, words) = row.split_once('/').unwrap_or(("", row));
+    let words = words_of(alloc, words)?;
+    let Ok(conf) = read_conf(alloc, &file_of(alloc, file)?) else {
+        return Ok(String::from_str(alloc, "not a setting")?);
+    };
+    let said = match scan_words(alloc, words.items()) {
+        Ok(_) => join_words(alloc, &conf, words.items()),
+        Err(fault) => Err(fault),
+    };
+    match said {
         Ok(settings) => shown(alloc, &settings),
         Err(fault) => Ok(format!(in alloc; "{fault}")?),
     }

@@ -1,4 +1,4 @@
-use Rattle.std.proofs.Common.{◌≡◌, ℕ, List, IfOk, sym, subst, arith}
+use Rattle.std.proofs.Common.{IfOk, sym, subst, arith}
 use Rattle.ga_report.specs.Source.{SourceValue}
 use Rattle.ga_report.proofs.LastRows.{all-kept}
 use Rattle.ga_one_run.specs.Reports.{IsTextTold}

@@ -1,15 +1,18 @@
 use Rattle.std.proofs.Common.{ℕ, List, [], ◌∙◌, sym, subst}
-use Rattle.ga_words.specs.Joined.{NamesConf}
+use Rattle.ga_words.specs.Joined.{AreConfWords, NamesConf}
 use Rattle.ga_one_run.specs.Configured.{IsRun}
 use Rattle.ga_one_run.specs.Outside.{outside_of as outside}
 use Rattle.ga_one_run.specs.Printing.{TakesOrStops}
 use Rattle.ga_one_run.specs.Run.{RunsWords}
 use Rattle.ga_one_run.specs.Statuses.{fault_line}
 use Rattle.ga_one_run.specs.declared.status.Status.{Status}
-use Rattle.ga_one_run.proofs.Configuring.{run-alone, run-configured, run-unread, unjoined}
+use Rattle.ga_one_run.proofs.Configuring.{no-conf, run-alone, run-configured, run-unread, unjoined}
 use Rattle.ga_one_run.proofs.Runs.{run-none}
 use Rattle.ga_one_run.proofs.WordLaw.{one-words}
 use Rattle.ga_one_run.proofs.run_words.goaccess_run.Goals as goal
+
+pub run_joined-requires-clause-conf : goal.run_joined-requires-clause-conf
+run_joined-requires-clause-conf g c κs within = subst AreConfWords (sym c.new-conf.ensures) no-conf
 
 pub returns-in-Ok-Some : goal.returns-in-Ok-Some
 returns-in-Ok-Some g c =
