@@ -1,8 +1,8 @@
 #!/usr/bin/env python3
 """Writes tables of runs for the tests, each case with its name. The answers come from goaccess_oracle.py.
 
-    make_cases.py words FOLDER  runs in which the options and the lines vary, over up to three files: reports.rt and faults.rt of
-                                crates/ga_run_tests/src
+    make_cases.py words FOLDER  runs in which the options and the lines vary, over up to three files: reports.rt, kept_days.rt and
+                                faults.rt of crates/ga_run_tests/src
     make_cases.py runs FILE     runs that keep what they counted, one after the other, over logs that grow and are renamed:
                                 histories.rt beside them
     make_cases.py lists FILE    lists of steps with crashes, and outputs and calls that fail: lists.rt of crates/ga_history_tests/src
@@ -208,6 +208,34 @@ OVER_WORDS = [
 ] + FAULTS
 
 
+# two days that are left out below, whose rows no panel has on other days; and four days, not in their order
+OLD = '''old.org old OLD 192.0.2.9 [{0} 01:00:00] POST /old - HTTP/1.1 500 10 "https://www.google.de/search?q=old" "curl/1 Linux" TLSv1.0 text/old 9000
+old.org old OLD 192.0.2.9 [{0} 01:00:00] POST /old.css - HTTP/1.1 200 10 "https://www.google.de/search?q=old" "curl/1 Linux" TLSv1.0 text/old 9000
+old.org old OLD 192.0.2.9 [{0} 01:00:00] POST /gone - HTTP/1.1 404 10 "https://www.google.de/search?q=old" "curl/1 Linux" TLSv1.0 text/old 9000
+'''
+BOTH = '"https://www.google.com/search?q=new+word" "Mozilla/5.0 (Windows NT 10.0) Firefox/120.0"'
+FOUR_DAYS = f'''example.org ann HIT 192.0.2.1 [2024-03-01 08:00:00] GET /a - HTTP/1.1 200 10 {BOTH} TLSv1.3 text/html 100
+{OLD.format("2023-12-30")}example.org ann HIT 192.0.2.1 [2024-02-29 08:00:00] GET /b.css - HTTP/1.1 200 10 {BOTH} TLSv1.3 text/html 50
+example.org ann MISS ::1 [2024-02-29 23:59:00] GET /x - HTTP/1.1 404 10 {BOTH} TLSv1.3 text/html 7
+{OLD.format("2023-12-31")}www.example.org ann HIT ::1 [2024-03-01 08:00:00] GET /b - HTTP/1.1 200 5 {BOTH} TLSv1.2 image/png 300
+broken
+'''
+OF_FOUR = [EVERY, "--date-format=%Y-%m-%d", "--time-format= %H:%M:%S"]
+OF_THREE = "".join(line(date=f"0{day}/Jan/2024") for day in (1, 2, 3))
+OVER_DAYS = [
+    of("the last two days of three", ["--keep-last=2", *CSV], OF_THREE),
+    of("the last day of three", ["--keep-last=1", *CSV], OF_THREE),
+    of("more days than there are", ["--keep-last=4", *CSV], OF_THREE),
+    of("more days in every panel than are kept, and not in the order of the log", [*OF_FOUR, "--keep-last=2", "-o", "csv", "a.log"], FOUR_DAYS),
+    of("one row a panel of the last two days", [*OF_FOUR, "--keep-last=2", "--max-items=1", "-o", "csv", "a.log"], FOUR_DAYS),
+    of("the last two days by four jobs, and the last of several numbers counts",
+       [*OF_FOUR, "--keep-last=1", "--jobs=4", "--chunk-size=1", "--keep-last", "2", "a.log"], FOUR_DAYS),
+    of("a last day of lines that make no visitor", ["--keep-last=1", *only("VISITORS", "NOT_FOUND"), *CSV], OF_THREE + line("/x", 404, date="04/Jan/2024")),
+    of("no day", ["--keep-last=1", *CSV], "broken\n"),
+    of("the last three days of the generator's lines", ["--generate=300", "--keep-last=3", "--max-items=2", "--jobs=4"]),
+]
+
+
 def quoted(text):
     out = []
     for c in text:
@@ -264,10 +292,11 @@ def status_of(text):
 
 
 def write_words(folder):
+    days = write(os.path.join(folder, "kept_days.rt"), (DOC_DAYS, "KEPT_DAYS", texts_of(OVER_DAYS)))
     texts = texts_of(OVER_WORDS)
     good, bad, others = ([text for text in texts if is_of(status_of(text))] for is_of in (lambda s: s == 0, lambda s: s == 1, lambda s: s > 1))
     written = write(os.path.join(folder, "reports.rt"), (DOC_WORDS, "REPORTS", good))
-    return written + write(
+    return days + written + write(
         os.path.join(folder, "faults.rt"),
         (DOC_FAULTS, "WORD_FAULTS", bad),
         ("/// Runs that fail over their files, in the same form.\n", "FILE_FAULTS", others),
@@ -536,6 +565,9 @@ def write_lists(path):
 
 DOC_FAULTS = """\
 /// Runs whose words say no run, in the form of `REPORTS`.
+"""
+DOC_DAYS = """\
+/// Runs that print their last days, in the form of `REPORTS`.
 """
 DOC_WORDS = """\
 /// Runs that print, a line of `=` between two. A run has four parts, with a line of `-` between two: its name; its words, with a

@@ -15,9 +15,13 @@ mod faults;
 #[cfg(test)]
 mod histories;
 #[cfg(test)]
+mod kept_days;
+#[cfg(test)]
 mod reports;
 #[cfg(test)]
 mod runs;
+#[cfg(test)]
+mod stored_days;
 #[cfg(test)]
 mod targets;
 #[cfg(test)]

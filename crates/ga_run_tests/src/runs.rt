@@ -1,5 +1,6 @@
 use crate::faults::{FILE_FAULTS, WORD_FAULTS};
 use crate::histories::HISTORIES;
+use crate::kept_days::KEPT_DAYS;
 use crate::reports::REPORTS;
 use crate::world::World;
 use ga_base::Text;
@@ -76,6 +77,7 @@ fn runs_answer_as_worked_out(rt: HostRuntime) -> Result<(), Fail> {
     hold_all(&rt, alloc, "", WORD_FAULTS)?;
     for workers in WORKERS {
         hold_all(&rt, alloc, workers, REPORTS)?;
+        hold_all(&rt, alloc, workers, KEPT_DAYS)?;
         hold_all(&rt, alloc, workers, FILE_FAULTS)?;
     }
     Ok(())
