@@ -7,14 +7,14 @@ use Rattle.ga_disk.specs.Images.{LeavesOnly}
 use Rattle.ga_disk.specs.Laws.{counts-now}
 use Rattle.ga_disk.specs.MemDisk.{AreImages, bytes_of, disk_images, disk_view, states}
 use Rattle.ga_disk.specs.Sides.{Sides}
-use Rattle.ga_keep.specs.RunDatabase.{IsAfter, base_of, follow_of, start_of, uses_database}
+use Rattle.ga_keep.specs.RunDatabase.{IsUntouched, IsAfter, base_of, follow_of, start_of, uses_database}
 use Rattle.ga_keep.proofs.Kept.{agrees-with}
 use Rattle.ga_line.specs.declared.setup.LineSetup.{LineSetup}
 use Rattle.ga_logs.specs.Following.{AreTold}
 use Rattle.ga_logs.specs.Portions.{counted_lines}
 use Rattle.ga_outcomes.specs.LineOutcomes.{CountsLines}
 use Rattle.ga_resume.specs.declared.follow.Follow.TheVariants.{ToEnd, ToLastLine, Whole}
-use Rattle.ga_ports.specs.Files.{Contents, FilesView}
+use Rattle.ga_ports.specs.Files.{Contents, FilesView, told}
 use Rattle.ga_ports.specs.MemFiles.{files_view, only_these}
 use Rattle.ga_ports.specs.MemOuts.{outs_view}
 use Rattle.ga_store.specs.Commit.{IsLater}
@@ -29,7 +29,7 @@ use Rattle.ga_summary.specs.Sound.{IsSummary}
 use Rattle.ga_summary.specs.SummaryRows.{SummaryValue}
 use Rattle.ga_summary.specs.Sums.{IsSumOf}
 use Rattle.ga_summary.proofs.LastDays.{trimmed-summary}
-use Rattle.ga_words.specs.WordsOf.{WordsOf}
+use Rattle.ga_words.specs.Joined.{JoinedOf}
 use Rattle.ga_words.specs.declared.settings.Settings.{Settings}
 use Rattle.ga_agents.specs.declared.row.Rule.{Rule}
 use Rattle.ga_one_run.specs.Course.{HasRules, ReachesReport}
@@ -37,13 +37,14 @@ use Rattle.ga_one_run.specs.Told.{RulesAreTold}
 use Rattle.ga_one_run.specs.Ends.{Ends, Finishes, HasReport}
 use Rattle.ga_one_run.specs.Keeping.{FindsThere, KeepsSince, KeptSince}
 use Rattle.ga_one_run.specs.Leaves.{Leaves, LeavesEither, LeavesKept, LeavesSides, SettlesBy, StaysIfRead}
-use Rattle.ga_one_run.specs.Run.{AreRefused, HaveSetup, IsRun, NothingWasRead, RunsOver}
+use Rattle.ga_one_run.specs.Run.{AreRefused, HaveSetup, NothingWasRead, RunsOver, RunsWords}
+use Rattle.ga_one_run.specs.Configured.{ConfIsTold, SayOver}
 use Rattle.ga_one_run.specs.Outside.{Outside}
 use Rattle.ga_one_run.specs.Printing.{but_errors, delivered, report_file}
 use Rattle.ga_one_run.specs.Reports.{IsTextOf}
 use Rattle.ga_one_run.specs.Setups.{IsLineSetup, setup_of}
 use Rattle.ga_one_run.specs.declared.status.Status.{Status}
-use Rattle.ga_one_run.specs.declared.status.Status.TheVariants.{Done, BadWords, BadFormat, BadRules, FileFault, FileShort, DiskFault, DbDamaged, KeepDiffers, OutFault, CounterFull, NoMemory}
+use Rattle.ga_one_run.specs.declared.status.Status.TheVariants.{Done, BadWords, BadConf, BadFormat, BadRules, FileFault, FileShort, DiskFault, DbDamaged, KeepDiffers, OutFault, CounterFull, NoMemory}
 use Rattle.ga_one_run.proofs.Counting.{whole-fits}
 use Rattle.ga_one_run.proofs.Telling.{kept-rules, seen-same, told-is}
 use Rattle.ga_run.specs.Headline.{IsRunCount, HasRuns, Holds, IsAcknowledged, IsDone, Kept, RunCount, PrintsExactly, found_entries, found_outcomes, number_after, with_run}
@@ -52,12 +53,13 @@ use Rattle.ga_run.specs.Parts.{AreToldApart, ArePartsOf, Part}
 use Rattle.ga_run.specs.declared.history.World.{World}
 use Rattle.ga_run.proofs.Counted.{parts-of}
 use Rattle.ga_run.proofs.EachOnce.{Tracks, tracks-told}
+use Rattle.ga_run.proofs.Words.{joined-over, one-over}
 use Rattle.ga_run.proofs.Kept.{IsLastOf, Laws, begin-from, entries-with, number-with, outcomes-with, whole-sum}
 
 -- the run is added to the kept runs
 pub record Adds (words : List (List ℕ)) (status : Status) (old : World) (kept : Kept) (db : DbValue) (new : World) : Type 0 where
   pub s : Settings
-  pub says : WordsOf words (Ok s)
+  pub says : SayOver words (files_view old.files) (Ok s)
   pub line : LineSetup
   pub means : IsLineSetup s line
   pub persists : s.persist ≡ true
@@ -74,7 +76,7 @@ pub record Adds (words : List (List ℕ)) (status : Status) (old : World) (kept 
 
 -- what a run made of them: an acknowledged one that persists is added
 pub data Made (words : List (List ℕ)) (status : Status) (old : World) (kept : Kept) (db : DbValue) (new : World) : Type 0 where
-  same : Holds kept db new → ((s : Settings) → WordsOf words (Ok s) → s.persist ≡ true → IsAcknowledged status → ⊥) → Made words status old kept db new
+  same : Holds kept db new → ((s : Settings) → SayOver words (files_view old.files) (Ok s) → s.persist ≡ true → IsAcknowledged status → ⊥) → Made words status old kept db new
   more : Adds words status old kept db new → Made words status old kept db new
 
 some-same : {A : Type 0} {a b : A} → Some a ≡ Some b → a ≡ b
@@ -87,6 +89,7 @@ stored-same e = cc
 settled-by : (status : Status) (stored after : DbValue) (old new : Outside) → ¬ IsAcknowledged status → SettlesBy status stored after old new → StaysIfRead stored old new
 settled-by Done stored after old new not h = absurd (not tt)
 settled-by (BadWords fault) stored after old new not h = h
+settled-by (BadConf line) stored after old new not h = h
 settled-by (BadFormat which fault) stored after old new not h = h
 settled-by (BadRules at) stored after old new not h = h
 settled-by (FileFault file) stored after old new not h = h
@@ -98,15 +101,23 @@ settled-by (OutFault to at) stored after old new not h = absurd (not tt)
 settled-by (CounterFull which total) stored after old new not h = h
 settled-by NoMemory stored after old new not h = h
 
--- the rules that were read are those that the file tells
-told-rules : (file : Option (List ℕ)) (a b : FilesView) (rules : List Rule) → a.contents ≢ None → HasRules file a b rules → RulesAreTold file a rules
-told-rules None a b rules some h = h.1
-told-rules (Some name) a b rules some (text, reads, gives) = (text.bytes, told-is name a b text some reads, gives)
+-- the rules that were read are those that the file tells, and other files with the same contents tell them too
+told-rules : (file : Option (List ℕ)) (a b c : FilesView) (rules : List Rule) → c.contents ≡ a.contents → a.contents ≢ None → HasRules file a b rules → RulesAreTold file c rules
+told-rules None a b c rules alike some h = h.1
+told-rules (Some name) a b c rules alike some (text, reads, gives) = (text.bytes, ap (told name) alike ∙ told-is name a b text some reads, gives)
 
-some-contents : (w : World) → (files_view w.files).contents ≢ None
+pub some-contents : (w : World) → (files_view w.files).contents ≢ None
 some-contents w e = cc
 
-module _ (laws : Laws) (kept : Kept) (db : DbValue) (old new : World) (held : Holds kept db old) where
+-- the files of a world after some were read: their contents are told as before
+abbrev pub files-begun : World → FilesView → FilesView
+files-begun old read = record (files_view old.files) { is_open = read.is_open; bytes = read.bytes; measured = read.measured; counts = read.counts }
+
+-- what a run by settings sees of a world, once these files were read
+abbrev pub begun-from : World → FilesView → Outside
+begun-from old read = record (seen_of old) { files = files-begun old read }
+
+module _ (laws : Laws) (kept : Kept) (db : DbValue) (old new : World) (held : Holds kept db old) (read : FilesView) where
   -- ---- what was found
 
   restores-uses : (s : Settings) → s.restore ≡ true → uses_database s ≡ true
@@ -126,7 +137,7 @@ module _ (laws : Laws) (kept : Kept) (db : DbValue) (old new : World) (held : Ho
   found-is s found stored uses (inl (used, h)) = had-is stored h.has
   found-is s found stored uses (inr (none, left, empty)) = absurd (false≢true (sym none ∙ uses))
 
-  module _ (line : LineSetup) (s : Settings) (found : DiskView) (come : ReachesReport line s (files_view old.files) (files_view new.files) (disk_view old.disk) found) where
+  module _ (line : LineSetup) (s : Settings) (found : DiskView) (come : ReachesReport line s (files-begun old read) (files_view new.files) (disk_view old.disk) found) where
     found-if : s.restore ≡ true → come.stored ≡ db
     found-if e = found-is s found come.stored (restores-uses s e) come.finds
 
@@ -137,7 +148,7 @@ module _ (laws : Laws) (kept : Kept) (db : DbValue) (old new : World) (held : Ho
         (laws.as_told (follow_of s) s.logs come.counted.entries come.counted.entries' come.mid (files_view new.files) come.counted.portions come.counted.read some-mid)
       where
         same-contents : come.mid.contents ≡ (files_view old.files).contents
-        same-contents = kept-rules s.browsers_file (files_view old.files) come.mid come.rules come.has_rules
+        same-contents = kept-rules s.browsers_file (files-begun old read) come.mid come.rules come.has_rules
 
         some-mid : come.mid.contents ≢ None
         some-mid none = some-contents old (sym same-contents ∙ none)
@@ -157,7 +168,7 @@ module _ (laws : Laws) (kept : Kept) (db : DbValue) (old new : World) (held : Ho
     own-lines : (status : Status) → IsRunCount line s old.files (found_entries s.restore kept.runs) (own-run status)
     own-lines status = record {
       rules = come.rules;
-      has_rules = told-rules s.browsers_file (files_view old.files) come.mid come.rules (some-contents old) come.has_rules;
+      has_rules = told-rules s.browsers_file (files-begun old read) come.mid (files_view old.files) come.rules refl (some-contents old) come.has_rules;
       begun = come.counted.entries;
       begin = come.counted.begin ∙ begin-from laws db kept.runs held.has s.restore come.stored found-if;
       ended = come.counted.entries';
@@ -228,29 +239,32 @@ module _ (laws : Laws) (kept : Kept) (db : DbValue) (old new : World) (held : Ho
   reads-same : Some (bytes_of (states new.disk)) ≡ Some (bytes_of (states old.disk)) → DbOf (bytes_of (states new.disk)) (reads_as db)
   reads-same e = subst (λ (sides : Sides). DbOf sides (reads_as db)) (sym (some-same e)) held.reads
 
-  of-sides : LeavesSides (seen_of old) (seen_of new) → Holds kept db new
+  of-sides : LeavesSides (begun-from old read) (seen_of new) → Holds kept db new
   of-sides h = record {
     reads = reads-same h.seen;
     has = held.has;
     images = λ image now. held.images image (now-among (AreImages (states old.disk)) h.moments image now);
   }
 
-  of-nothing : NothingWasRead (seen_of old) (seen_of new) → Holds kept db new
-  of-nothing h = record {
-    reads = reads-same (ap (λ (d : DiskView). d.seen) h.disk.view);
+  pub of-untouched : IsUntouched (disk_view old.disk) (disk_view new.disk) (disk_images old.disk) (disk_images new.disk) → Holds kept db new
+  of-untouched h = record {
+    reads = reads-same (ap (λ (d : DiskView). d.seen) h.view);
     has = held.has;
-    images = λ image now. held.images image (h.disk.now image now);
+    images = λ image now. held.images image (h.now image now);
   }
+
+  of-nothing : NothingWasRead (begun-from old read) (seen_of new) → Holds kept db new
+  of-nothing h = of-untouched h.disk
 
   -- ---- the run was kept
 
-  module _ (words : List (List ℕ)) (status : Status) (h : IsRun words (seen_of old) (seen_of new) status) where
-    module _ (s : Settings) (line : LineSetup) (says : WordsOf words (Ok s)) (means : IsLineSetup s line) (persists : s.persist ≡ true) where
+  module _ (words conf : List (List ℕ)) (is_told : ConfIsTold words (files_view old.files) conf) (status : Status) (h : RunsWords conf words (begun-from old read) (seen_of new) status) where
+    module _ (s : Settings) (line : LineSetup) (says : JoinedOf conf words (Ok s)) (means : IsLineSetup s line) (persists : s.persist ≡ true) where
       -- where a fault came after it was kept, it may be taken back
-      of-kept : LeavesKept line s (seen_of old) (seen_of new) status → ¬ IsAcknowledged status → Made words status old kept db new
+      of-kept : LeavesKept line s (begun-from old read) (seen_of new) status → ¬ IsAcknowledged status → Made words status old kept db new
       of-kept k not = by e.reads
         where
-          e : LeavesEither (bytes_of (states old.disk)) k.come.stored k.after (seen_of old) (seen_of new) status
+          e : LeavesEither (bytes_of (states old.disk)) k.come.stored k.after (begun-from old read) (seen_of new) status
           e = k.leaves
 
           is : k.come.stored ≡ db
@@ -267,11 +281,11 @@ module _ (laws : Laws) (kept : Kept) (db : DbValue) (old new : World) (held : Ho
           by (inl reads) = same (record {
             reads = to-db _ reads;
             has = held.has;
-            images = λ image now. inl (to-db image (settled-by status k.come.stored k.after (seen_of old) (seen_of new) not e.settles refl reads image now));
+            images = λ image now. inl (to-db image (settled-by status k.come.stored k.after (begun-from old read) (seen_of new) not e.settles refl reads image now));
           }) (λ t say p ack. not ack)
           by (inr reads) = more (record {
             s = s;
-            says = says;
+            says = (conf, is_told, says);
             line = line;
             means = means;
             persists = persists;
@@ -288,7 +302,7 @@ module _ (laws : Laws) (kept : Kept) (db : DbValue) (old new : World) (held : Ho
           })
 
       -- where its report came, it is kept for good
-      of-report : (has : HasReport line s (seen_of old) (seen_of new))
+      of-report : (has : HasReport line s (begun-from old read) (seen_of new))
           → (status ≡ Done → PrintsExactly s (found_outcomes s.restore kept.runs ++ has.come.counted.counts.outcomes) (outs_view old.outs) (outs_view new.outs))
           → Made words status old kept db new
       of-report has prints = by has.kept
@@ -304,7 +318,7 @@ module _ (laws : Laws) (kept : Kept) (db : DbValue) (old new : World) (held : Ho
               (seen-same s (disk_view old.disk) has.found has.come.stored has.come.finds) k.keeps in
               more (record {
                 s = s;
-                says = says;
+                says = (conf, is_told, says);
                 line = line;
                 means = means;
                 persists = persists;
@@ -320,7 +334,7 @@ module _ (laws : Laws) (kept : Kept) (db : DbValue) (old new : World) (held : Ho
                 prints = prints;
               })
 
-      of-other : ¬ IsAcknowledged status → Leaves line s (seen_of old) (seen_of new) status → Made words status old kept db new
+      of-other : ¬ IsAcknowledged status → Leaves line s (begun-from old read) (seen_of new) status → Made words status old kept db new
       of-other not (inl sides) = same (of-sides sides) (λ t say p ack. not ack)
       of-other not (inr k) = of-kept k not
 
@@ -329,22 +343,20 @@ module _ (laws : Laws) (kept : Kept) (db : DbValue) (old new : World) (held : Ho
     fed : IsAcknowledged status → status ≢ NoMemory
     fed ack e = subst (λ (x : Status). IsAcknowledged x) e ack
 
-    refused-not : AreRefused words → IsAcknowledged status → ⊥
+    refused-not : AreRefused conf words → IsAcknowledged status → ⊥
     refused-not (inl (fault, bad)) ack = subst (λ (x : Status). IsAcknowledged x) ((h.reads.bad_words fault).1 (bad, fed ack)) ack
     refused-not (inr (which, fault, bad)) ack = subst (λ (x : Status). IsAcknowledged x) ((h.reads.bad_format which fault).1 (bad, fed ack)) ack
 
-    pub one-settings : (s t : Settings) → WordsOf words (Ok s) → WordsOf words (Ok t) → t ≡ s
-    one-settings s t says other = let e = laws.words words (Ok t) (Ok s) other says in cc
-
     -- ---- by status
 
-    module _ (s : Settings) (line : LineSetup) (says : WordsOf words (Ok s)) (means : IsLineSetup s line) (over : RunsOver line s (seen_of old) (seen_of new) status) where
-      of-status : s.persist ≡ true → (st : Status) → status ≡ st → Ends line s (seen_of old) (seen_of new) st → Made words status old kept db new
+    module _ (s : Settings) (line : LineSetup) (says : JoinedOf conf words (Ok s)) (means : IsLineSetup s line) (over : RunsOver line s (begun-from old read) (seen_of new) status) where
+      of-status : s.persist ≡ true → (st : Status) → status ≡ st → Ends line s (begun-from old read) (seen_of new) st → Made words status old kept db new
       of-status persists Done e ends =
           of-report s line says means persists ends.has
           (λ done. prints-all line s ends.has.found ends.has.come ends.has.text ends.has.report ends.printed (h.reports.quiet done))
       of-status persists (OutFault to at) e ends = of-report s line says means persists ends.has (λ done. cc)
       of-status persists (BadWords fault) e ends = absurd ends
+      of-status persists (BadConf at) e ends = absurd ends
       of-status persists (BadFormat which fault) e ends = absurd ends
       of-status persists (BadRules at) e ends = of-other s line says means persists (λ ack. subst (λ (x : Status). IsAcknowledged x) e ack) over.leaves
       of-status persists (FileFault file) e ends = of-other s line says means persists (λ ack. subst (λ (x : Status). IsAcknowledged x) e ack) over.leaves
@@ -357,18 +369,18 @@ module _ (laws : Laws) (kept : Kept) (db : DbValue) (old new : World) (held : Ho
 
       of-setup : (b : Bool) → s.persist ≡ b → Made words status old kept db new
       of-setup true e = of-status e status refl over.ends
-      of-setup false e = same (of-sides (over.unwritten e)) (λ t other persists ack. false≢true (sym e ∙ ap (λ (x : Settings). x.persist) (sym (one-settings s t says other)) ∙ persists))
+      of-setup false e = same (of-sides (over.unwritten e)) (λ t other persists ack. false≢true (sym e ∙ ap (λ (x : Settings). x.persist) (sym (one-over laws words (files_view old.files) s t (conf, is_told, says) other)) ∙ persists))
 
     pub made-of : Made words status old kept db new
     made-of = by h.reads.decided
       where
-        by : AreRefused words ⊎ HaveSetup words ⊎ ((status ≡ NoMemory) × NothingWasRead (seen_of old) (seen_of new)) → Made words status old kept db new
+        by : AreRefused conf words ⊎ HaveSetup conf words ⊎ ((status ≡ NoMemory) × NothingWasRead (begun-from old read) (seen_of new)) → Made words status old kept db new
         by (inl refused) = same (of-nothing (h.reads.untouched refused)) (λ s says persists ack. refused-not refused ack)
         by (inr (inl (s, says, (line, means)))) = of-setup s line says means (h.runs s line says means) s.persist refl
         by (inr (inr (e, nothing))) = same (of-nothing nothing) (λ s says persists ack. fed ack e)
 
     -- a run that is done printed its report
-    pub done-of : (s : Settings) → WordsOf words (Ok s) → status ≡ Done → (line : LineSetup) × IsLineSetup s line × IsDone line s kept.runs old new
+    pub done-of : (s : Settings) → SayOver words (files_view old.files) (Ok s) → status ≡ Done → (line : LineSetup) × IsLineSetup s line × IsDone line s kept.runs old new
     done-of s says e = by h.reads.decided
       where
         acknowledged : IsAcknowledged status
@@ -376,8 +388,8 @@ module _ (laws : Laws) (kept : Kept) (db : DbValue) (old new : World) (held : Ho
 
         of-line : (line : LineSetup) → IsLineSetup s line → (line : LineSetup) × IsLineSetup s line × IsDone line s kept.runs old new
         of-line line means =
-            let ends : Finishes line s (seen_of old) (seen_of new) =
-            subst (λ (x : Status). Ends line s (seen_of old) (seen_of new) x) e (h.runs s line says means).ends in (
+            let ends : Finishes line s (begun-from old read) (seen_of new) =
+            subst (λ (x : Status). Ends line s (begun-from old read) (seen_of new) x) e (h.runs s line (joined-over laws words (files_view old.files) conf is_told s says) means).ends in (
               line,
               means,
               record {
@@ -387,8 +399,8 @@ module _ (laws : Laws) (kept : Kept) (db : DbValue) (old new : World) (held : Ho
               },
             )
 
-        by : AreRefused words ⊎ HaveSetup words ⊎ ((status ≡ NoMemory) × NothingWasRead (seen_of old) (seen_of new))
+        by : AreRefused conf words ⊎ HaveSetup conf words ⊎ ((status ≡ NoMemory) × NothingWasRead (begun-from old read) (seen_of new))
             → (line : LineSetup) × IsLineSetup s line × IsDone line s kept.runs old new
         by (inl refused) = absurd (refused-not refused acknowledged)
-        by (inr (inl (t, other, (line, means)))) = of-line line (subst (λ (x : Settings). IsLineSetup x line) (one-settings s t says other) means)
+        by (inr (inl (t, other, (line, means)))) = of-line line (subst (λ (x : Settings). IsLineSetup x line) (one-over laws words (files_view old.files) s t says (conf, is_told, other)) means)
         by (inr (inr (none, nothing))) = absurd (fed acknowledged none)

@@ -1,5 +1,5 @@
 -- The kept runs once a run is added: their outcomes, their entries, and the sum of their lines.
-use Rattle.std.proofs.Common.{◌≡◌, ◌≢◌, ◌⊎◌, ◌&&◌, ℕ, Bool, true, false, List, [], ◌∷◌, ◌++◌, refl, ap, ◌∙◌, subst, inl, inr, arith, Option, Some, None, unwrap_or, if◌then◌else◌}
+use Rattle.std.proofs.Common.{◌≡◌, ◌≢◌, ◌⊎◌, ◌&&◌, ℕ, Bool, true, false, List, [], ◌∷◌, ◌++◌, refl, ap, ◌∙◌, subst, inl, inr, arith, Option, Some, None, unwrap_or, if◌then◌else◌, Result}
 use Rattle.std.proofs.lemmas.Grind.{flat_map-append}
 use Rattle.std.proofs.lemmas.List.{append-nil}
 use Rattle.std.specs.List.Sorted.{IsStrictlySortedBy}
@@ -33,6 +33,9 @@ use Rattle.ga_summary.proofs.Soundness.{IsMerged-merged_value}
 use Rattle.ga_summary.proofs.Unique.{one_merged}
 use Rattle.ga_base.specs.declared.key.Key.{Key}
 use Rattle.ga_base.specs.declared.key.Visitor.{Visitor}
+use Rattle.ga_conf.specs.ConfFile.{ConfGives}
+use Rattle.ga_words.specs.Joined.{ScanOf}
+use Rattle.ga_words.specs.declared.fault.WordFault.{WordFault}
 use Rattle.ga_one_run.proofs.WordLaw.{OneWords}
 use Rattle.ga_run.specs.Headline.{HasRuns, RunCount, entries_after, found_entries, found_outcomes, number_after, outcomes_of, with_run}
 
@@ -44,6 +47,9 @@ pub record Laws : Type 0 where
   pub as_told : (follow : Follow) (names : List (List ℕ)) (old new : List Entry) (files after : FilesView) (portions : List Portion)
       → ReadsAll follow names old new files after portions → files.contents ≢ None → AreTold follow files.contents names old new portions
   pub words : OneWords
+  pub scan : (words : List (List ℕ)) (answer other : Result (Option (List ℕ)) WordFault) → ScanOf words answer → ScanOf words other → answer ≡ other
+  pub scanned : (words : List (List ℕ)) → (answer : Result (Option (List ℕ)) WordFault) × ScanOf words answer
+  pub conf : (bytes : List ℕ) (one two : List (List ℕ)) → ConfGives bytes one → ConfGives bytes two → one ≡ two
   pub files : (old new : FilesView) → FilesTrace old new → FilesStay old new
   pub crash : (pick : List ℕ) (disk : DiskState) → AreImages (states disk) (crashed pick (states disk))
   pub settled : (pick : List ℕ) (disk : DiskState) → OnlyImage (disk_images (after_crash pick disk)) (crashed pick (states disk))

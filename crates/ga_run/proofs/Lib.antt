@@ -1,4 +1,5 @@
 pub mod Appending
+pub mod Beginning
 pub mod Blank
 pub mod Counted
 pub mod EachOnce
@@ -11,3 +12,4 @@ pub mod Lists
 pub mod OnePass
 pub mod Promises
 pub mod Staying
+pub mod Words

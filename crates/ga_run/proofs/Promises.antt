@@ -14,10 +14,10 @@ use Rattle.ga_store.specs.Database.{DbOf, DbValue, empty_db}
 use Rattle.ga_store.specs.Database.DbOf.{nothing}
 use Rattle.ga_store.specs.Database.Reading.{stored as reads_as}
 use Rattle.ga_summary.specs.Outcomes.{Outcome}
-use Rattle.ga_words.specs.WordsOf.{WordsOf}
 use Rattle.ga_words.specs.declared.settings.Settings.{Settings}
+use Rattle.ga_one_run.specs.Configured.{SayOver}
 use Rattle.ga_one_run.specs.declared.status.Status.{Status}
-use Rattle.ga_one_run.specs.declared.status.Status.TheVariants.{Done, BadWords, BadFormat, BadRules, FileFault, FileShort, DiskFault, DbDamaged, KeepDiffers, OutFault, CounterFull, NoMemory}
+use Rattle.ga_one_run.specs.declared.status.Status.TheVariants.{Done, BadWords, BadConf, BadFormat, BadRules, FileFault, FileShort, DiskFault, DbDamaged, KeepDiffers, OutFault, CounterFull, NoMemory}
 use Rattle.ga_run.specs.Headline.{Changes, FailsOnlyBy, HasRuns, Headline, Holds, IfRun, IsAcknowledged, IsKeptAs, KeepsAll, Kept, RunCount, LacksLast, OnlyAppended, PrintsExactly, RunKeeps, StepKeeps, all_parts, entries_after, found_entries, found_outcomes, none_kept, outcomes_of, with_run, words_of}
 use Rattle.ga_run.specs.Headline.Changes.{adds, falls, stays}
 use Rattle.ga_run.specs.History.{History, IsBlank, Runs, Steps, with_bound, with_crash}
@@ -26,13 +26,14 @@ use Rattle.ga_run.specs.declared.history.Step.{Step}
 use Rattle.ga_run.specs.declared.history.Step.TheVariants.{Grow, Rename, Run, Crash}
 use Rattle.ga_run.specs.declared.history.World.{World}
 use Rattle.ga_run.specs.Parts.{AreToldApart, EachOnce, IsToldApart, Part}
-use Rattle.ga_run.proofs.Appending.{grown-logs, kept-logs, renamed-logs}
+use Rattle.ga_run.proofs.Appending.{grown-logs, renamed-logs}
 use Rattle.ga_run.proofs.EachOnce.{Tracks, front, no-tracks}
-use Rattle.ga_run.proofs.Effects.{Adds, Made, done-of, made-of, one-settings}
+use Rattle.ga_run.proofs.Beginning.{appends-none, done-by, fails-in, made-by}
+use Rattle.ga_run.proofs.Effects.{Adds, Made}
 use Rattle.ga_run.proofs.Effects.Made.{more, same}
-use Rattle.ga_run.proofs.Faults.{fails-of}
 use Rattle.ga_run.proofs.Growing.{apart-before, tracks-grown}
 use Rattle.ga_run.proofs.Staying.{stay}
+use Rattle.ga_run.proofs.Words.{one-over}
 use Rattle.ga_run.proofs.Kept.{Laws, entries-with, no-runs, outcomes-with}
 
 -- where digests tell the logs apart, the entries after these runs track the logs, and so did those after each list that stood
@@ -100,32 +101,32 @@ module _ (laws : Laws) (kept : Kept) (db : DbValue) where
     -- what holds of a run that is added
     run-added : (a : Adds words status old kept db mid) → RunKeeps words status old mid kept (with-own a)
     run-added a = record {
-      done = done-of laws kept db old mid held words status h;
-      tracked = λ s says is done. tracked-by s says done (one-settings laws kept db old mid held words status h a.s s a.says says);
-      acknowledged = λ s says persists ack. acknowledged-by s (one-settings laws kept db old mid held words status h a.s s a.says says);
-      fails = fails-of laws kept db old mid held words status h;
+      done = done-by laws kept db old mid held words status h;
+      tracked = λ s says is done. tracked-by s says done (one-over laws words (files_view old.files) a.s s a.says says);
+      acknowledged = λ s says persists ack. acknowledged-by s (one-over laws words (files_view old.files) a.s s a.says says);
+      fails = fails-in laws kept db old mid held words status h;
     }
       where
         acknowledged-by : (s : Settings) → s ≡ a.s → (run : RunCount) × (run.status ≡ status) × IsKeptAs words s old.files kept.runs run × (with_run a.s.restore a.run kept.runs ≡ with_run s.restore run kept.runs)
         acknowledged-by s e =
             (a.run, a.ended, subst (λ (x : Settings). IsKeptAs words x old.files kept.runs a.run) (sym e) (kept-as a), ap (λ (x : Settings). with_run x.restore a.run kept.runs) (sym e))
 
-        tracked-by : (s : Settings) → WordsOf words (Ok s) → status ≡ Done → s ≡ a.s → PrintsExactly s (outcomes_of (with_run a.s.restore a.run kept.runs)) (outs_view old.outs) (outs_view mid.outs)
+        tracked-by : (s : Settings) → SayOver words (files_view old.files) (Ok s) → status ≡ Done → s ≡ a.s → PrintsExactly s (outcomes_of (with_run a.s.restore a.run kept.runs)) (outs_view old.outs) (outs_view mid.outs)
         tracked-by s says done e =
             subst (λ (all : List Outcome). PrintsExactly s all (outs_view old.outs) (outs_view mid.outs)) (sym (outcomes-with a.s.restore a.run kept.runs))
             (subst (λ (x : Settings). PrintsExactly x (found_outcomes a.s.restore kept.runs ++ a.run.outcomes) (outs_view old.outs) (outs_view mid.outs)) (sym e) (a.prints done))
 
     -- and of one that isn't
-    run-same : (kept' : Kept) → ((s : Settings) → WordsOf words (Ok s) → s.persist ≡ true → IsAcknowledged status → ⊥) → RunKeeps words status old mid kept kept'
+    run-same : (kept' : Kept) → ((s : Settings) → SayOver words (files_view old.files) (Ok s) → s.persist ≡ true → IsAcknowledged status → ⊥) → RunKeeps words status old mid kept kept'
     run-same kept' not = record {
-      done = done-of laws kept db old mid held words status h;
+      done = done-by laws kept db old mid held words status h;
       tracked = λ s says is done. absurd (not s says is.1 (subst (λ (x : Status). IsAcknowledged x) (sym done) tt));
       acknowledged = λ s says persists ack. absurd (not s says persists ack);
-      fails = fails-of laws kept db old mid held words status h;
+      fails = fails-in laws kept db old mid held words status h;
     }
 
     appended : OnlyAppended old.files.contents mid.files.contents
-    appended = kept-logs mid.files.contents old.files.contents (laws.files (files_view old.files) (files_view mid.files) h.files_trace).contents
+    appended = appends-none laws kept db old mid held words status h
 
     all-same : FollowsAll mid.files.contents kept
     all-same = all-grown old.files.contents mid.files.contents appended (kept.runs ∷ kept.earlier) all
@@ -189,7 +190,7 @@ module _ (laws : Laws) (kept : Kept) (db : DbValue) where
   }
 
   run-step : (words : List (List ℕ)) (status : Status) (old new : World) → Runs words status old new → Holds kept db old → FollowsAll old.files.contents kept → Kept-by (Run words) (Some status) old new kept
-  run-step words status old new h held all = by (made-of laws kept db old new held words status h)
+  run-step words status old new h held all = by (made-by laws kept db old new held words status h)
     where
       by : Made words status old kept db new → Kept-by (Run words) (Some status) old new kept
       by (same holds not) = (
@@ -236,6 +237,7 @@ module _ (laws : Laws) (kept : Kept) (db : DbValue) where
     fails-on : (st : Status) → FailsOnlyBy words (with_bound calls old) mid st → FailsOnlyBy words old (with_crash pick mid) st
     fails-on Done f = f
     fails-on (BadWords fault) f = f
+    fails-on (BadConf line) f = f
     fails-on (BadFormat which fault) f = f
     fails-on (BadRules at) f = f
     fails-on (FileFault file) f = f
@@ -269,7 +271,7 @@ module _ (laws : Laws) (kept : Kept) (db : DbValue) where
     is-image = laws.crash pick mid.disk
 
     -- the disk has the runs from before
-    back-same : ((s : Settings) → WordsOf words (Ok s) → s.persist ≡ true → IsAcknowledged status → ⊥) → DbOf left (reads_as db) → Kept-by this (Some status) old (with_crash pick mid) kept
+    back-same : ((s : Settings) → SayOver words (files_view old.files) (Ok s) → s.persist ≡ true → IsAcknowledged status → ⊥) → DbOf left (reads_as db) → Kept-by this (Some status) old (with_crash pick mid) kept
     back-same not reads = (
       kept,
       record {
@@ -287,7 +289,7 @@ module _ (laws : Laws) (kept : Kept) (db : DbValue) where
     )
 
     -- it lost the last of them
-    back-less : ((s : Settings) → WordsOf words (Ok s) → s.persist ≡ true → IsAcknowledged status → ⊥) → LacksLast kept db left → Kept-by this (Some status) old (with_crash pick mid) kept
+    back-less : ((s : Settings) → SayOver words (files_view old.files) (Ok s) → s.persist ≡ true → IsAcknowledged status → ⊥) → LacksLast kept db left → Kept-by this (Some status) old (with_crash pick mid) kept
     back-less not l =
         let less : Kept = record { runs = l.before; earlier = l.earlier } in
         let less-left : FollowsAll mid.files.contents less = (subst (λ (k : Kept). FollowsAll mid.files.contents k) l.is all-left).1 in
@@ -329,7 +331,7 @@ module _ (laws : Laws) (kept : Kept) (db : DbValue) where
         )
 
     crash-step : Kept-by this (Some status) old (with_crash pick mid) kept
-    crash-step = by (made-of laws kept db (with_bound calls old) mid held-bound words status h)
+    crash-step = by (made-by laws kept db (with_bound calls old) mid held-bound words status h)
       where
         by : Made words status (with_bound calls old) kept db mid → Kept-by this (Some status) old (with_crash pick mid) kept
         by (same holds not) = go (holds.images left is-image)

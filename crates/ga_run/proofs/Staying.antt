@@ -22,10 +22,10 @@ less-one true last before unsure run in-all ack = go (Contains-append_cases befo
     go (inr h) = absurd (unsure (subst (λ (r : RunCount). IsAcknowledged r.status) (sym (only-one last run h.0 h.1 h.2)) ack))
 less-one false last before unsure run h ack = absurd (unsure (subst (λ (r : RunCount). IsAcknowledged r.status) (sym (only-one last run h.0 h.1 h.2)) ack))
 
-pub stay : (step : Step) (status : Option Status) (old : World) (db db' : DbValue) (kept kept' : Kept) → Changes step status old db db' kept kept' → AcknowledgedStay step kept.runs kept'.runs
+pub stay : (step : Step) (status : Option Status) (old : World) (db db' : DbValue) (kept kept' : Kept) → Changes step status old db db' kept kept' → AcknowledgedStay step old.files kept.runs kept'.runs
 stay step status old db db' kept kept' (adds words s own later is-run ended kept-as) run in-all ack = go s.restore refl
   where
-    go : (b : Bool) → s.restore ≡ b → Contains (with_run s.restore own kept.runs) run ⊎ Overwrites step (with_run s.restore own kept.runs)
+    go : (b : Bool) → s.restore ≡ b → Contains (with_run s.restore own kept.runs) run ⊎ Overwrites step old.files (with_run s.restore own kept.runs)
     go true e = inl (subst (λ (b : Bool). Contains (with_run b own kept.runs) run) (sym e) (Contains-append_left kept.runs (own ∷ []) run in-all))
     go false e = inr (words, s, own, is-run, kept-as.says, kept-as.persists, e, ap (λ (b : Bool). with_run b own kept.runs) e)
 stay step status old db db' kept kept' (stays same more) run in-all ack = inl in-all

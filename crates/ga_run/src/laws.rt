@@ -8,13 +8,14 @@ ghost use Rattle.ga_run.specs.declared.history.Step.{Step as TheStep};
 ghost use Rattle.ga_run.specs.declared.history.World.{World as TheWorld};
 ghost use Rattle.ga_one_run.specs.declared.status.Status.{Status as TheStatus};
 
+use ga_conf::laws::one_conf;
 use ga_disk::laws::{a_crash_is_settled, a_crash_leaves_an_image};
 use ga_line::laws::lines_added;
 use ga_logs::laws::read_as_told;
 use ga_ports::laws::files_stay;
 use ga_store::laws::one_database;
 use ga_summary::laws::{merged_sums, trimmed_merge};
-use ga_words::laws::one_reading;
+use ga_words::laws::{joined_words, one_scan};
 
 /// Every list of steps in a world in which nothing stood before keeps the promise of `specs/Headline.antt`, step by step: the
 /// database is that of the kept runs, a tracked run that is done printed exactly the report on the kept days of all their lines,
@@ -26,7 +27,9 @@ pub fn headline()
     merged_sums();
     trimmed_merge();
     read_as_told();
-    one_reading();
+    one_scan();
+    joined_words();
+    one_conf();
     files_stay();
     a_crash_leaves_an_image();
     a_crash_is_settled();
