@@ -72,7 +72,11 @@ const REFUSED: [(&str, &str, &str); 8] = [
         "--config-file=g.conf|a.log",
         "1\ngoaccess: no log format\n",
     ),
-    ("jobs 2\n", "--config-file=g.conf", "1\ngoaccess: no input\n"),
+    (
+        "jobs 2\n",
+        "--config-file=g.conf",
+        "1\ngoaccess: no input\n",
+    ),
     (
         "persist true\njobs 2\n",
         "--config-file=g.conf|--generate=5",

@@ -1,13 +1,13 @@
 //! Words, formats and generated lines.
 
 use ga_base::{Bytes, FormatFault, FormatItem, Needed, NoMemory, Text, Texts};
+use ga_conf::{ConfFault, read_conf};
 use ga_dates::{
     DateFormat, TimeFormat, compile_date, compile_time, read_both, read_date, read_time,
 };
 use ga_format::{Format, compile};
 use ga_generate::{generate, summary};
 use ga_report::General;
-use ga_conf::{ConfFault, read_conf};
 use ga_words::{
     Kind, OptionForm, Output, Settings, WordFault, form_of, read_words, scan_words, takes_value,
 };
