@@ -11,6 +11,7 @@ words in a file `words` (Python's repr) beside what both answered. The exit stat
 Compared are the exit status, standard output, standard error, and all files that the run leaves in its folder.
 """
 import collections
+import json
 import os
 import random
 import shutil
@@ -142,6 +143,12 @@ def field(rng, letter, date, time):
 
 
 def line(rng, items, date, time):
+    if isinstance(items, oracle.JsonFormat):
+        return json_value(rng, items, 0, date, time) if items else b"{}"
+    return plain_line(rng, items, date, time)
+
+
+def plain_line(rng, items, date, time):
     out = bytearray()
     for at, (kind, what) in enumerate(items):
         if kind == oracle.LITERAL:
@@ -160,6 +167,38 @@ def line(rng, items, date, time):
             if rng.random() < 0.01:
                 break
     return bytes(out)
+
+
+def json_text(text):
+    """The bytes as a JSON text; what isn't UTF-8 becomes U+FFFD."""
+    return json.dumps(text.decode("utf-8", "replace")).encode()
+
+
+ODD_VALUES = [b"null", b"true", b"false", b"{}", b"[]", b"1.0", b"1e3", b"-0", b"-1", b"18446744073709551615", b"18446744073709551616",
+              b"9223372036854775808", b"-9223372036854775808", b"-9223372036854775809", b"1e400", b"0e999", b"01", b'"\\ud83d"', b'"a\x01"', b'""', b"nul",
+              b'{"a":' * 126 + b"1" + b"}" * 126, b'{"a":' * 127 + b"1" + b"}" * 127]
+
+
+def json_value(rng, leaves, depth, date, time):
+    """A JSON value that has these leaves, whose paths go on after so many steps."""
+    if any(len(path) == depth for path, _ in leaves):
+        text = line(rng, leaves[0][1], date, time)
+        chance = rng.random()
+        if chance < 0.04:
+            return rng.choice(ODD_VALUES)
+        return text if text.isdigit() and chance < 0.7 else json_text(text)
+    if leaves[0][0][depth] == 0:
+        return b"[" + b",".join([json_value(rng, leaves, depth + 1, date, time)] + [b"7"] * (rng.random() < 0.1)) + b"]"
+    parts = {}
+    for path, items in leaves:
+        parts.setdefault(path[depth], []).append((path, items))
+    members = [json_text(name) + b":" + json_value(rng, parts[name], depth + 1, date, time) for name in parts if rng.random() < 0.985]
+    if rng.random() < 0.1:
+        members.append(json_text(rng.choice(list(parts))) + b":" + rng.choice(ODD_VALUES))
+    if rng.random() < 0.2:
+        members.append(b'"other":' + rng.choice(ODD_VALUES[:12]))
+    rng.shuffle(members)
+    return b"{" + rng.choice([b",", b" , "]).join(members) + b"}"
 
 
 def odd_line(rng, text):
@@ -220,10 +259,32 @@ def compose(rng):
     return out + rng.choice([b""] * 5 + [b" %^", b"]", b'"', b" %~"])
 
 
+def json_format(rng):
+    """A JSON format of parts in any order, mostly a good one."""
+    texts = [rng.choice([b"%h", b"~h{, }", b"%h - %^"]), rng.choice([b"%d", b"%d:%t %^", b"%x", b"[%d"]), rng.choice([b"%r", b"%U", b"%m %U"])]
+    texts += rng.sample([b"%s", b"%b", b"%R", b"%u", b"%v", b"%e", b"%C", b"%M", b"%K", b"%D", b"%T", b"%L", b"%^", b"x%^", b"", b"%T", b"%D %L"], rng.randint(0, 7))
+    if rng.random() < 0.06:
+        texts.append(rng.choice([b"%h", b"%h%d", b"%z", b"%", b"%m", b"~h{", b"%x", b"%^%~"]))
+    values = [json_text(text) for text in texts]
+    if rng.random() < 0.05:
+        values.append(rng.choice([b"1", b"null", b"[]", b'["%s","%b"]', b"true", b"{}", b"1.5", b'["%^"]']))
+    rng.shuffle(values)
+    members = []
+    while values:
+        some = [values.pop() for _ in range(min(len(values), rng.choice([1, 1, 1, 2, 3])))]
+        names = rng.sample([b"a", b"b", b"c", b"ip", b"\xc3\xa9", b"", b"a b", b'q"', b"Z"], len(some))
+        whole = b"{" + b",".join(json_text(name) + b":" + value for name, value in zip(names, some)) + b"}" if len(some) > 1 else some[0]
+        if rng.random() < 0.15:
+            whole = b"[" + whole + b"]"
+        members.append(json_text(b"%c%d" % (rng.choice(b"amz"), len(members))) + b":" + whole)
+    text = b"{" + b",".join(members) + b"}"
+    return text if rng.random() < 0.97 else rng.choice([text[:-1], text + b" x", b"{", b"{}", text + b" ", b"{" + text[1:].replace(b":", b"=", 1)])
+
+
 def formats(rng):
     """The texts of the three formats, and what lines are made from: items and pieces that are well-formed."""
     chance = rng.random()
-    text = rng.choice(CURATED) if chance < 0.55 else compose(rng)
+    text = rng.choice(CURATED) if chance < 0.5 else compose(rng) if chance < 0.85 else json_format(rng)
     date, time = pick(rng, DATE_FORMATS, BAD_DATES, 0.02), pick(rng, TIME_FORMATS, BAD_TIMES, 0.02)
     if rng.random() < 0.035:
         text = rng.choice(BROKEN)
@@ -244,7 +305,7 @@ def setup_of(text, date, time):
         except oracle.Fault:
             return call(other)
 
-    return (either(oracle.compile_format, oracle.NAMED.get(text, text), oracle.COMMON), either(oracle.compile_date, date, b"%F"),
+    return (either(oracle.compile_log, oracle.NAMED.get(text, text), oracle.COMMON), either(oracle.compile_date, date, b"%F"),
             either(oracle.compile_time, time, b"%T"))
 
 

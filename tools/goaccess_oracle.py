@@ -21,10 +21,14 @@ import re
 import stat
 import sys
 
+if hasattr(sys, "set_int_max_str_digits"):
+    sys.set_int_max_str_digits(0)
+
 LIMIT = 2**62 - 1
 BIG = 10**18
 LONGEST_LINE = 65_535
 LONGEST_RULE = 1_024
+DEEPEST_JSON = 127
 
 PANELS = [
     b"VISITORS", b"REQUESTS", b"REQUESTS_STATIC", b"NOT_FOUND", b"HOSTS", b"OS", b"BROWSERS", b"VISIT_TIMES",
@@ -430,8 +434,9 @@ LITERAL, SKIP, FIELD, FORWARDED = "literal", "skip", "field", "forwarded"
 REPEATABLE = set(b"^DTL")
 
 
-def compile_format(text):
-    """The items, each (kind, payload): a byte, None, a letter, or the separators. Raises the fault."""
+def items_in(text, seen, where):
+    """The items of a text, each (kind, payload): a byte, None, a letter, or the separators. `seen` has the letters of earlier
+    texts, and is added to. Raises the fault, with the words that say where the text is."""
     items = []
     faults = []  # place, rank at one place, text
     at = 0
@@ -459,7 +464,6 @@ def compile_format(text):
         else:
             items.append((at, LITERAL, text[at]))
             at += 1
-    seen = set()
     for place, kind, what in items:
         if kind not in (FIELD, FORWARDED):
             continue
@@ -478,11 +482,126 @@ def compile_format(text):
             faults.append((place, 2, b"no delimiter"))
     if faults:
         place, _, said = min(faults)
-        raise Fault(1, b"log format, byte %d: %s" % (place, said))
+        raise Fault(1, b"%s, byte %d: %s" % (where, place, said))
+    return [(kind, what) for _, kind, what in items]
+
+
+def check_needed(seen):
     for name, letters in ((b"host", b"h"), (b"date", b"dx"), (b"request", b"rU")):
         if not any(bytes([letter]) in seen for letter in letters):
             raise Fault(1, b"log format: no " + name)
-    return [(kind, what) for _, kind, what in items]
+
+
+def compile_format(text):
+    """The items of a plain format. Raises the fault."""
+    seen = set()
+    items = items_in(text, seen, b"log format")
+    check_needed(seen)
+    return items
+
+
+class NotWhole:
+    """A number that isn't whole, or has more than 64 bits."""
+
+
+def json_number(text):
+    if not re.search("[.eE]", text) and text != "-0" and -(2**63) <= int(text) < 2**64:
+        return int(text)
+    if float(text) in (float("inf"), float("-inf")):
+        raise ValueError("past a float's range")
+    return NotWhole()
+
+
+def json_depth(text):
+    """How many objects and lists are open at once, at most."""
+    depth = deepest = 0
+    for token in re.findall(rb'"(?:[^"\\]|\\.)*"|[][{}]', text, re.DOTALL):
+        depth += {b"{": 1, b"[": 1, b"}": -1, b"]": -1}.get(token, 0)
+        deepest = max(deepest, depth)
+    return deepest
+
+
+def in_bytes(value):
+    """The value with its texts as bytes. A lone surrogate is refused."""
+    if isinstance(value, str):
+        return value.encode("utf-8")
+    return [in_bytes(one) for one in value] if isinstance(value, list) else value
+
+
+def members_of(pairs):
+    """An object: of equal members the last, though all have to be good."""
+    return {in_bytes(name): in_bytes(value) for name, value in pairs}
+
+
+def no_constant(name):
+    raise ValueError(name)
+
+
+def read_object(text):
+    """The JSON object that the bytes are: of equal members the last, whole numbers of 64 bits as `int`. None where they are none."""
+    try:
+        value = json.loads(text.decode("utf-8"), parse_int=json_number, parse_float=json_number, parse_constant=no_constant,
+                           object_pairs_hook=members_of)
+    except (ValueError, RecursionError):  # the errors of decoding and encoding are ValueErrors too
+        return None
+    return value if isinstance(value, dict) and json_depth(text) <= DEEPEST_JSON else None
+
+
+class JsonFormat(list):
+    """The leaves of a JSON format, each (path, items). A step of a path is a name, or 0 for the first element of a list."""
+
+
+def compile_json(text):
+    """The leaves, depth first, members in the order of their names. Raises the fault."""
+    whole = read_object(text)
+    if whole is None:
+        raise Fault(1, b"log format: not JSON")
+    leaves, seen = JsonFormat(), set()
+
+    def walk(value, path):
+        if isinstance(value, bytes):
+            leaves.append((path, items_in(value, seen, b"log format, leaf %d" % len(leaves))))
+        elif isinstance(value, dict):
+            for name in sorted(value):
+                walk(value[name], path + [name])
+        elif isinstance(value, list) and len(value) == 1:
+            walk(value[0], path + [0])
+        else:
+            raise Fault(1, b"log format, leaf %d: bad shape" % len(leaves))
+
+    walk(whole, [])
+    check_needed(seen)
+    return leaves
+
+
+def compile_log(text):
+    """A plain format's items, or the leaves of a JSON format, which begins with `{`. Raises the fault."""
+    return compile_json(text) if text.startswith(b"{") else compile_format(text)
+
+
+def piece_at(value, path):
+    """The text to which a path leads, None where there is none."""
+    for step in path:
+        if step == 0 and isinstance(value, list) and value:
+            value = value[0]
+        elif isinstance(step, bytes) and isinstance(value, dict) and step in value:
+            value = value[step]
+        else:
+            return None
+    if isinstance(value, bytes):
+        return value
+    if isinstance(value, bool):
+        return b"true" if value else b"false"
+    return b"%d" % value if isinstance(value, int) else None
+
+
+CLOCKS = (b"D", b"T", b"L")
+
+
+def clock_of(items):
+    """The first field of the items for the time taken."""
+    return next((what for kind, what in items if kind == FIELD and what in CLOCKS), None)
+
 
 
 def end_of(line, start, c):
@@ -572,6 +691,23 @@ def fit(items, line):
             if end is None:
                 return fields
             at = end
+    return fields
+
+
+def fit_json(leaves, line):
+    """The same of a line under a JSON format, leaf after leaf."""
+    whole = read_object(line)
+    if whole is None:
+        return None
+    fields, clocked = [], False
+    for path, items in leaves:
+        piece = piece_at(whole, path)
+        if piece is not None:
+            fitted = fit(items, piece)
+            if fitted is None:
+                return None
+            fields += [(letter, text) for letter, text in fitted if not (clocked and letter in CLOCKS)]
+        clocked = clocked or clock_of(items) is not None
     return fields
 
 
@@ -810,10 +946,11 @@ class LineSetup:
     def __init__(self, s):
         self.s = s
         log_format = b"COMBINED" if s.log_format is None else s.log_format
-        self.items = compile_format(NAMED.get(log_format, log_format))
+        self.items = compile_log(NAMED.get(log_format, log_format))
         self.date = compile_date(s.date_format)
         self.time = compile_time(s.time_format)
-        self.clock = next((what for kind, what in self.items if kind == FIELD and what in (b"D", b"T", b"L")), None)
+        parts = [items for _, items in self.items] if isinstance(self.items, JsonFormat) else [self.items]
+        self.clock = next((clock for clock in map(clock_of, parts) if clock is not None), None)
 
 
 def read_line(setup, line):
@@ -822,7 +959,7 @@ def read_line(setup, line):
         return SKIPPED
     if len(line) > LONGEST_LINE:
         return FAILED
-    fitted = fit(setup.items, line)
+    fitted = fit_json(setup.items, line) if isinstance(setup.items, JsonFormat) else fit(setup.items, line)
     if fitted is None:
         return FAILED
     fields = {}

@@ -84,7 +84,24 @@ MORE_MOMENTS = MOMENTS + line(clock="08:55:59", host="192.0.2.2") + line("/x", 4
 TIMES = only("VISITORS", "VISIT_TIMES")
 SECOND_DAY, THIRD_DAY = line(date="02/Jan/2024"), line(date="03/Jan/2024")
 THREE_DAYS = A + SECOND_DAY + THIRD_DAY
+# lines that are JSON objects
+JSON = '--log-format={"ip":"%h","t":"%d:%t %^","req":{"m":"%m","u":"%U"},"st":"%s","ua":["%u"]}'
+JSON_LINE = '{"ip":"192.0.2.1","t":"01/Jan/2024:00:00:00 +0000","req":{"m":"GET","u":"/a"},"st":200,"ua":["curl/8.0"]}\n'
+# members in another order, one of them twice, escapes, numbers that aren't whole, and what is no object or lacks a part
+JSON_LINES = r'''{"ip":"192.0.2.9","ua":["Foo \"x\"\u00e9","y"],"req":{"u":"\/b?c","m":"GET","more":null},"st":404.0,"t":"01/Jan/2024:00:00:00 +0000","ip":"192.0.2.2"}
+{"ip":"192.0.2.3","t":"01/Jan/2024:00:00:00 +0000","req":{"m":null,"u":"/c"},"ua":[]}
+{"ip":"192.0.2.4","t":"01/Jan/2024:00:00:00 +0000","req":[{"u":"/d"}]}
+{"ip":"192.0.2.5","t":"01/Jan/2024:00:00:00 +0000","req":{"u":"/e"},"st":"600"}
+{"ip":"192.0.2.6","t":"01/Jan/2024:00:00:00 +0000","req":{"u":"/f"},"n":1e400}
+["192.0.2.7"]
+'''
 FAULTS = [
+    ("a JSON format with a field directly followed by a field", ['--log-format={"a":"%h%d"}', "a"], {}),
+    ("a JSON format without a request", ['--log-format={"ip":"%h","t":"%d"}', "a"], {}),
+    ("a JSON format with a number", ['--log-format={"a":1}', "a"], {}),
+    ("a JSON format with null after a leaf", ['--log-format={"b":null,"a":"%h"}', "a"], {}),
+    ("a JSON format that gives a host twice, before what it doesn't know", ['--log-format={"b":"x%h%z","a":"%h"}', "a"], {}),
+    ("a JSON format that isn't closed", ["--log-format={", "a"], {}),
     ("an option that there isn't", ["--bogus"], {}),
     ("an option without its value", ["--jobs"], {}),
     ("a value out of range", ["--jobs=17", "a"], {}),
@@ -128,6 +145,8 @@ OVER_WORDS = [
     of("line ends of two bytes, a comment and an empty line", CSV, line(end="\r\n") + "# note\n\n"),
     of("lines that fail, each for a cause of its own", CSV, SECOND),
     of("lines without referrer and agent in the combined format", [COMBINED, "-o", "csv", "a.log"], A),
+    of("lines that are JSON objects, one without its request", [JSON, "-o", "csv", "a.log"], JSON_LINE + JSON_LINE.replace('"req":{"m":"GET","u":"/a"},', "")),
+    of("JSON objects with members in any order, and what is none", [JSON, "-o", "csv", "a.log"], JSON_LINES),
     of("an agent with quotes", [COMBINED, "-o", "csv", "a.log"], line(size="5", more=agent('Foo \\"bar\\" Baz'))),
     of("a request that is a dash", [COMMON, "a.log"], '192.0.2.1 - - [01/Jan/2024:00:00:00 +0000] "-" 408 -\n'),
     of("a comma in a URL", CSV, line("/a,b", size="1")),

@@ -1,5 +1,6 @@
-# For scripts that need the proved program. They set `top`, the folder of this checkout.
-program="$top/crates/goaccess/out/goaccess"
+# For scripts that need a proved program. They set `top`, the folder of this checkout, and `name`, where it isn't goaccess.
+name="${name:-goaccess}"
+program="$top/crates/$name/out/$name"
 
 # Whether the program is built, and neither crates.txt nor any source of a crate is newer. Folders count too: one is newer once it has
 # lost a file.

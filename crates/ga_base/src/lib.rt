@@ -30,7 +30,7 @@ pub use bytes::Bytes;
 pub use counts::{Amounts, BIG, Counter, LIMIT, Sums, Totals};
 pub use date_spec::DateSpec;
 pub use entry::{Entries, Entry};
-pub use formats::{FormatFault, FormatItem, Needed};
+pub use formats::{FormatFault, FormatItem, LeafFault, Needed};
 pub use hour_spec::HourSpec;
 pub use key::{Key, Keys, Visitor};
 pub use limits::{FRONT, LINE_FEED, MAX_BATCH, MAX_CHUNK, MAX_JOBS};

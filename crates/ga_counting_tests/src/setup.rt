@@ -1,16 +1,16 @@
 use ga_agents::Rules;
 use ga_base::{DateSpec, FormatFault, HourSpec, PanelSet, Statuses, Text, Texts};
 use ga_dates::{DEFAULT_DATE, DEFAULT_TIME, compile_date, compile_time};
-use ga_format::{compile, format_text};
+use ga_format::format_text;
 use ga_hosts::Ranges;
-use ga_line::LineSetup;
+use ga_line::{LineSetup, compile_shape};
 use ga_outcomes::Setup;
 use ga_panels::PanelSetup;
 use std::alloc::Global;
 
 /// How lines in a format are read.
 fn lines_in(alloc: Global, format: &str) -> Result<LineSetup, FormatFault> {
-    let format = compile(alloc, &Text::of(alloc, format_text(format))?)?;
+    let format = compile_shape(alloc, &Text::of(alloc, format_text(format))?)?;
     let date = compile_date(alloc, &Text::of(alloc, DEFAULT_DATE)?)?;
     let time = compile_time(alloc, &Text::of(alloc, DEFAULT_TIME)?)?;
     Ok(LineSetup {

@@ -4,7 +4,7 @@ use Rattle.std.specs.Prelude.{◌⊎◌, IsSome, MatchOption, unwrap_or, Result,
 use Rattle.std.specs.List.{flat_map, AllByRecursion}
 use Rattle.std.proofs.lemmas.List.{append-nil}
 use Rattle.ga_base.specs.declared.formats.FormatFault.{FormatFault}
-use Rattle.ga_base.specs.declared.formats.FormatFault.TheVariants.{UnknownSpecifier, Repeated, NoDelimiter, Missing, BadDirective, NoMemory}
+use Rattle.ga_base.specs.declared.formats.FormatFault.TheVariants.{UnknownSpecifier, Repeated, NoDelimiter, Missing, BadDirective, NotJson, BadShape, Leaf, NoMemory}
 use Rattle.ga_dates.specs.declared.item.Item.{Item}
 use Rattle.ga_dates.specs.declared.kind.Kind.{Kind}
 use Rattle.ga_dates.specs.Items.{AreOnce, IsComplete}
@@ -142,6 +142,9 @@ only_format kind text (Err (UnknownSpecifier at)) ok err items f = absurd err
 only_format kind text (Err (Repeated at)) ok err items f = absurd err
 only_format kind text (Err (NoDelimiter at)) ok err items f = absurd err
 only_format kind text (Err (Missing field)) ok err items f = absurd err
+only_format kind text (Err NotJson) ok err items f = absurd err
+only_format kind text (Err (BadShape leaf)) ok err items f = absurd err
+only_format kind text (Err (Leaf leaf fault place)) ok err items f = absurd err
 
 pub only_fault : (kind : Kind) (text : List ℕ) (r : Result (List Item) FormatFault) → IfOk r (IsFormat kind text) → IfErr r (IsFormatFault kind text)
     → (at : ℕ) → IsFaultAt kind text at → UnlessNoMemory r (Err (BadDirective at))
@@ -152,6 +155,9 @@ only_fault kind text (Err (UnknownSpecifier place)) ok err at h = absurd err
 only_fault kind text (Err (Repeated place)) ok err at h = absurd err
 only_fault kind text (Err (NoDelimiter place)) ok err at h = absurd err
 only_fault kind text (Err (Missing field)) ok err at h = absurd err
+only_fault kind text (Err NotJson) ok err at h = absurd err
+only_fault kind text (Err (BadShape leaf)) ok err at h = absurd err
+only_fault kind text (Err (Leaf leaf fault place)) ok err at h = absurd err
 
 -- the same of an error that is passed on
 pub only_format_err : (kind : Kind) (text text' : List ℕ) (e : FormatFault) (r : Result (List Item) FormatFault) → ((x : FormatFault) × (r ≡ Err x) × (x ≡ e)) → text' ≡ text → IsFormatFault kind text' e

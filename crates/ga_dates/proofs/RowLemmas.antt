@@ -14,7 +14,7 @@ use Rattle.ga_dates.specs.Items.{gives, needed_parts, AreOnce}
 use Rattle.ga_dates.specs.Grammar.{Token, Byte, Directive, text_of, items_of, IsNamed, IsRow, IsFormat, date_letters, date_forms, time_letters, time_forms, at_letter, form_items, directive_of, GivesAgain, IsFaultAt, IsFormatFault}
 use Rattle.ga_dates.specs.Steps.Compile.{AddsToken, IsTokenFault}
 use Rattle.ga_base.specs.declared.formats.FormatFault.{FormatFault}
-use Rattle.ga_base.specs.declared.formats.FormatFault.TheVariants.{UnknownSpecifier, Repeated, NoDelimiter, Missing, BadDirective, NoMemory}
+use Rattle.ga_base.specs.declared.formats.FormatFault.TheVariants.{UnknownSpecifier, Repeated, NoDelimiter, Missing, BadDirective, NotJson, BadShape, Leaf, NoMemory}
 use Rattle.ga_dates.proofs.PartLemmas.{count-cons, once_append, complete, incomplete}
 
 named_more : (kind : Kind) (tokens : List Token) (token : Token) → AllByRecursion (IsNamed kind) tokens → IsNamed kind token → AllByRecursion (IsNamed kind) (tokens ++ token ∷ [])
@@ -175,6 +175,9 @@ fault_behind kind text at before tokens inside row (UnknownSpecifier place) h = 
 fault_behind kind text at before tokens inside row (Repeated place) h = h
 fault_behind kind text at before tokens inside row (NoDelimiter place) h = h
 fault_behind kind text at before tokens inside row (Missing field) h = h
+fault_behind kind text at before tokens inside row NotJson h = h
+fault_behind kind text at before tokens inside row (BadShape leaf) h = h
+fault_behind kind text at before tokens inside row (Leaf leaf fault place) h = h
 
 -- a row of the whole text is a format where it gives all that is needed, and else at fault at its end
 pub completes : (kind : Kind) (text : List ℕ) (items items' : List Item) (tokens : List Token) (b : Bool) → items' ≡ items

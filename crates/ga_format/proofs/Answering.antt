@@ -5,28 +5,28 @@ use Rattle.std.specs.List.{list_any, AllByRecursion}
 use Rattle.std.proofs.lemmas.Bool.Decides.{Decides-eqb}
 use Rattle.ga_base.specs.declared.formats.FormatItem.TheVariants.{Skip, Field}
 use Rattle.std.proofs.lemmas.Bool.{false≢true}
+use Rattle.std.proofs.lemmas.Option.{none-some}
 use Rattle.ga_base.specs.FormatFaults.{fault_place}
 use Rattle.ga_base.specs.declared.formats.FormatItem.{FormatItem}
 use Rattle.ga_base.specs.declared.formats.FormatFault.{FormatFault}
-use Rattle.ga_base.specs.declared.formats.FormatFault.TheVariants.{UnknownSpecifier, Repeated, NoDelimiter, Missing, BadDirective, NoMemory}
+use Rattle.ga_base.specs.declared.formats.FormatFault.TheVariants.{UnknownSpecifier, Repeated, NoDelimiter, Missing, BadDirective, NotJson, BadShape, Leaf, NoMemory}
 use Rattle.ga_base.specs.declared.formats.Needed.{Needed}
 use Rattle.ga_base.specs.declared.formats.Needed.TheVariants.{Host, Date, Request}
 use Rattle.ga_format.specs.Units.{FormatUnit, Plain, Tab, Specifier, ForwardedFor, IsUnit, IsRow, item_of, items_of}
-use Rattle.ga_format.specs.FieldKinds.{runs_into, repeats, gives}
-use Rattle.ga_format.specs.FormatOf.{Lacks, HasFault, IsFormat, IsFirstFault, FormatOf, IsBefore, Precedes, rank_of}
-use Rattle.ga_format.specs.Steps.Checks.{IsWhole, IsFirstMissing}
+use Rattle.ga_format.specs.FieldKinds.{IsFirstMissing, runs_into, repeats, gives}
+use Rattle.ga_format.specs.FormatOf.{AreItems, Lacks, HasFault, HasPlaced, IsFormat, IsFirstFault, IsFirstPlaced, ItemsOf, FormatOf, IsBefore, Precedes, rank_of}
 use Rattle.ga_format.specs.SoundFormats.{IsNamed, IsSound}
 use Rattle.ga_format.proofs.RowLemmas.{row_same, row_no_longer}
 
 -- a part that one row of the text lacks is lacking in these items
-lacking : (text : List ℕ) (items : List FormatItem) (need : Needed) → IsWhole text items → Lacks text need → list_any (gives need) items ≡ false
+lacking : (text : List ℕ) (items : List FormatItem) (need : Needed) → AreItems [] text items → Lacks text need → list_any (gives need) items ≡ false
 lacking text items need w lacks =
     ap (λ (r : List FormatItem). list_any (gives need) r) (w.gives_items ∙ ap items_of (row_same w.row lacks.row text w.whole lacks.whole)) ∙ lacks.none
 
-given_not_lacking : (text : List ℕ) (items : List FormatItem) (need : Needed) → IsWhole text items → list_any (gives need) items ≡ true → Lacks text need → ⊥
+given_not_lacking : (text : List ℕ) (items : List FormatItem) (need : Needed) → AreItems [] text items → list_any (gives need) items ≡ true → Lacks text need → ⊥
 given_not_lacking text items need w given lacks = false≢true (sym (lacking text items need w lacks) ∙ given)
 
-pub whole_is_format : (text : List ℕ) (items : List FormatItem) → IsWhole text items → ((need : Needed) → list_any (gives need) items ≡ true) → IsFormat text items
+pub whole_is_format : (text : List ℕ) (items : List FormatItem) → AreItems [] text items → ((need : Needed) → list_any (gives need) items ≡ true) → IsFormat text items
 whole_is_format text items w given = record {
   row = w.row;
   whole = w.whole;
@@ -35,14 +35,17 @@ whole_is_format text items w given = record {
 }
   where
     faultless : (fault : FormatFault) → HasFault text fault → ⊥
-    faultless (UnknownSpecifier p) f = w.no_unknown p f
-    faultless (Repeated p) f = w.no_repeated p f
-    faultless (NoDelimiter p) f = w.no_undelimited p f
+    faultless (UnknownSpecifier p) f = w.faultless (UnknownSpecifier p) f
+    faultless (Repeated p) f = w.faultless (Repeated p) f
+    faultless (NoDelimiter p) f = w.faultless (NoDelimiter p) f
     faultless (Missing need) f = given_not_lacking text items need w (given need) f
     faultless (BadDirective p) f = f
+    faultless NotJson f = f
+    faultless (BadShape leaf) f = f
+    faultless (Leaf leaf kind p) f = f
     faultless NoMemory f = f
 
-pub first_is_missing : (text : List ℕ) (items : List FormatItem) (need : Needed) → IsWhole text items → IsFirstMissing items need → IsFirstFault text (Missing need)
+pub first_is_missing : (text : List ℕ) (items : List FormatItem) (need : Needed) → AreItems [] text items → IsFirstMissing items need → IsFirstFault text (Missing need)
 first_is_missing text items need w missing = record {
   stands = record { row = w.row; whole = w.whole; none = ap (λ (r : List FormatItem). list_any (gives need) r) (sym w.gives_items) ∙ lacks need missing };
   first = first;
@@ -65,11 +68,14 @@ first_is_missing text items need w missing = record {
     earlier Request Request m f before = omega arith
 
     first : (other : FormatFault) → HasFault text other → Precedes other (Missing need) → ⊥
-    first (UnknownSpecifier p) f before = w.no_unknown p f
-    first (Repeated p) f before = w.no_repeated p f
-    first (NoDelimiter p) f before = w.no_undelimited p f
+    first (UnknownSpecifier p) f before = w.faultless (UnknownSpecifier p) f
+    first (Repeated p) f before = w.faultless (Repeated p) f
+    first (NoDelimiter p) f before = w.faultless (NoDelimiter p) f
     first (Missing other) f before = earlier other need missing f before
     first (BadDirective p) f before = f
+    first NotJson f before = f
+    first (BadShape leaf) f before = f
+    first (Leaf leaf kind p) f before = f
     first NoMemory f before = f
 
 -- of two places one is before the other, or they are one
@@ -93,26 +99,92 @@ fault_of : Option ℕ → ℕ → FormatFault
 fault_of (Some at) rank = cond (eqb rank 0) (UnknownSpecifier at) (cond (eqb rank 1) (Repeated at) (cond (eqb rank 2) (NoDelimiter at) (BadDirective at)))
 fault_of None rank = cond (eqb rank 4) (Missing Host) (cond (eqb rank 5) (Missing Date) (cond (eqb rank 6) (Missing Request) NoMemory))
 
-fault_again : (f : FormatFault) → fault_of (fault_place f) (rank_of f) ≡ f
+-- the faults of a format text
+abbrev IsOfText : FormatFault → Type 0
+IsOfText NotJson = ⊥
+IsOfText (BadShape leaf) = ⊥
+IsOfText (Leaf leaf kind at) = ⊥
+IsOfText _ = Unit {0}
+
+fault_again : (f : FormatFault) → IsOfText f → fault_of (fault_place f) (rank_of f) ≡ f
 unfolding fault_of
-fault_again (UnknownSpecifier at) = refl
-fault_again (Repeated at) = refl
-fault_again (NoDelimiter at) = refl
-fault_again (BadDirective at) = refl
-fault_again (Missing Host) = refl
-fault_again (Missing Date) = refl
-fault_again (Missing Request) = refl
-fault_again NoMemory = refl
+fault_again (UnknownSpecifier at) is = refl
+fault_again (Repeated at) is = refl
+fault_again (NoDelimiter at) is = refl
+fault_again (BadDirective at) is = refl
+fault_again (Missing Host) is = refl
+fault_again (Missing Date) is = refl
+fault_again (Missing Request) is = refl
+fault_again NoMemory is = refl
+fault_again NotJson is = absurd is
+fault_again (BadShape leaf) is = absurd is
+fault_again (Leaf leaf kind at) is = absurd is
 
 -- a fault is fixed by its place and its rank
-fault_same : (f g : FormatFault) → (fault_place f ≡ fault_place g) × (rank_of f ≡ rank_of g) → f ≡ g
-fault_same f g e = sym (fault_again f) ∙ (ap (λ (p : Option ℕ). fault_of p (rank_of f)) e.0 ∙ (ap (λ (r : ℕ). fault_of (fault_place g) r) e.1 ∙ fault_again g))
+fault_same : (f g : FormatFault) → IsOfText f → IsOfText g → (fault_place f ≡ fault_place g) × (rank_of f ≡ rank_of g) → f ≡ g
+fault_same f g is is' e = sym (fault_again f is) ∙ (ap (λ (p : Option ℕ). fault_of p (rank_of f)) e.0 ∙ (ap (λ (r : ℕ). fault_of (fault_place g) r) e.1 ∙ fault_again g is'))
+
+of_text : (text : List ℕ) (f : FormatFault) → HasFault text f → IsOfText f
+of_text text (UnknownSpecifier at) h = tt
+of_text text (Repeated at) h = tt
+of_text text (NoDelimiter at) h = tt
+of_text text (BadDirective at) h = tt
+of_text text (Missing need) h = tt
+of_text text NotJson h = h
+of_text text (BadShape leaf) h = h
+of_text text (Leaf leaf kind at) h = h
+of_text text NoMemory h = tt
+
+placed_of_text : (earlier : List FormatItem) (text : List ℕ) (f : FormatFault) → HasPlaced earlier text f → IsOfText f
+placed_of_text earlier text (UnknownSpecifier at) h = tt
+placed_of_text earlier text (Repeated at) h = tt
+placed_of_text earlier text (NoDelimiter at) h = tt
+placed_of_text earlier text (BadDirective at) h = tt
+placed_of_text earlier text (Missing need) h = tt
+placed_of_text earlier text NotJson h = h
+placed_of_text earlier text (BadShape leaf) h = h
+placed_of_text earlier text (Leaf leaf kind at) h = h
+placed_of_text earlier text NoMemory h = tt
 
 pub one_answer : (text : List ℕ) (a b : Result (List FormatItem) FormatFault) → FormatOf text a → FormatOf text b → a ≡ b
 one_answer text (Ok xs) (Ok ys) f g = ap Ok (f.gives_items ∙ (ap items_of (row_same f.row g.row text f.whole g.whole) ∙ sym g.gives_items))
 one_answer text (Ok xs) (Err e) f g = absurd (f.faultless e g.stands)
 one_answer text (Err d) (Ok ys) f g = absurd (g.faultless d f.stands)
-one_answer text (Err d) (Err e) f g = ap Err (fault_same d e (tie (fault_place d) (fault_place e) (rank_of d) (rank_of e) (g.first d f.stands) (f.first e g.stands)))
+one_answer text (Err d) (Err e) f g = ap Err (fault_same d e (of_text text d f.stands) (of_text text e g.stands) (tie (fault_place d) (fault_place e) (rank_of d) (rank_of e) (g.first d f.stands) (f.first e g.stands)))
+
+pub one_list : (earlier : List FormatItem) (text : List ℕ) (a b : Result (List FormatItem) FormatFault) → ItemsOf earlier text a → ItemsOf earlier text b → a ≡ b
+one_list earlier text (Ok xs) (Ok ys) f g = ap Ok (f.gives_items ∙ (ap items_of (row_same f.row g.row text f.whole g.whole) ∙ sym g.gives_items))
+one_list earlier text (Ok xs) (Err e) f g = absurd (f.faultless e g.stands)
+one_list earlier text (Err d) (Ok ys) f g = absurd (g.faultless d f.stands)
+one_list earlier text (Err d) (Err e) f g = ap Err (fault_same d e (placed_of_text earlier text d f.stands) (placed_of_text earlier text e g.stands) (tie (fault_place d) (fault_place e) (rank_of d) (rank_of e) (g.first d f.stands) (f.first e g.stands)))
+
+no-place-first : (place : Option ℕ) (at i j : ℕ) → place ≡ Some at → IsBefore None i place j → ⊥
+no-place-first None at i j e before = absurd (none-some at e)
+no-place-first (Some other) at i j e before = before
+
+before-all : (text : List ℕ) (fault : FormatFault) (at : ℕ) → fault_place fault ≡ Some at → ((other : FormatFault) → HasPlaced [] text other → Precedes other fault → ⊥)
+    → (other : FormatFault) → HasFault text other → Precedes other fault → ⊥
+before-all text fault at e first (UnknownSpecifier p) f before = first (UnknownSpecifier p) f before
+before-all text fault at e first (Repeated p) f before = first (Repeated p) f before
+before-all text fault at e first (NoDelimiter p) f before = first (NoDelimiter p) f before
+before-all text fault at e first (Missing need) f before = no-place-first (fault_place fault) at (rank_of (Missing need)) (rank_of fault) e before
+before-all text fault at e first (BadDirective p) f before = f
+before-all text fault at e first NotJson f before = f
+before-all text fault at e first (BadShape leaf) f before = f
+before-all text fault at e first (Leaf leaf kind p) f before = f
+before-all text fault at e first NoMemory f before = f
+
+-- a fault with a place is the first of all, since what is missing comes last
+pub first_of_all : (text : List ℕ) (fault : FormatFault) → IsFirstPlaced [] text fault → IsFirstFault text fault
+first_of_all text (UnknownSpecifier at) f = record { stands = f.stands; first = before-all text (UnknownSpecifier at) at refl f.first }
+first_of_all text (Repeated at) f = record { stands = f.stands; first = before-all text (Repeated at) at refl f.first }
+first_of_all text (NoDelimiter at) f = record { stands = f.stands; first = before-all text (NoDelimiter at) at refl f.first }
+first_of_all text (Missing need) f = absurd f.stands
+first_of_all text (BadDirective at) f = absurd f.stands
+first_of_all text NotJson f = absurd f.stands
+first_of_all text (BadShape leaf) f = absurd f.stands
+first_of_all text (Leaf leaf kind at) f = absurd f.stands
+first_of_all text NoMemory f = absurd f.stands
 
 -- a row of units is cut where its items are
 record Cut (row : List FormatUnit) (before : List FormatItem) (item : FormatItem) (after : List FormatItem) : Type 0 where
@@ -219,3 +291,8 @@ pub only_result : (text : List ℕ) (result : Result (List FormatItem) FormatFau
 only_result text (Ok items) f e answer a = inr (one_answer text (Ok items) answer f a)
 only_result text (Err fault) f (inl none) answer a = inl (ap Err none)
 only_result text (Err fault) f (inr e) answer a = inr (one_answer text (Err fault) answer e a)
+
+pub only_items : (earlier : List FormatItem) (text : List ℕ) (result : Result (List FormatItem) FormatFault) → IfOk result (λ items. ItemsOf earlier text (Ok items)) → IfErr result (λ fault. (fault ≡ NoMemory) ⊎ ItemsOf earlier text (Err fault)) → (answer : Result (List FormatItem) FormatFault) → ItemsOf earlier text answer → (result ≡ Err NoMemory) ⊎ (result ≡ answer)
+only_items earlier text (Ok items) f e answer a = inr (one_list earlier text (Ok items) answer f a)
+only_items earlier text (Err fault) f (inl none) answer a = inl (ap Err none)
+only_items earlier text (Err fault) f (inr e) answer a = inr (one_list earlier text (Err fault) answer e a)

@@ -12,13 +12,13 @@ use Rattle.ga_base.specs.declared.formats.Needed.TheVariants.{Host, Date, Reques
 use Rattle.ga_format.specs.Specifiers.{has, letters}
 use Rattle.ga_format.specs.Units.{Tab, Specifier, IsUnknown, item_of}
 use Rattle.ga_format.specs.FieldKinds.{repeats, gives}
-use Rattle.ga_format.specs.FormatOf.{FormatOf}
-use Rattle.ga_format.specs.Steps.Checks.{GivesUnit, Ends, IsWhole, is_literal}
+use Rattle.ga_format.specs.FormatOf.{AreItems, FormatOf, ItemsOf}
+use Rattle.ga_format.specs.Steps.Checks.{GivesUnit, Ends, is_literal}
 use Rattle.ga_format.proofs.UnitLemmas.{heads, gives_plain, gives_specifier, gives_forwarded, unknown_end, unknown_letter, unclosed, nothing_inside}
 use Rattle.ga_format.proofs.RowLemmas.{begins_shorter, row_no_longer}
 use Rattle.ga_format.proofs.Reading.{HasRead, opened, read_nothing, read_more}
 use Rattle.ga_format.proofs.Faults.{first_is_unknown, first_is_undelimited, first_is_repeated, reads_whole}
-use Rattle.ga_format.proofs.Answering.{whole_is_format, first_is_missing}
+use Rattle.ga_format.proofs.Answering.{whole_is_format, first_is_missing, first_of_all}
 
 abbrev IsFront : List ℕ → List ℕ → Type 0
 IsFront front text = ((rest : List ℕ) × (text ≡ front ++ rest)) ⊎ ((rest : List ℕ) → text ≢ front ++ rest)
@@ -75,7 +75,7 @@ unit_or_not (byte ∷ after) some = at_percent (front_or_not (codes "%") (byte �
 abbrev HasAnswer : List ℕ → Type 0
 HasAnswer text = (answer : Result (List FormatItem) FormatFault) × FormatOf text answer
 
-whole_answer : (text : List ℕ) (items : List FormatItem) → IsWhole text items → HasAnswer text
+whole_answer : (text : List ℕ) (items : List FormatItem) → AreItems [] text items → HasAnswer text
 whole_answer text items w = given (list_any (gives Host) items) (list_any (gives Date) items) (list_any (gives Request) items) refl refl refl
   where
     all : list_any (gives Host) items ≡ true → list_any (gives Date) items ≡ true → list_any (gives Request) items ≡ true → (need : Needed) → list_any (gives need) items ≡ true
@@ -89,46 +89,57 @@ whole_answer text items w = given (list_any (gives Host) items) (list_any (gives
     given true true false h d r = (Err (Missing Request), first_is_missing text items Request w (h, d, r))
     given true true true h d r = (Ok items, whole_is_format text items w (all h d r))
 
+abbrev HasItems : List FormatItem → List ℕ → Type 0
+HasItems earlier text = (answer : Result (List FormatItem) FormatFault) × ItemsOf earlier text answer
+
 -- the item ends the field that waits for its literal, or the text has a fault there
-ended : (text : List ℕ) (items : List FormatItem) (field : Option ℕ) (rest : List ℕ) (r : Read rest) → HasRead text items field rest → Ends field r.item ⊎ HasAnswer text
-ended text items None rest r h = inl tt
-ended text items (Some q) rest r h = literal (is_literal r.item) refl
+ended : (earlier : List FormatItem) (text : List ℕ) (items : List FormatItem) (field : Option ℕ) (rest : List ℕ) (r : Read rest) → HasRead earlier text items field rest → Ends field r.item ⊎ HasItems earlier text
+ended earlier text items None rest r h = inl tt
+ended earlier text items (Some q) rest r h = literal (is_literal r.item) refl
   where
-    literal : (is : Bool) → is_literal r.item ≡ is → (is_literal r.item ≡ true) ⊎ HasAnswer text
+    literal : (is : Bool) → is_literal r.item ≡ is → (is_literal r.item ≡ true) ⊎ HasItems earlier text
     literal true e = inl e
-    literal false e = inr (Err (NoDelimiter q), first_is_undelimited text items q rest r.item r.after h r.unit e)
+    literal false e = inr (Err (NoDelimiter q), first_is_undelimited earlier text items q rest r.item r.after h r.unit e)
 
 abbrev Answers : ℕ → Type 0
-Answers count = (text : List ℕ) (items : List FormatItem) (field : Option ℕ) (rest : List ℕ) → HasRead text items field rest → length rest ≤ count → HasAnswer text
+Answers count = (earlier : List FormatItem) (text : List ℕ) (items : List FormatItem) (field : Option ℕ) (rest : List ℕ) → HasRead earlier text items field rest → length rest ≤ count → HasItems earlier text
 
 -- one unit more
-one_more : (count : ℕ) → Answers count → (text : List ℕ) (items : List FormatItem) (field : Option ℕ) (rest : List ℕ) (r : Read rest) → HasRead text items field rest → length rest ≤ suc count → Ends field r.item → HasAnswer text
-one_more count again text items field rest r h le ends = fresh (repeats items r.item) refl
+one_more : (count : ℕ) → Answers count → (earlier : List FormatItem) (text : List ℕ) (items : List FormatItem) (field : Option ℕ) (rest : List ℕ) (r : Read rest) → HasRead earlier text items field rest → length rest ≤ suc count → Ends field r.item → HasItems earlier text
+one_more count again earlier text items field rest r h le ends = fresh (repeats (earlier ++ items) r.item) refl
   where
     place : (length text - length rest) + length rest ≡ length text
     place = omega (arith, row_no_longer h.row text rest h.is_row)
 
-    fresh : (twice : Bool) → repeats items r.item ≡ twice → HasAnswer text
-    fresh true e = (Err (Repeated (length text - length rest)), first_is_repeated text items field rest (length text - length rest) r.item r.after h place r.unit ends e)
-    fresh false e = again text (items ++ (r.item ∷ [])) (opened r.item (length text - length rest)) r.after (read_more text items field rest (length text - length rest) r.item r.after h place r.unit ends e) (omega (arith, begins_shorter r.unit.unit rest r.after r.unit.begins))
+    fresh : (twice : Bool) → repeats (earlier ++ items) r.item ≡ twice → HasItems earlier text
+    fresh true e = (Err (Repeated (length text - length rest)), first_is_repeated earlier text items field rest (length text - length rest) r.item r.after h place r.unit ends e)
+    fresh false e = again earlier text (items ++ (r.item ∷ [])) (opened r.item (length text - length rest)) r.after (read_more earlier text items field rest (length text - length rest) r.item r.after h place r.unit ends e) (omega (arith, begins_shorter r.unit.unit rest r.after r.unit.begins))
 
-next : (count : ℕ) → Answers count → (text : List ℕ) (items : List FormatItem) (field : Option ℕ) (rest : List ℕ) → HasRead text items field rest → length rest ≤ suc count → Read rest ⊎ IsUnknown rest → HasAnswer text
-next count again text items field rest h le (inr unknown) =
-    (Err (UnknownSpecifier (length text - length rest)), first_is_unknown text items field rest (length text - length rest) h (omega (arith, row_no_longer h.row text rest h.is_row)) unknown)
-next count again text items field rest h le (inl r) = on (ended text items field rest r h)
+next : (count : ℕ) → Answers count → (earlier : List FormatItem) (text : List ℕ) (items : List FormatItem) (field : Option ℕ) (rest : List ℕ) → HasRead earlier text items field rest → length rest ≤ suc count → Read rest ⊎ IsUnknown rest → HasItems earlier text
+next count again earlier text items field rest h le (inr unknown) =
+    (Err (UnknownSpecifier (length text - length rest)), first_is_unknown earlier text items field rest (length text - length rest) h (omega (arith, row_no_longer h.row text rest h.is_row)) unknown)
+next count again earlier text items field rest h le (inl r) = on (ended earlier text items field rest r h)
   where
-    on : Ends field r.item ⊎ HasAnswer text → HasAnswer text
-    on (inl ends) = one_more count again text items field rest r h le ends
+    on : Ends field r.item ⊎ HasItems earlier text → HasItems earlier text
+    on (inl ends) = one_more count again earlier text items field rest r h le ends
     on (inr answer) = answer
 
 -- goes on from what is read, while bytes are left
 answer_from : (count : ℕ) → Answers count
-answer_from count text items field [] h le = whole_answer text items (reads_whole text items field [] h refl)
-answer_from zero text items field (b ∷ bs) h le = absurd (omega arith)
-answer_from (suc count) text items field (b ∷ bs) h le = next count (answer_from count) text items field (b ∷ bs) h le (unit_or_not (b ∷ bs) some)
+answer_from count earlier text items field [] h le = (Ok items, reads_whole earlier text items field [] h refl)
+answer_from zero earlier text items field (b ∷ bs) h le = absurd (omega arith)
+answer_from (suc count) earlier text items field (b ∷ bs) h le = next count (answer_from count) earlier text items field (b ∷ bs) h le (unit_or_not (b ∷ bs) some)
   where
     some : (b ∷ bs) ≢ []
     some e = let l : length (b ∷ bs) ≡ 0 = ap length e in omega arith
 
+-- after any items every text has items or a first fault with a place
+pub every_items : (earlier : List FormatItem) (text : List ℕ) → HasItems earlier text
+every_items earlier text = answer_from (length text) earlier text [] None text (read_nothing earlier text) (omega arith)
+
 pub every_text : (text : List ℕ) → HasAnswer text
-every_text text = answer_from (length text) text [] None text (read_nothing text) (omega arith)
+every_text text = answered (every_items [] text)
+  where
+    answered : HasItems [] text → HasAnswer text
+    answered (Ok items, are) = whole_answer text items are
+    answered (Err fault, first) = (Err fault, first_of_all text fault first)

@@ -27,16 +27,16 @@ Undelimited text None rest = (at : ℕ) → HasUndelimited text at → length te
 Undelimited text (Some field) rest = AfterField text field rest
 
 -- The text is read up to this rest: it gave these items, and no fault stands before the rest.
-pub record HasRead (text : List ℕ) (items : List FormatItem) (field : Option ℕ) (rest : List ℕ) : Type 0 where
+pub record HasRead (earlier : List FormatItem) (text : List ℕ) (items : List FormatItem) (field : Option ℕ) (rest : List ℕ) : Type 0 where
   pub row : List FormatUnit
   pub is_row : IsRow row text rest
   pub gives_items : items ≡ items_of row
   pub no_unknown : (at : ℕ) → HasUnknown text at → length text ≤ at + length rest
-  pub no_repeated : (at : ℕ) → HasRepeated text at → length text ≤ at + length rest
+  pub no_repeated : (at : ℕ) → HasRepeated earlier text at → length text ≤ at + length rest
   pub undelimited : Undelimited text field rest
 
-pub read_nothing : (text : List ℕ) → HasRead text [] None text
-read_nothing text = record {
+pub read_nothing : (earlier : List FormatItem) (text : List ℕ) → HasRead earlier text [] None text
+read_nothing earlier text = record {
   row = [];
   is_row = refl;
   gives_items = refl;
@@ -58,19 +58,19 @@ place_next text row rest unit after r b at before from place le =
         let le : length from ≤ length after = subst (λ (t : List ℕ). length from ≤ length t) same.1 (row_no_longer us m.0 from m.2) in
         inr (omega (arith, place.place))
 
-pub still_no_unknown : (text : List ℕ) (items : List FormatItem) (field : Option ℕ) (rest : List ℕ) (unit : FormatUnit) (after : List ℕ) → HasRead text items field rest → Begins unit rest after → (at : ℕ) → HasUnknown text at → length text ≤ at + length after
-still_no_unknown text items field rest unit after h b at f =
+pub still_no_unknown : (earlier : List FormatItem) (text : List ℕ) (items : List FormatItem) (field : Option ℕ) (rest : List ℕ) (unit : FormatUnit) (after : List ℕ) → HasRead earlier text items field rest → Begins unit rest after → (at : ℕ) → HasUnknown text at → length text ≤ at + length after
+still_no_unknown earlier text items field rest unit after h b at f =
     elim (place_next text h.row rest unit after h.is_row b at f.before f.rest f.is_place (h.no_unknown at f)) [
       | inl same ↦ absurd (f.unknown.none unit after (subst (λ (t : List ℕ). Begins unit t after) (sym same.1) b))
       | inr le ↦ le
     ]
 
-pub still_no_repeated : (text : List ℕ) (items : List FormatItem) (field : Option ℕ) (rest : List ℕ) (unit : FormatUnit) (after : List ℕ) → HasRead text items field rest → Begins unit rest after → repeats items (item_of unit) ≡ false → (at : ℕ) → HasRepeated text at → length text ≤ at + length after
-still_no_repeated text items field rest unit after h b fresh at f =
+pub still_no_repeated : (earlier : List FormatItem) (text : List ℕ) (items : List FormatItem) (field : Option ℕ) (rest : List ℕ) (unit : FormatUnit) (after : List ℕ) → HasRead earlier text items field rest → Begins unit rest after → repeats (earlier ++ items) (item_of unit) ≡ false → (at : ℕ) → HasRepeated earlier text at → length text ≤ at + length after
+still_no_repeated earlier text items field rest unit after h b fresh at f =
     elim (place_next text h.row rest unit after h.is_row b at f.before f.rest f.is_place (h.no_repeated at f)) [
       | inl same ↦
           let one = (begins_same f.unit unit f.rest f.after after f.begins (subst (λ (t : List ℕ). Begins unit t after) (sym same.1) b)).0 in
-          let shown : repeats items (item_of unit) ≡ true = ap (λ (u : FormatUnit). repeats items (item_of u)) (sym one) ∙ (ap (λ (r : List FormatItem). repeats r (item_of f.unit)) (h.gives_items ∙ ap items_of (sym same.0)) ∙ f.repeated) in
+          let shown : repeats (earlier ++ items) (item_of unit) ≡ true = ap (λ (u : FormatUnit). repeats (earlier ++ items) (item_of u)) (sym one) ∙ (ap (λ (r : List FormatItem). repeats (earlier ++ r) (item_of f.unit)) (h.gives_items ∙ ap items_of (sym same.0)) ∙ f.repeated) in
           absurd (false≢true (sym fresh ∙ shown))
       | inr le ↦ le
     ]
@@ -124,17 +124,17 @@ opens text row rest unit after at false r b place is none = λ p f.
     ]
 
 -- one more unit is read
-pub read_more : (text : List ℕ) (items : List FormatItem) (field : Option ℕ) (rest : List ℕ) (at : ℕ) (item : FormatItem) (after : List ℕ) → HasRead text items field rest → at + length rest ≡ length text → GivesUnit rest item after → Ends field item → repeats items item ≡ false → HasRead text (items ++ (item ∷ [])) (opened item at) after
-read_more text items field rest at item after h place g ends fresh =
+pub read_more : (earlier : List FormatItem) (text : List ℕ) (items : List FormatItem) (field : Option ℕ) (rest : List ℕ) (at : ℕ) (item : FormatItem) (after : List ℕ) → HasRead earlier text items field rest → at + length rest ≡ length text → GivesUnit rest item after → Ends field item → repeats (earlier ++ items) item ≡ false → HasRead earlier text (items ++ (item ∷ [])) (opened item at) after
+read_more earlier text items field rest at item after h place g ends fresh =
     let ends' : Ends field (item_of g.unit) = subst (λ (i : FormatItem). Ends field i) g.is_item ends in
-    let fresh' : repeats items (item_of g.unit) ≡ false = ap (λ (i : FormatItem). repeats items i) (sym g.is_item) ∙ fresh in
+    let fresh' : repeats (earlier ++ items) (item_of g.unit) ≡ false = ap (λ (i : FormatItem). repeats (earlier ++ items) i) (sym g.is_item) ∙ fresh in
     let delimited = now_delimited text field rest g.unit after h.undelimited g.begins ends' in
     let opening : Undelimited text (opened (item_of g.unit) at) after = opens text h.row rest g.unit after at (is_field (item_of g.unit)) h.is_row g.begins place refl delimited in
     record {
       row = h.row ++ (g.unit ∷ []);
       is_row = row_snoc h.row text rest g.unit after h.is_row g.begins;
       gives_items = ap (λ (r : List FormatItem). r ++ (item ∷ [])) h.gives_items ∙ (ap (λ (i : FormatItem). items_of h.row ++ (i ∷ [])) g.is_item ∙ sym (map-append item_of h.row (g.unit ∷ [])));
-      no_unknown = still_no_unknown text items field rest g.unit after h g.begins;
-      no_repeated = still_no_repeated text items field rest g.unit after h g.begins fresh';
+      no_unknown = still_no_unknown earlier text items field rest g.unit after h g.begins;
+      no_repeated = still_no_repeated earlier text items field rest g.unit after h g.begins fresh';
       undelimited = subst (λ (i : FormatItem). Undelimited text (opened i at) after) (sym g.is_item) opening;
     }

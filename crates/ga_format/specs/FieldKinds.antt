@@ -1,5 +1,5 @@
 -- What the items of a format are to one another, and what they give.
-use Rattle.std.specs.Prelude.{ℕ, Bool, true, false, codes, List, []}
+use Rattle.std.specs.Prelude.{◌≡◌, ℕ, Bool, true, false, codes, List, []}
 use Rattle.std.specs.List.{list_any}
 use Rattle.ga_base.specs.declared.formats.FormatItem.{FormatItem}
 use Rattle.ga_base.specs.declared.formats.FormatItem.TheVariants.{Literal, Skip, Field, Forwarded}
@@ -49,3 +49,9 @@ needed_kind Request = codes "U"
 -- whether the item gives what is needed: `%h` and `~h{C}`, `%d` and `%x`, `%r` and `%U` do
 abbrev pub gives : Needed → FormatItem → Bool
 gives need item = share (needed_kind need) (kinds_of item)
+
+-- these items don't give this, and give what comes before it: the host, the date, the request
+abbrev pub IsFirstMissing : List FormatItem → Needed → Type 0
+IsFirstMissing items Host = list_any (gives Host) items ≡ false
+IsFirstMissing items Date = (list_any (gives Host) items ≡ true) × (list_any (gives Date) items ≡ false)
+IsFirstMissing items Request = (list_any (gives Host) items ≡ true) × (list_any (gives Date) items ≡ true) × (list_any (gives Request) items ≡ false)

@@ -1,9 +1,9 @@
-ghost use Rattle.std.specs.Prelude.{◌≡◌, true, MatchOption};
+ghost use Rattle.std.specs.Prelude.{◌≡◌, ◌++◌, true, MatchOption};
 ghost use Rattle.std.specs.List.{list_any};
 ghost use Rattle.ga_base.specs.declared.formats.Needed.{Needed};
-ghost use Rattle.ga_format.specs.FieldKinds.{gives, is_field, kinds_of, needed_kind, repeats, share};
+ghost use Rattle.ga_format.specs.FieldKinds.{IsFirstMissing, gives, is_field, kinds_of, needed_kind, repeats, share};
 ghost use Rattle.ga_format.specs.Specifiers.{kinds_of_letter};
-ghost use Rattle.ga_format.specs.Steps.Checks.{IsFirstMissing, is_literal};
+ghost use Rattle.ga_format.specs.Steps.Checks.{is_literal};
 
 use ga_base::{FormatItem, Needed};
 
@@ -21,10 +21,17 @@ pub(crate) fn is_literal(item: &FormatItem) -> bool
     matches!(item, FormatItem::Literal(_))
 }
 
+/// Whether the item may not follow the earlier items and then these.
+pub(crate) fn repeats_after(earlier: &[FormatItem], items: &[FormatItem], item: &FormatItem) -> bool
+    ensures { result ≡ repeats (earlier.now ++ items.now) item.now }
+{
+    repeats(earlier, item) || repeats(items, item)
+}
+
 /// Whether the item may not follow these: it gives a kind of field that one of them gives.
 ///
 /// Only an item that gives some kind is looked up, so that a text costs no more than some twenty looks at each item.
-pub(crate) fn repeats(earlier: &[FormatItem], item: &FormatItem) -> bool
+fn repeats(earlier: &[FormatItem], item: &FormatItem) -> bool
     ensures { result ≡ repeats earlier.now item.now }
 {
     let kinds = kinds_of(item);
@@ -84,7 +91,7 @@ fn kinds_of_letter(letter: u8) -> &'static [u8]
 }
 
 /// The first part that every format has to give and these items don't.
-pub(crate) fn first_missing(items: &[FormatItem]) -> Option<Needed>
+pub fn first_missing(items: &[FormatItem]) -> Option<Needed>
     ensures { MatchOption result ((need : Needed) → list_any (gives need) items.now ≡ true) (IsFirstMissing items.now) }
 {
     if !is_given(items, Needed::Host) {

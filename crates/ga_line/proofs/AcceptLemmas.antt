@@ -6,12 +6,13 @@ use Rattle.ga_base.specs.declared.counts.TheConstants.{BIG}
 use Rattle.ga_base.specs.declared.record.TheConstants.{MAX_LINE}
 use Rattle.ga_line.specs.declared.numbers.Numbers.{Numbers}
 use Rattle.ga_line.specs.declared.setup.LineSetup.{LineSetup}
-use Rattle.ga_line.specs.Fits.{Part, Fits, field}
+use Rattle.ga_line.specs.Fits.{Part, field}
+use Rattle.ga_line.specs.Shapes.{FitsShape}
 use Rattle.ga_line.specs.Letters.{host_letter, both_letter, date_letter, time_letter, status_letter, size_letter}
 use Rattle.ga_line.specs.Records.{IsMissing, IsNoAddress, day_text, request_text, taken_part, HasMoment, SaysMoment, HasStatus, HasMicros, size_value, IsRefused, no_host, no_date, no_request, no_address, bad_moment, bad_status, too_large, too_slow, Fails, too_long, misfit, refused}
 use Rattle.ga_line.specs.Steps.Valid.{HasNumbers}
 use Rattle.ga_line.proofs.ReadLemmas.{taken-unique}
-use Rattle.ga_line.proofs.UniqueFits.{Fits-unique}
+use Rattle.ga_line.proofs.ShapeLemmas.{FitsShape-unique}
 
 -- a test that tells what is missing says no
 pub is-there : {b : Bool} {text field_text : Option (List ℕ)} → IsTrue b ↔ IsMissing text → b ≡ false → text ≡ field_text → ¬ IsMissing field_text
@@ -53,7 +54,7 @@ has-numbers setup parts numbers host day request address moment status bytes sma
         omega (arith, above, within)
 
 -- a line of fields that are accepted is valid
-pub accepted-line : (setup : LineSetup) (line : List ℕ) (parts : List Part) → length line ≤ MAX_LINE → Fits setup.format line parts → ¬ IsRefused setup parts → ¬ Fails setup line
+pub accepted-line : (setup : LineSetup) (line : List ℕ) (parts : List Part) → length line ≤ MAX_LINE → FitsShape setup.format line parts → ¬ IsRefused setup parts → ¬ Fails setup line
 accepted-line setup line parts short fits accepted (too_long long) = omega (arith, short, long)
 accepted-line setup line parts short fits accepted (misfit none) = none parts fits
-accepted-line setup line parts short fits accepted (refused others given r) = accepted (subst (IsRefused setup) (Fits-unique setup.format line others parts given fits) r)
+accepted-line setup line parts short fits accepted (refused others given r) = accepted (subst (IsRefused setup) (FitsShape-unique setup.format line others parts given fits) r)

@@ -28,6 +28,14 @@ use Rattle.ga_line.proofs.AddressKnown.{known-address}
 use Rattle.ga_line.proofs.ChainLemmas.{known-chain}
 use Rattle.ga_line.proofs.ForwardLemmas.{chains-nowhere, chains-elsewhere}
 use Rattle.ga_line.proofs.RequestKnown.{known-method, known-protocol, some-split}
+use Rattle.ga_jsonlog.specs.declared.leaf.JsonLeaf.{JsonLeaf}
+use Rattle.ga_jsonlog.specs.declared.pieces.Pieces.{Pieces}
+use Rattle.ga_jsonlog.specs.declared.pieces.Pieces.TheVariants.{NoObject, Leaves}
+use Rattle.ga_jsonlog.specs.Pieces.{PiecesOf}
+use Rattle.ga_line.specs.declared.setup.Shape.{Shape}
+use Rattle.ga_line.specs.declared.setup.Shape.TheVariants.{Plain, Json}
+use Rattle.ga_line.specs.Shapes.{FitsShape}
+use Rattle.ga_line.proofs.ShapeLemmas.{known-leaves, no-object-misfit, pieces-misfit}
 use Rattle.ga_line.proofs.UniqueFits.{SkipsSpace-unique, forwarded-unique}
 use Rattle.ga_line.proofs.Known.{IsKnown, known-both, known-less, known-most, known-same, known-true, known-text, IsParted, known-parted, known-date, known-time, known-moment}
 use Rattle.ga_line.proofs.ReadLemmas.{says-record}
@@ -321,7 +329,7 @@ some-request setup parts =
     (says.0, url_of setup says.1 parts, says.2, record { target = says.1; request = says.3; url = refl })
 
 -- a line that fits is refused, or says a record
-module _ (setup : LineSetup) (line : List ℕ) (read : ¬ IsPassedOver line) (parts : List Part) (fits : Fits setup.format line parts) where
+module _ (setup : LineSetup) (line : List ℕ) (read : ¬ IsPassedOver line) (parts : List Part) (fits : FitsShape setup.format line parts) where
   says-numbers : ¬ Fails setup line → (numbers : Numbers) → HasNumbers setup parts numbers → SaysSomething setup line
   says-numbers accepted numbers has =
       let asks = some-request setup parts in
@@ -392,17 +400,30 @@ module _ (setup : LineSetup) (line : List ℕ) (read : ¬ IsPassedOver line) (pa
       host (inr h) (inr d) (inr r) (inr a) (inl m) (inr none) = fails-for (bad_status (λ status is. none (status, is)))
       host (inr h) (inr d) (inr r) (inr a) (inl m) (inl s) = by-amounts short h d r a m.0 m.1 m.2 s.0 s.1
 
+abbrev pub EveryPieces : Type 0
+EveryPieces = (leaves : List JsonLeaf) (line : List ℕ) → (pieces : Pieces) × PiecesOf leaves line pieces
+
+-- whether a line fits the format, and with which fields
+known-shape : EveryPieces → (shape : Shape) (line : List ℕ) → IsKnown ((parts : List Part) × FitsShape shape line parts)
+known-shape every (Plain items) line = known-fit items line
+known-shape every (Json leaves) line = by (every leaves line)
+  where
+    by : (pieces : Pieces) × PiecesOf leaves line pieces → IsKnown ((parts : List Part) × FitsShape (Json leaves) line parts)
+    by (NoObject, none) = inr (λ (parts, fits). no-object-misfit leaves line none parts fits)
+    by (Leaves ps, has) =
+        ⊎_elim (λ (parts, fits). inl (parts, (ps, has, fits))) (λ none. inr (λ (parts, fits). pieces-misfit leaves line ps has (λ others f. none (others, f)) parts fits)) (known-leaves known-fit leaves ps)
+
 -- a line that isn't passed over
-unpassed : (setup : LineSetup) (line : List ℕ) → ¬ IsPassedOver line → SaysSomething setup line
-unpassed setup line read =
+unpassed : EveryPieces → (setup : LineSetup) (line : List ℕ) → ¬ IsPassedOver line → SaysSomething setup line
+unpassed every setup line read =
     ⊎_elim (λ long. (Failed, (read, too_long long)))
-    (λ short. ⊎_elim (λ (parts, fits). by-parts setup line read parts fits short) (λ none. (Failed, (read, misfit (λ parts fits. none (parts, fits))))) (known-fit setup.format line))
+    (λ short. ⊎_elim (λ (parts, fits). by-parts setup line read parts fits short) (λ none. (Failed, (read, misfit (λ parts fits. none (parts, fits))))) (known-shape every setup.format line))
     (cases_lt MAX_LINE (length line))
 
 -- every line says something
-pub says-something : (setup : LineSetup) (line : List ℕ) → SaysSomething setup line
-says-something setup [] = (Skipped, inl refl)
-says-something setup (b ∷ rest) =
+pub says-something : EveryPieces → (setup : LineSetup) (line : List ℕ) → SaysSomething setup line
+says-something every setup [] = (Skipped, inl refl)
+says-something every setup (b ∷ rest) =
     ⊎_elim (λ comment. (Skipped, inr (rest, ap (λ (x : ℕ). x ∷ rest) comment)))
-    (λ other. unpassed setup (b ∷ rest) (⊎_elim (λ e. let l : length (b ∷ rest) ≡ 0 = ap length e in omega arith) (λ (comment, is). other (cons-head _ _ _ _ is))))
+    (λ other. unpassed every setup (b ∷ rest) (⊎_elim (λ e. let l : length (b ∷ rest) ≡ 0 = ap length e in omega arith) (λ (comment, is). other (cons-head _ _ _ _ is))))
     (known-same b 35)

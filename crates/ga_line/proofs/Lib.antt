@@ -21,3 +21,5 @@ mod SeparatorLemmas
 mod SizeLemmas
 mod SpaceLemmas
 mod UniqueFits
+mod ShapeLemmas
+mod ShapeTexts

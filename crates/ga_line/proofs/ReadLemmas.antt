@@ -6,7 +6,8 @@ use Rattle.ga_dates.specs.declared.kind.Kind.TheVariants.{Date, Time}
 use Rattle.ga_dates.specs.Items.{IsComplete}
 use Rattle.ga_line.specs.declared.setup.LineSetup.{LineSetup}
 use Rattle.ga_line.specs.declared.numbers.Numbers.{Numbers}
-use Rattle.ga_line.specs.Fits.{Part, Fits, field}
+use Rattle.ga_line.specs.Fits.{Part, field}
+use Rattle.ga_line.specs.Shapes.{FitsShape}
 use Rattle.ga_line.specs.Letters.{request_letter, method_letter, path_letter, protocol_letter, status_letter}
 use Rattle.ga_dates.specs.declared.item.Item.{Item}
 use Rattle.ga_requests.specs.Requests.{HasParts}
@@ -15,10 +16,10 @@ use Rattle.ga_line.specs.Records.{HasMinute, HasMoment, HasStatus, HasMicros, Sa
 use Rattle.ga_line.specs.Steps.Valid.{HasNumbers, AreOf}
 use Rattle.ga_dates.specs.Spelling.{SpellsDate, SpellsTime, SpellsBoth}
 use Rattle.ga_line.proofs.DecimalLemmas.{micros-unique}
-use Rattle.ga_line.proofs.UniqueFits.{Fits-unique}
+use Rattle.ga_line.proofs.ShapeLemmas.{FitsShape-unique}
 
 -- the record of the fields and their numbers is what the line says
-pub says-record : (setup : LineSetup) (line : List ℕ) (parts : List Part) (numbers : Numbers) (rec : Record) → ¬ IsPassedOver line → ¬ Fails setup line → Fits setup.format line parts
+pub says-record : (setup : LineSetup) (line : List ℕ) (parts : List Part) (numbers : Numbers) (rec : Record) → ¬ IsPassedOver line → ¬ Fails setup line → FitsShape setup.format line parts
     → HasNumbers setup parts numbers → AreOf numbers rec → HasTexts setup parts rec → IsLineOf setup line (Good rec)
 says-record setup line parts numbers rec read accepted fits has are texts = (
   read,
@@ -147,5 +148,5 @@ module _ (one_split : OneSplit) (one_date : OneDate) (one_time : OneTime) (one_b
   IsLineOf-unique setup line dates times (Good rec) Skipped a b = absurd (a.0 b)
   IsLineOf-unique setup line dates times (Good rec) Failed a b = absurd (a.1 b.1)
   IsLineOf-unique setup line dates times (Good rec) (Good rec') a b =
-      let same = Fits-unique setup.format line a.2.0 b.2.0 a.2.1 b.2.1 in
+      let same = FitsShape-unique setup.format line a.2.0 b.2.0 a.2.1 b.2.1 in
       ap Good (IsRecordOf-unique setup dates times b.2.0 rec rec' (subst (λ (ps : List Part). IsRecordOf setup ps rec) same a.2.2) b.2.2)

@@ -4,5 +4,7 @@ pub mod Forwarded
 pub mod Letters
 pub mod Lines
 pub mod Records
+pub mod ShapeTexts
+pub mod Shapes
 pub mod Steps
 pub mod Views

@@ -17,7 +17,8 @@ use Rattle.ga_requests.specs.Requests.{HasParts}
 use Rattle.ga_requests.specs.Tables.{IsMethod, IsProtocol}
 use Rattle.ga_requests.specs.Urls as urls
 use Rattle.ga_line.specs.declared.setup.LineSetup.{LineSetup}
-use Rattle.ga_line.specs.Fits.{Part, Fits, field}
+use Rattle.ga_line.specs.Fits.{Part, field}
+use Rattle.ga_line.specs.Shapes.{FitsShape}
 use Rattle.ga_line.specs.Letters.{host_letter, date_letter, time_letter, both_letter, request_letter, method_letter, path_letter, query_letter, protocol_letter, status_letter, size_letter, referrer_letter, agent_letter, vhost_letter, user_letter, cache_letter, mime_letter, tls_letter, micros_letter, millis_letter, seconds_letter, is_taken_letter}
 
 -- the first of two fields of which a format has one at most
@@ -125,8 +126,8 @@ pub data IsRefused (setup : LineSetup) (parts : List Part) : Type 0 where
 -- why a line that isn't passed over is no valid one
 pub data Fails (setup : LineSetup) (line : List ℕ) : Type 0 where
   too_long : MAX_LINE < length line → Fails setup line
-  misfit : ((parts : List Part) → ¬ Fits setup.format line parts) → Fails setup line
-  refused : (parts : List Part) → Fits setup.format line parts → IsRefused setup parts → Fails setup line
+  misfit : ((parts : List Part) → ¬ FitsShape setup.format line parts) → Fails setup line
+  refused : (parts : List Part) → FitsShape setup.format line parts → IsRefused setup parts → Fails setup line
 
 -- a field's text as UTF-8, with U+FFFD for what isn't, and empty where the field is absent
 abbrev pub utf8_text : Option (List ℕ) → List ℕ
@@ -202,7 +203,7 @@ pub record IsRecordOf (setup : LineSetup) (parts : List Part) (rec : Record) : T
 abbrev pub IsLineOf : LineSetup → List ℕ → Line → Type 0
 IsLineOf setup line Skipped = IsPassedOver line
 IsLineOf setup line Failed = ¬ IsPassedOver line × Fails setup line
-IsLineOf setup line (Good rec) = ¬ IsPassedOver line × ¬ Fails setup line × ((parts : List Part) × Fits setup.format line parts × IsRecordOf setup parts rec)
+IsLineOf setup line (Good rec) = ¬ IsPassedOver line × ¬ Fails setup line × ((parts : List Part) × FitsShape setup.format line parts × IsRecordOf setup parts rec)
 
 -- a line says one thing
 abbrev pub SaysOneThing : LineSetup → List ℕ → Type 0

@@ -1,8 +1,9 @@
-ghost use Rattle.std.specs.Prelude.{◌≡◌, ◌∷◌, ◌++◌, [], ℕ, List, length};
+ghost use Rattle.std.specs.Prelude.{◌≡◌, ◌∷◌, ◌++◌, [], ℕ, List, length, true};
 ghost use Rattle.std.specs.Option.{option_copied, option_map};
 ghost use Rattle.ga_line.specs.Fits.{Part, field, host_part};
 ghost use Rattle.ga_line.specs.Steps.Fitting.{IsLetter, AreNoted, part_of, noted, noted_text, first_taken};
 ghost use Rattle.ga_line.specs.Letters.{is_taken_letter};
+ghost use Rattle.ga_line.specs.Shapes.{read_parts};
 ghost use Rattle.ga_line.specs.Records.{day_text, request_text, taken_part};
 
 /// The first letter that a field may have.
@@ -101,10 +102,18 @@ impl<'a> Fields<'a> {
     {
         self.taken
     }
+
+    /// Takes back the time that the answer took where it was noted after this one, which is that of the earlier leaves.
+    pub fn keep_taken(&mut self, first: Option<(u8, &'a [u8])>)
+        ensures { (before own : List Part) → AreNoted (before ++ own) self.old → option_map part_of first.entry ≡ taken_part before →
+            AreNoted (before ++ read_parts true own) self.new }
+    {
+        self.taken = first;
+    }
 }
 
 /// Whether the field has the time that the answer took.
-fn is_taken_letter(letter: u8) -> bool
+pub(crate) fn is_taken_letter(letter: u8) -> bool
     ensures { result ≡ is_taken_letter letter }
 {
     matches!(letter, b'D' | b'L' | b'T')

@@ -1,4 +1,4 @@
-ghost use Rattle.std.specs.Prelude.{◌≡◌, ℕ, List, [], ◌∷◌, IfSome, IfNone, IsTrue, IsFalse, slice_get};
+ghost use Rattle.std.specs.Prelude.{◌≡◌, ℕ, List, ◌∷◌, ◌++◌, IfSome, IfNone, IsTrue, IsFalse, slice_get};
 ghost use Rattle.std.specs.Option.{option_copied};
 ghost use Rattle.ga_line.specs.Fits.{Part, Fits, SkipsSpace, is_space};
 ghost use Rattle.ga_line.specs.Steps.Fitting.{AreNoted, EndsBefore, EndsLine};
@@ -8,11 +8,11 @@ use crate::fields::Fields;
 use crate::forwarded::forwarded_in;
 use ga_base::FormatItem;
 
-/// Whether a line fits the items of a format, in their order. Notes the line's fields where it does; else what is noted
-/// says nothing.
+/// Whether a line fits the items of a format, in their order. Notes the line's fields after those that are noted where it
+/// does; else what is noted says nothing.
 pub(crate) fn fit<'a>(items: &[FormatItem], line: &'a [u8], fields: &mut Fields<'a>) -> bool
-    requires { AreNoted [] fields.old }
-    ensures fits { IsTrue result → (parts : List Part) × Fits items.now line.now parts × AreNoted parts fields.new }
+    ensures fits { IsTrue result → (parts : List Part) × Fits items.now line.now parts ×
+        ((first : List Part) → AreNoted first fields.old → AreNoted (first ++ parts) fields.new) }
     ensures misfit { IsFalse result → (parts : List Part) → ¬ Fits items.now line.now parts }
 {
     let mut rest = line;

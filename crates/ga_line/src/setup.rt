@@ -1,11 +1,21 @@
 use ga_dates::{DateFormat, TimeFormat};
 use ga_format::Format;
+use ga_jsonlog::JsonFormat;
+
+/// What the lines of a log have to fit.
+#[derive(Debug, Drop)]
+pub enum Shape {
+    /// The items of a format text.
+    Plain(Format),
+    /// A JSON format: a line is an object, and its text at each leaf has to fit the leaf's items.
+    Json(JsonFormat),
+}
 
 /// How the lines of a log are read: what is made once and serves every line.
 #[derive(Debug, Drop)]
 pub struct LineSetup {
-    /// The items that a line has to fit.
-    pub format: Format,
+    /// What a line has to fit.
+    pub format: Shape,
     /// The format of `%d`, and of the day in `%x`.
     pub date: DateFormat,
     /// The format of `%t`, and of the time in `%x`.

@@ -17,7 +17,7 @@ use Rattle.ga_words.specs.declared.fault.WordFault.{WordFault}
 use Rattle.ga_words.specs.declared.fault.WordFault.TheVariants.{NoMemory as WordNoMemory}
 use Rattle.ga_one_run.specs.Configured.{EndsAtConf, IsRun, NameNoConf, RunsAfterConf, StopsAtConf, conf_name}
 use Rattle.ga_one_run.specs.Outside.{Outside, outside_of as outside}
-use Rattle.ga_one_run.specs.Printing.{ChangesOnly, TakesOrStops}
+use Rattle.ga_targets.specs.Printing.{ChangesOnly, TakesOrStops}
 use Rattle.ga_one_run.specs.Run.{RunsWords, SameFaults, faults_after}
 use Rattle.ga_one_run.specs.Statuses.{fault_line}
 use Rattle.ga_one_run.specs.Steps.Conf.{MissesConf, status_of_conf}

@@ -26,7 +26,8 @@ use Rattle.ga_words.specs.declared.settings.Settings.{Settings}
 use Rattle.ga_one_run.specs.Course.{ReachesReport, HasRules}
 use Rattle.ga_one_run.specs.Ends.{AreFollowed, Ends, HasReport, MissesInput, SaysOnly, StopsPrinting}
 use Rattle.ga_one_run.specs.Inputs.{inputs_of, place_of, rules_file}
-use Rattle.ga_one_run.specs.Printing.{FailsWriting, OutputCanTake, Stops, TakesOrStops, but_errors, delivered, report_file, stopped, target_of, unmade}
+use Rattle.ga_targets.specs.Printing.{OutputCanTake, Stops, TakesOrStops}
+use Rattle.ga_one_run.specs.Printing.{FailsWriting, but_errors, delivered, report_file, stopped, target_of, unmade}
 use Rattle.ga_one_run.specs.Run.{DiskServed, EndsBefore, FilesServed, HasGoodInput, OutputServed, SameFaults, faults_after}
 use Rattle.ga_one_run.specs.Statuses.{NamesFailed, NamesInput}
 use Rattle.ga_one_run.specs.Steps.Run.{EndsEarly, EndsRun, failed_name, input_name}
@@ -36,7 +37,7 @@ use Rattle.ga_one_run.specs.declared.status.Input.TheVariants.{Conf, Rules, Log}
 use Rattle.ga_one_run.specs.declared.status.Status.{Status}
 use Rattle.ga_one_run.specs.declared.status.Status.TheVariants.{Done, BadWords, BadConf, BadFormat, BadRules, FileFault, FileShort, DiskFault, DbDamaged, KeepDiffers, OutFault, CounterFull, NoMemory}
 use Rattle.ga_one_run.proofs.DiskFaults.{found-faults}
-use Rattle.ga_one_run.proofs.Takes.{takes-nil}
+use Rattle.ga_targets.proofs.Takes.{takes-nil}
 use Rattle.ga_one_run.proofs.Telling.{kept-rules}
 
 none-some : {A : Type 0} {a : A} → None ≡ Some a → ⊥

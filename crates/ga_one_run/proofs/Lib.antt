@@ -15,7 +15,6 @@ pub mod OneRun
 pub mod Runs
 pub mod SomeAnswer
 pub mod SomeCourse
-pub mod Takes
 pub mod Telling
 pub mod WordLaw
 pub mod Configuring

@@ -25,7 +25,8 @@ use Rattle.ga_one_run.specs.Ends.{Ends, HasReport, SaysOnly}
 use Rattle.ga_one_run.specs.Inputs.{inputs_of, rules_file}
 use Rattle.ga_one_run.specs.Keeping.{FindsThere, IsKeptSince, KeepsSince, KeptSince}
 use Rattle.ga_one_run.specs.OneRun.{Alike, DifferInWorkers, HasDatabase, HaveSameInputs, IsUntroubled, RunView, SameDatabase, SidesAgree, Wrote, with_workers}
-use Rattle.ga_one_run.specs.Printing.{TakesOrStops, but_errors, delivered, report_file, target_of}
+use Rattle.ga_targets.specs.Printing.{TakesOrStops}
+use Rattle.ga_one_run.specs.Printing.{but_errors, delivered, report_file, target_of}
 use Rattle.ga_one_run.specs.Run.{AreRefused, HasGoodInput, HaveRefused, HaveSetup, IsTrouble, NothingWasRead, RunsOver}
 use Rattle.ga_one_run.specs.Setups.{IsLineSetup, IsRefused}
 use Rattle.ga_one_run.specs.Statuses.{fault_line, IsFaultLine, NamesFailed}

@@ -19,7 +19,8 @@ use Rattle.ga_one_run.specs.Ends.{AreFollowed, Ends, SaysOnly}
 use Rattle.ga_one_run.specs.Inputs.{WalksInputs}
 use Rattle.ga_one_run.specs.Inputs.WalksInputs.{asks_none}
 use Rattle.ga_one_run.specs.Leaves.{Leaves}
-use Rattle.ga_one_run.specs.Printing.{ChangesOnly, TakesOrStops, but_errors}
+use Rattle.ga_targets.specs.Printing.{ChangesOnly, TakesOrStops}
+use Rattle.ga_one_run.specs.Printing.{but_errors}
 use Rattle.ga_one_run.specs.Run.{AreRefused, HaveRefused, RunsWords, NothingWasRead, ReadsWords, RunsOver, SameFaults, faults_after}
 use Rattle.ga_one_run.specs.Setups.{IsLineSetup, IsRefused}
 use Rattle.ga_one_run.specs.Statuses.{fault_line, NamesFailed}

@@ -16,7 +16,7 @@ use Rattle.ga_words.specs.declared.fault.WordFault.{WordFault}
 use Rattle.ga_words.specs.declared.settings.Settings.{Settings}
 use Rattle.ga_one_run.specs.Ends.{SaysOnly}
 use Rattle.ga_one_run.specs.Outside.{Outside}
-use Rattle.ga_one_run.specs.Printing.{TakesOrStops}
+use Rattle.ga_targets.specs.Printing.{TakesOrStops}
 use Rattle.ga_one_run.specs.Run.{RunsWords, SameFaults, faults_after}
 use Rattle.ga_one_run.specs.Statuses.{fault_line}
 use Rattle.ga_one_run.specs.declared.status.Input.TheVariants.{Conf}

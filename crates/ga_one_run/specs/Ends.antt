@@ -30,7 +30,8 @@ use Rattle.ga_words.specs.declared.settings.Settings.{Settings}
 use Rattle.ga_one_run.specs.Course.{ReachesReport, HasRules}
 use Rattle.ga_one_run.specs.Inputs.{IsStored, inputs_of}
 use Rattle.ga_one_run.specs.Keeping.{FailsSince, KeptSince}
-use Rattle.ga_one_run.specs.Printing.{FailsWriting, OutputCanTake, but_errors, delivered, report_file, target_of}
+use Rattle.ga_targets.specs.Printing.{OutputCanTake}
+use Rattle.ga_one_run.specs.Printing.{FailsWriting, but_errors, delivered, report_file, target_of}
 use Rattle.ga_one_run.specs.Reports.{IsTextOf}
 use Rattle.ga_one_run.specs.Setups.{setup_of}
 use Rattle.ga_one_run.specs.Outside.{Outside}

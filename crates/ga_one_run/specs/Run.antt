@@ -22,7 +22,8 @@ use Rattle.ga_words.specs.declared.settings.Settings.{Settings}
 use Rattle.ga_one_run.specs.Ends.{AreFollowed, Ends, HasReport}
 use Rattle.ga_one_run.specs.Leaves.{Leaves, LeavesSides}
 use Rattle.ga_one_run.specs.Inputs.{WalksInputs, inputs_of, place_of}
-use Rattle.ga_one_run.specs.Printing.{OutputCanTake, TakesOrStops, but_errors, report_file, target_of}
+use Rattle.ga_targets.specs.Printing.{OutputCanTake, TakesOrStops}
+use Rattle.ga_one_run.specs.Printing.{but_errors, report_file, target_of}
 use Rattle.ga_one_run.specs.Setups.{IsLineSetup, IsRefused}
 use Rattle.ga_one_run.specs.Statuses.{IsFaultLine}
 use Rattle.ga_one_run.specs.Told.{Answers, Yield}

@@ -2,14 +2,14 @@
 -- refused.
 use Rattle.std.specs.Prelude.{◌≡◌, ℕ, List, unwrap_or, Result, Ok, Err, codes}
 use Rattle.ga_agents.specs.declared.row.Rule.{Rule}
-use Rattle.ga_base.specs.declared.formats.FormatItem.{FormatItem}
 use Rattle.ga_base.specs.declared.formats.FormatFault.{FormatFault}
 use Rattle.ga_dates.specs.declared.item.Item.{Item}
 use Rattle.ga_dates.specs.declared.kind.Kind.TheVariants.{Date as DateKind, Time as TimeKind}
 use Rattle.ga_dates.specs.Grammar.{IsAnswer}
-use Rattle.ga_format.specs.FormatOf.{FormatOf}
 use Rattle.ga_format.specs.Named.{StandsFor}
 use Rattle.ga_line.specs.declared.setup.LineSetup.{LineSetup}
+use Rattle.ga_line.specs.declared.setup.Shape.{Shape}
+use Rattle.ga_line.specs.ShapeTexts.{ShapeOf}
 use Rattle.ga_panels.specs.declared.setup.PanelSetup.{PanelSetup}
 use Rattle.ga_words.specs.declared.settings.Settings.{Settings}
 use Rattle.ga_outcomes.specs.declared.setup.Setup.{Setup}
@@ -20,9 +20,9 @@ use Rattle.ga_one_run.specs.declared.status.Which.TheVariants.{Log, Date, Time}
 abbrev pub format_word : Settings → List ℕ
 format_word s = unwrap_or s.log_format (codes "COMBINED")
 
--- the items that a log format means, or its first fault: it is a format text, or the name of one
-abbrev pub LogMeans : List ℕ → Result (List FormatItem) FormatFault → Type 0
-LogMeans word answer = (text : List ℕ) × StandsFor word text × FormatOf text answer
+-- the format that a log format means, plain or JSON, or its first fault: it is a format text, or the name of one
+abbrev pub LogMeans : List ℕ → Result Shape FormatFault → Type 0
+LogMeans word answer = (text : List ℕ) × StandsFor word text × ShapeOf text answer
 
 -- how lines are read: each format is what its text means, and the flags are those of the words
 pub record IsLineSetup (s : Settings) (line : LineSetup) : Type 0 where
@@ -38,8 +38,8 @@ pub record IsLineSetup (s : Settings) (line : LineSetup) : Type 0 where
 abbrev pub IsRefused : Settings → Which → FormatFault → Type 0
 IsRefused s Log fault = LogMeans (format_word s) (Err fault)
 IsRefused s Date fault =
-    (items : List FormatItem) × LogMeans (format_word s) (Ok items) × IsAnswer DateKind s.date_format (Err fault)
-IsRefused s Time fault = (items : List FormatItem) × (dates : List Item) × LogMeans (format_word s) (Ok items)
+    (shape : Shape) × LogMeans (format_word s) (Ok shape) × IsAnswer DateKind s.date_format (Err fault)
+IsRefused s Time fault = (shape : Shape) × (dates : List Item) × LogMeans (format_word s) (Ok shape)
     × IsAnswer DateKind s.date_format (Ok dates) × IsAnswer TimeKind s.time_format (Err fault)
 
 -- how records are counted, with these rules of a browsers file

@@ -1,10 +1,10 @@
 -- The exit status of a run, and the line that it writes to standard error.
 use Rattle.std.specs.Prelude.{◌≡◌, ℕ, List, [], ◌∷◌, ◌++◌, Option, Some, None, Ok, slice_get, codes, decimal}
-use Rattle.std.specs.List.{flat_map}
 use Rattle.ga_base.specs.declared.counts.Counter.{Counter}
 use Rattle.ga_base.specs.declared.counts.Counter.TheVariants.{Lines, Bytes, Micros, Generations}
-use Rattle.ga_base.specs.FormatFaults.{fault_place, fault_text}
+use Rattle.ga_base.specs.FormatFaults.{fault_leaf, fault_place, fault_text}
 use Rattle.ga_ports.specs.declared.outs.To.{To}
+use Rattle.ga_targets.specs.Printing.{joined}
 use Rattle.ga_words.specs.Joined.{JoinedOf}
 use Rattle.ga_words.specs.declared.fault.WordFault.{WordFault}
 use Rattle.ga_words.specs.declared.fault.WordFault.TheVariants.{UnknownOption, MissingValue, BadValue, NoFormat, NoInput, Conflict, NoMemory as WordNoMemory}
@@ -35,10 +35,6 @@ code_of (DbDamaged side at) = 6
 code_of (KeepDiffers stored given) = 8
 code_of NoMemory = 7
 
--- pieces one after the other
-abbrev pub joined : List (List ℕ) → List ℕ
-joined pieces = flat_map (λ piece. piece) pieces
-
 abbrev pub counter_name : Counter → List ℕ
 counter_name Lines = codes "lines "
 counter_name Bytes = codes "bytes "
@@ -50,7 +46,12 @@ format_name Log = codes "log format"
 format_name Date = codes "date format"
 format_name Time = codes "time format"
 
--- where a format's fault is, as a byte of its text from 0
+-- the leaf of a JSON format in which its fault is, from 0
+abbrev pub leaf_pieces : Option ℕ → List (List ℕ)
+leaf_pieces None = []
+leaf_pieces (Some leaf) = codes ", leaf " ∷ decimal leaf ∷ []
+
+-- where a format's fault is, as a byte of its text, or of the leaf's, from 0
 abbrev pub place_pieces : Option ℕ → List (List ℕ)
 place_pieces None = []
 place_pieces (Some at) = codes ", byte " ∷ decimal at ∷ []
@@ -72,7 +73,8 @@ fault_pieces name Done = []
 fault_pieces name (BadWords fault) = word_pieces fault
 fault_pieces name (BadConf line) = codes "goaccess: config file, line " ∷ decimal line ∷ codes ": not a setting\n" ∷ []
 fault_pieces name (BadFormat which fault) =
-    codes "goaccess: " ∷ format_name which ∷ (place_pieces (fault_place fault) ++ codes ": " ∷ fault_text fault ∷ codes "\n" ∷ [])
+    codes "goaccess: " ∷ format_name which
+    ∷ (leaf_pieces (fault_leaf fault) ++ (place_pieces (fault_place fault) ++ codes ": " ∷ fault_text fault ∷ codes "\n" ∷ []))
 fault_pieces name (BadRules line) = codes "goaccess: browsers file, line " ∷ decimal line ∷ codes ": not a rule\n" ∷ []
 fault_pieces name (FileFault file) = codes "goaccess: " ∷ name ∷ codes ": read failed\n" ∷ []
 fault_pieces name (FileShort file at) = codes "goaccess: " ∷ name ∷ codes ": short at " ∷ decimal at ∷ codes "\n" ∷ []

@@ -1,13 +1,13 @@
-ghost use Rattle.std.specs.Prelude.{◌≡◌, ◌≤◌, ◌∷◌, [], codes, decimal, map};
+ghost use Rattle.std.specs.Prelude.{◌≡◌, ◌≤◌, ◌∷◌, ◌++◌, [], codes, decimal, map};
 ghost use Rattle.ga_ports.specs.declared.outs.To.TheVariants.{Stderr};
 ghost use Rattle.ga_ports.specs.Trace.{OutsTrace};
-ghost use Rattle.ga_one_run.specs.Printing.{ChangesOnly, TakesOrStops};
-ghost use Rattle.ga_one_run.specs.Statuses.{counter_name, fault_line, format_name, joined, word_pieces};
+ghost use Rattle.ga_targets.specs.Printing.{ChangesOnly, TakesOrStops, joined};
+ghost use Rattle.ga_one_run.specs.Statuses.{counter_name, fault_line, format_name, place_pieces, word_pieces};
 
-use crate::printing::print;
 use crate::{Status, Which};
 use ga_base::{Counter, FormatFault};
-use ga_ports::{Outs, To};
+use ga_ports::Outs;
+use ga_targets::say;
 use ga_words::WordFault;
 use itoa::Buffer;
 
@@ -53,7 +53,21 @@ fn tell_format<O: Outs>(outs: &mut O, which: Which, fault: &FormatFault)
 {
     let format = format_name(which);
     let text = fault.text().as_bytes();
-    match fault.place() {
+    match fault.leaf() {
+        None => tell_in_text(outs, format, fault.place(), text),
+        Some(leaf) => tell_in_leaf(outs, format, leaf, fault.place(), text),
+    }
+}
+
+/// Writes the fault of a format at a place of its text, or without one.
+fn tell_in_text<'a, O: Outs>(outs: &mut O, format: &'a [u8], place: Option<u64>, text: &'a [u8])
+    ensures line { TakesOrStops (joined (codes "goaccess: " ∷ format.now ∷ (place_pieces place ++ codes ": " ∷ text.now ∷ codes "\n" ∷ [])))
+        (O.view outs.old).stderr (O.view outs.new).stderr }
+    ensures others { ChangesOnly Stderr (O.view outs.old) (O.view outs.new) }
+    ensures starved { (O.view outs.old).starved ≤ (O.view outs.new).starved }
+    ensures calls { OutsTrace (O.view outs.old) (O.view outs.new) }
+{
+    match place {
         None => say(outs, &[b"goaccess: ", format, b": ", text, b"\n"]),
         Some(at) => {
             let mut digits = Buffer::new();
@@ -61,6 +75,49 @@ fn tell_format<O: Outs>(outs: &mut O, which: Which, fault: &FormatFault)
             say(
                 outs,
                 &[b"goaccess: ", format, b", byte ", at, b": ", text, b"\n"],
+            )
+        }
+    }
+}
+
+/// Writes the fault of a leaf of a JSON format at a place of the leaf's text, or without one.
+fn tell_in_leaf<'a, O: Outs>(
+    outs: &mut O,
+    format: &'a [u8],
+    leaf: u64,
+    place: Option<u64>,
+    text: &'a [u8],
+)
+    ensures line { TakesOrStops (joined (codes "goaccess: " ∷ format.now ∷ codes ", leaf " ∷ decimal leaf ∷ (place_pieces place ++ codes ": " ∷ text.now ∷ codes "\n" ∷ [])))
+        (O.view outs.old).stderr (O.view outs.new).stderr }
+    ensures others { ChangesOnly Stderr (O.view outs.old) (O.view outs.new) }
+    ensures starved { (O.view outs.old).starved ≤ (O.view outs.new).starved }
+    ensures calls { OutsTrace (O.view outs.old) (O.view outs.new) }
+{
+    let mut numbers = Buffer::new();
+    let leaf = numbers.format(leaf).as_bytes();
+    let head = b", leaf ";
+    match place {
+        None => say(
+            outs,
+            &[b"goaccess: ", format, head, leaf, b": ", text, b"\n"],
+        ),
+        Some(at) => {
+            let mut digits = Buffer::new();
+            let at = digits.format(at).as_bytes();
+            say(
+                outs,
+                &[
+                    b"goaccess: ",
+                    format,
+                    head,
+                    leaf,
+                    b", byte ",
+                    at,
+                    b": ",
+                    text,
+                    b"\n",
+                ],
             )
         }
     }
@@ -170,20 +227,5 @@ fn format_name(which: Which) -> &'static [u8]
         Which::Log => b"log format",
         Which::Date => b"date format",
         Which::Time => b"time format",
-    }
-}
-
-/// Writes pieces one after the other to standard error, up to its first fault.
-fn say<O: Outs>(outs: &mut O, pieces: &[&[u8]])
-    ensures line { TakesOrStops (joined (map (λ piece. piece.now) pieces.now)) (O.view outs.old).stderr (O.view outs.new).stderr }
-    ensures others { ChangesOnly Stderr (O.view outs.old) (O.view outs.new) }
-    ensures starved { (O.view outs.old).starved ≤ (O.view outs.new).starved }
-    ensures calls { OutsTrace (O.view outs.old) (O.view outs.new) }
-{
-    for piece in pieces {
-        match print(outs, To::Stderr, piece) {
-            Ok(()) => {}
-            Err(_) => return,
-        }
     }
 }

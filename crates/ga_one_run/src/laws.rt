@@ -25,8 +25,7 @@ ghost use Rattle.ga_one_run.specs.declared.status.Status.{Status as TheStatus};
 use ga_agents::laws::one_reading;
 use ga_dates::laws::one_format;
 use ga_disk::Disk;
-use ga_format::laws::one_answer as one_answer_of_formats;
-use ga_line::laws::one_meaning;
+use ga_line::laws::{one_meaning, one_shape};
 use ga_logs::laws::{one_course, one_following, one_portion, read_as_told};
 use ga_outcomes::laws::some_count;
 use ga_panels::laws::one_list_of_keys;
@@ -41,7 +40,7 @@ pub(crate) fn one_outcome()
     ensures { (s : TheSettings) (a b : Result TheSetup TheFault) → GivesLineSetup s a → GivesLineSetup s b → a ≡ b }
 {
     one_format();
-    one_answer_of_formats();
+    one_shape();
 }
 
 /// Words say settings once at the most, after those of a configuration file, and the formats of these are read in one way.

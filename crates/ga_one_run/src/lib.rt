@@ -17,6 +17,6 @@ mod run_words;
 mod setups;
 mod status;
 
-pub use printing::{deliver, print};
+pub use printing::deliver;
 pub use run_words::goaccess_run;
 pub use status::{Input, Status, Which};

@@ -1,27 +1,11 @@
-ghost use Rattle.ga_ports.specs.Outs.{CanTake};
 ghost use Rattle.ga_ports.specs.Trace.{OutsTrace};
 ghost use Rattle.std.specs.Prelude.{option_map};
 ghost use Rattle.std.specs.Option.{option_copied};
-ghost use Rattle.ga_one_run.specs.Printing.{Delivers, Prints};
+ghost use Rattle.ga_one_run.specs.Printing.{Delivers};
 
 use ga_base::Text;
 use ga_ports::{Outs, To};
-
-/// Writes all bytes to a target. An `Err` is the number of bytes that it took before it failed.
-pub fn print<O: Outs>(outs: &mut O, to: To, bytes: &[u8]) -> Result<(), u64>
-    requires { CanTake to (O.view outs.old) }
-    ensures prints { Prints to bytes.now (O.view outs.old) (O.view outs.new) result }
-    ensures calls { OutsTrace (O.view outs.old) (O.view outs.new) }
-{
-    let mut at = 0;
-    while at < bytes.len() {
-        match outs.write(to, &bytes[at..]) {
-            Ok(count) => at += count,
-            Err(_) => return Err(at as u64),
-        }
-    }
-    Ok(())
-}
+use ga_targets::print;
 
 /// Writes a report: to the file of this name, which is made first, or to standard output where there is none. An `Err` is
 /// the number of bytes that were taken before its target failed, 0 where the file couldn't be made.

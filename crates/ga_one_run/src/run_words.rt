@@ -5,7 +5,7 @@ ghost use Rattle.ga_words.specs.Joined.{AreConfWords, NamesConf};
 ghost use Rattle.ga_one_run.specs.Configured.{EndsAtConf, IsRun, RunsAfterConf};
 ghost use Rattle.ga_one_run.specs.Configured as spec;
 ghost use Rattle.ga_one_run.specs.Outside.{outside_of};
-ghost use Rattle.ga_one_run.specs.Printing.{ChangesOnly, TakesOrStops};
+ghost use Rattle.ga_targets.specs.Printing.{ChangesOnly, TakesOrStops};
 ghost use Rattle.ga_one_run.specs.Run.{RunsWords};
 ghost use Rattle.ga_one_run.specs.Statuses.{fault_line};
 

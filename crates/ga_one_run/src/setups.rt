@@ -12,8 +12,8 @@ use crate::Which;
 use ga_agents::Rules;
 use ga_base::{FormatFault, NoMemory, Text};
 use ga_dates::{DateFormat, TimeFormat, compile_date, compile_time};
-use ga_format::{Format, compile, format_text};
-use ga_line::LineSetup;
+use ga_format::format_text;
+use ga_line::{LineSetup, Shape, compile_shape};
 use ga_panels::PanelSetup;
 use ga_words::Settings;
 use std::alloc::Global;
@@ -86,12 +86,12 @@ fn format_word(settings: &Settings) -> &str
     }
 }
 
-/// The log format of a format text or of the name of one.
-fn log_format(alloc: Global, word: &str) -> Result<Format, SetupFault>
-    ensures ok { IfOk result (λ items. LogMeans word.now (Ok items)) }
+/// The log format of a format text, plain or JSON, or of the name of one.
+fn log_format(alloc: Global, word: &str) -> Result<Shape, SetupFault>
+    ensures ok { IfOk result (λ shape. LogMeans word.now (Ok shape)) }
     ensures fault { IfErr result (IsRefusal WhichLog (λ fault. LogMeans word.now (Err fault))) }
 {
-    match compile(alloc, &Text::of(alloc, format_text(word))?) {
+    match compile_shape(alloc, &Text::of(alloc, format_text(word))?) {
         Ok(format) => Ok(format),
         Err(fault) => Err(refusal(Which::Log, fault)),
     }

@@ -1,11 +1,14 @@
--- What one more row, child or panel does to the text of them.
+-- What one more row, child, panel or key does to the text of them.
 use Rattle.std.proofs.Common.{◌++◌, ◌∷◌, ◌≡◌, ◌≤◌, ◌<◌, ◌+◌, ◌∙◌, ap, sym, append_assoc, append-nil, List, ℕ, suc, drop, length, get_or, arith}
 use Rattle.std.proofs.Math.Seq.{drop-cons}
 use Rattle.std.proofs.lemmas.List.{drop_all}
-use Rattle.std.specs.Prelude.{decimal, []}
+use Rattle.std.proofs.lemmas.Option.{get_or_from_slice_get, slice_get_within}
+use Rattle.std.specs.Prelude.{decimal, [], Some, slice_get}
 use Rattle.ga_report.specs.declared.report.Item.{Item}
 use Rattle.ga_report.specs.declared.report.PanelList.{PanelList}
 use Rattle.ga_report.specs.declared.report.Row.{Row}
+use Rattle.ga_summary.specs.SummaryRows.{SummaryRow}
+use Rattle.ga_print.specs.Keys.{key_fields, key_lines}
 use Rattle.ga_print.specs.Names.{panel_name}
 use Rattle.ga_print.specs.Csv.{child_lines, item_fields, line, panel_lines, row_lines}
 
@@ -54,6 +57,15 @@ panel-step lists n list text whole below at e =
 pub panel-done : (lists : List PanelList) (n : ℕ) (text whole : List ℕ) → length lists ≤ n → text ++ panel_lines (drop n lists) ≡ whole → text ≡ whole
 panel-done lists n text whole all e =
     sym (append-nil text) ∙ ap (λ (ls : List PanelList). text ++ panel_lines ls) (sym (drop_all n lists all)) ∙ e
+
+pub key-step : (rows : List SummaryRow) (n : ℕ) (row : SummaryRow) (text whole : List ℕ) → slice_get rows n ≡ Some row → text ++ key_lines (drop n rows) ≡ whole
+    → (text ++ line (key_fields row)) ++ key_lines (drop (n + 1) rows) ≡ whole
+key-step rows n row text whole at e =
+    append_assoc text (line (key_fields row)) (key_lines (drop (n + 1) rows))
+    ∙ ap (λ (rs : List SummaryRow). text ++ key_lines rs) (sym (next rows n row (slice_get_within rows n row at) (sym (get_or_from_slice_get rows n row row at)))) ∙ e
+
+pub key-done : (rows : List SummaryRow) (n : ℕ) (text whole : List ℕ) → length rows ≤ n → text ++ key_lines (drop n rows) ≡ whole → text ≡ whole
+key-done rows n text whole all e = sym (append-nil text) ∙ ap (λ (rs : List SummaryRow). text ++ key_lines rs) (sym (drop_all n rows all)) ∙ e
 
 pub six-lines : (t a b c d e f : List ℕ) → (((((t ++ a) ++ b) ++ c) ++ d) ++ e) ++ f ≡ t ++ (((((a ++ b) ++ c) ++ d) ++ e) ++ f)
 six-lines t a b c d e f =

@@ -26,14 +26,14 @@ pub fn csv(alloc: Global, report: &Report) -> Result<Bytes, NoMemory>
     Ok(Bytes::from(finish(writer)?))
 }
 
-fn new_writer(alloc: Global) -> Writer<Vec<u8>>
+pub(crate) fn new_writer(alloc: Global) -> Writer<Vec<u8>>
     ensures { HasWritten [] result }
 {
     WriterBuilder::new().from_writer(Vec::new(alloc))
 }
 
 /// The text that was written.
-fn finish(writer: Writer<Vec<u8>>) -> Result<Vec<u8>, NoMemory>
+pub(crate) fn finish(writer: Writer<Vec<u8>>) -> Result<Vec<u8>, NoMemory>
     ensures { IfOk result (λ text. (written : _) → HasWritten written writer → text.items ≡ written) }
 {
     match writer.into_inner() {
@@ -251,7 +251,7 @@ fn write_with_shares<'a>(
 }
 
 /// Writes a row of these fields.
-fn write_fields(writer: &mut Writer<Vec<u8>>, fields: &[&[u8]]) -> Result<(), NoMemory>
+pub(crate) fn write_fields(writer: &mut Writer<Vec<u8>>, fields: &[&[u8]]) -> Result<(), NoMemory>
     ensures { OnOk result ((text : _) → HasWritten text writer.old → HasWritten (text ++ row_text default_writer (map (λ field. field.now) fields.now)) writer.new) }
 {
     match writer.write_fields(fields) {

@@ -18,6 +18,8 @@ mod formats;
 #[cfg(test)]
 mod hosts;
 #[cfg(test)]
+mod json_formats;
+#[cfg(test)]
 mod lines;
 #[cfg(test)]
 mod panels;

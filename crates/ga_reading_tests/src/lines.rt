@@ -1,8 +1,8 @@
 use ga_base::{FormatFault, Line, Record, Text};
 use ga_cases::hold;
 use ga_dates::{DEFAULT_DATE, DEFAULT_TIME, compile_date, compile_time};
-use ga_format::{compile, format_text};
-use ga_line::{LineSetup, read_line};
+use ga_format::format_text;
+use ga_line::{LineSetup, compile_shape, read_line};
 use std::alloc::Global;
 use std::test::Fail;
 
@@ -225,8 +225,36 @@ const EARLY_HOSTS: &str = "\
 01/Jan/2024 /a|10.0.0.1,7 => 10.0.0.1|20240101|None|||/a|0|7|None|||||||
 ";
 
+/// The JSON format of the lines below.
+const JSON: &str = r#"{"ip":"%h","t":"%d:%t %^","req":{"m":"%m","u":"%U"},"st":"%s","ua":["%u"]}"#;
+
+/// Lines that are JSON objects.
+const OBJECTS: &str = r#"## objects with all members, in any order, and more
+{"ip":"192.0.2.1","t":"01/Jan/2024:00:00:00 +0000","req":{"m":"GET","u":"/a"},"st":200,"ua":["curl/8.0"]} => 192.0.2.1|20240101|Some(0)|GET||/a|200|0|None||curl/8.0|||||
+ {"ua":["a\u00e9","b"],"req":{"u":"\/b","x":{}},"st":"404","t":"01/Jan/2024:00:00:00 +0000","ip":"h"} => h|20240101|Some(0)|||/b|404|0|None||aé|||||
+## the last of equal members
+{"ip":"g","t":"01/Jan/2024:00:00:00 +0000","req":{"u":"/a"},"ip":"h"} => h|20240101|Some(0)|||/a|0|0|None|||||||
+## values without a text
+{"ip":"h","t":"01/Jan/2024:00:00:00 +0000","req":{"u":"/a","m":null},"st":200.0,"ua":[]} => h|20240101|Some(0)|||/a|0|0|None|||||||
+{"ip":true,"t":"01/Jan/2024:00:00:00 +0000","req":{"u":18446744073709551615}} => true|20240101|Some(0)|||18446744073709551615|0|0|None|||||||
+{"ip":"h","t":"01/Jan/2024:00:00:00 +0000","req":{"u":18446744073709551616}} => failed
+## objects that lack a part, and what is none
+{"ip":"h","t":"01/Jan/2024:00:00:00 +0000","st":200} => failed
+{"ip":"h","t":"01/Jan/2024:00:00:00 +0000","req":["/a"]} => failed
+{"ip":"h","t":"01/Jan/2024:00:00:00 +0000","req":{"u":"/a"},"n":1e400} => failed
+{"ip":"h","t":"01/Jan/2024:00:00:00 +0000","req":{"u":"/a!"}} => failed
+["h"] => failed
+# {} => skipped
+"#;
+
+/// Lines in which an earlier leaf has the time taken.
+const LATER_TIMES: &str = r#"## the first time taken of the format
+{"a":"7","b":"h 01/Jan/2024 /a","c":"2"} => h|20240101|None|||/a|0|0|Some(7)|||||||
+{"b":"h 01/Jan/2024 /a","c":"2"} => h|20240101|None|||/a|0|0|None|||||||
+"#;
+
 /// The tables, with the options under which their lines are read, and their formats.
-const TABLES: [(&str, &str, &str); 19] = [
+const TABLES: [(&str, &str, &str); 21] = [
     ("", "COMMON", COMMON_LINES),
     ("", "COMBINED", COMBINED_LINES),
     ("digits", "%h [%x] \"%r\"", MOMENTS),
@@ -246,6 +274,12 @@ const TABLES: [(&str, &str, &str); 19] = [
     ("", "~h{, }|%d %r", ENTRIES),
     ("", "%d %r|~h{, }", LAST_HOSTS),
     ("", "%d %r|~h{,},%b", EARLY_HOSTS),
+    ("", JSON, OBJECTS),
+    (
+        "",
+        "{\"a\":\"%D\",\"b\":\"%h %d %U\",\"c\":\"%T\"}",
+        LATER_TIMES,
+    ),
 ];
 
 /// The formats of dates and times under these options.
@@ -259,7 +293,7 @@ fn formats_of(options: &str) -> (&'static str, &'static str) {
 /// The setup of a log format under these options. Without any a host may be any text.
 fn setup_of(alloc: Global, options: &str, format: &str) -> Result<LineSetup, FormatFault> {
     let (date, time) = formats_of(options);
-    let format = compile(alloc, &Text::of(alloc, format_text(format))?)?;
+    let format = compile_shape(alloc, &Text::of(alloc, format_text(format))?)?;
     let date = compile_date(alloc, &Text::of(alloc, date)?)?;
     let time = compile_time(alloc, &Text::of(alloc, time)?)?;
     Ok(LineSetup {

@@ -63,6 +63,66 @@ a log format without a date
 goaccess: log format: no date
 
 =====
+a JSON format with a field directly followed by a field
+-----
+--log-format={\"a\":\"%h%d\"}|a
+-----
+
+-----
+1
+goaccess: log format, leaf 0, byte 0: no delimiter
+
+=====
+a JSON format without a request
+-----
+--log-format={\"ip\":\"%h\",\"t\":\"%d\"}|a
+-----
+
+-----
+1
+goaccess: log format: no request
+
+=====
+a JSON format with a number
+-----
+--log-format={\"a\":1}|a
+-----
+
+-----
+1
+goaccess: log format, leaf 0: bad shape
+
+=====
+a JSON format with null after a leaf
+-----
+--log-format={\"b\":null,\"a\":\"%h\"}|a
+-----
+
+-----
+1
+goaccess: log format, leaf 1: bad shape
+
+=====
+a JSON format that gives a host twice, before what it doesn't know
+-----
+--log-format={\"b\":\"x%h%z\",\"a\":\"%h\"}|a
+-----
+
+-----
+1
+goaccess: log format, leaf 1, byte 1: repeated
+
+=====
+a JSON format that isn't closed
+-----
+--log-format={|a
+-----
+
+-----
+1
+goaccess: log format: not JSON
+
+=====
 an option that there isn't
 -----
 --bogus

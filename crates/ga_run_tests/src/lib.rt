@@ -17,6 +17,8 @@ mod histories;
 #[cfg(test)]
 mod kept_days;
 #[cfg(test)]
+mod merging;
+#[cfg(test)]
 mod reports;
 #[cfg(test)]
 mod runs;

@@ -257,6 +257,66 @@ id,parent_id,panel,hits,hits%,visitors,visitors%,bytes,bytes%,avgts,cumts,maxts,
 1,0,status_codes,1,100.00,1,100.00,10,100.00,0,0,0,,,200
 
 =====
+lines that are JSON objects, one without its request
+-----
+--log-format={\"ip\":\"%h\",\"t\":\"%d:%t %^\",\"req\":{\"m\":\"%m\",\"u\":\"%U\"},\"st\":\"%s\",\"ua\":[\"%u\"]}|-o|csv|a.log
+-----
+{\"ip\":\"192.0.2.1\",\"t\":\"01/Jan/2024:00:00:00 +0000\",\"req\":{\"m\":\"GET\",\"u\":\"/a\"},\"st\":200,\"ua\":[\"curl/8.0\"]}
+{\"ip\":\"192.0.2.1\",\"t\":\"01/Jan/2024:00:00:00 +0000\",\"st\":200,\"ua\":[\"curl/8.0\"]}
+
+-----
+0
+id,parent_id,panel,hits,hits%,visitors,visitors%,bytes,bytes%,avgts,cumts,maxts,method,protocol,data
+0,,general,2,,,,,,,,,,,total_requests
+1,,general,1,,,,,,,,,,,valid_requests
+2,,general,1,,,,,,,,,,,failed_requests
+3,,general,0,,,,,,,,,,,excluded_hits
+4,,general,1,,,,,,,,,,,unique_visitors
+5,,general,0,,,,,,,,,,,bandwidth
+0,,visitors,1,100.00,1,100.00,0,0.00,0,0,0,,,20240101
+0,,requests,1,100.00,1,100.00,0,0.00,0,0,0,GET,,/a
+0,,hosts,1,100.00,1,100.00,0,0.00,0,0,0,,,192.0.2.1
+0,,os,1,100.00,1,100.00,0,0.00,0,0,0,,,Unknown
+1,0,os,1,100.00,1,100.00,0,0.00,0,0,0,,,Unknown
+0,,browsers,1,100.00,1,100.00,0,0.00,0,0,0,,,Others
+1,0,browsers,1,100.00,1,100.00,0,0.00,0,0,0,,,curl/8.0
+0,,visit_times,1,100.00,1,100.00,0,0.00,0,0,0,,,00
+0,,status_codes,1,100.00,1,100.00,0,0.00,0,0,0,,,2xx Success
+1,0,status_codes,1,100.00,1,100.00,0,0.00,0,0,0,,,200
+
+=====
+JSON objects with members in any order, and what is none
+-----
+--log-format={\"ip\":\"%h\",\"t\":\"%d:%t %^\",\"req\":{\"m\":\"%m\",\"u\":\"%U\"},\"st\":\"%s\",\"ua\":[\"%u\"]}|-o|csv|a.log
+-----
+{\"ip\":\"192.0.2.9\",\"ua\":[\"Foo \\\"x\\\"\\u00e9\",\"y\"],\"req\":{\"u\":\"\\/b?c\",\"m\":\"GET\",\"more\":null},\"st\":404.0,\"t\":\"01/Jan/2024:00:00:00 +0000\",\"ip\":\"192.0.2.2\"}
+{\"ip\":\"192.0.2.3\",\"t\":\"01/Jan/2024:00:00:00 +0000\",\"req\":{\"m\":null,\"u\":\"/c\"},\"ua\":[]}
+{\"ip\":\"192.0.2.4\",\"t\":\"01/Jan/2024:00:00:00 +0000\",\"req\":[{\"u\":\"/d\"}]}
+{\"ip\":\"192.0.2.5\",\"t\":\"01/Jan/2024:00:00:00 +0000\",\"req\":{\"u\":\"/e\"},\"st\":\"600\"}
+{\"ip\":\"192.0.2.6\",\"t\":\"01/Jan/2024:00:00:00 +0000\",\"req\":{\"u\":\"/f\"},\"n\":1e400}
+[\"192.0.2.7\"]
+
+-----
+0
+id,parent_id,panel,hits,hits%,visitors,visitors%,bytes,bytes%,avgts,cumts,maxts,method,protocol,data
+0,,general,6,,,,,,,,,,,total_requests
+1,,general,2,,,,,,,,,,,valid_requests
+2,,general,4,,,,,,,,,,,failed_requests
+3,,general,0,,,,,,,,,,,excluded_hits
+4,,general,2,,,,,,,,,,,unique_visitors
+5,,general,0,,,,,,,,,,,bandwidth
+0,,visitors,2,100.00,2,100.00,0,0.00,0,0,0,,,20240101
+0,,requests,1,50.00,1,50.00,0,0.00,0,0,0,GET,,/b?c
+1,,requests,1,50.00,1,50.00,0,0.00,0,0,0,,,/c
+0,,hosts,1,50.00,1,50.00,0,0.00,0,0,0,,,192.0.2.2
+1,,hosts,1,50.00,1,50.00,0,0.00,0,0,0,,,192.0.2.3
+0,,os,1,50.00,1,50.00,0,0.00,0,0,0,,,Unknown
+1,0,os,1,50.00,1,50.00,0,0.00,0,0,0,,,Unknown
+0,,browsers,1,50.00,1,50.00,0,0.00,0,0,0,,,Unknown
+1,0,browsers,1,50.00,1,50.00,0,0.00,0,0,0,,,Unknown
+0,,visit_times,2,100.00,2,100.00,0,0.00,0,0,0,,,00
+
+=====
 an agent with quotes
 -----
 --log-format=COMBINED|-o|csv|a.log

@@ -15,7 +15,7 @@ ghost use Rattle.ga_tallies.specs.Steps.OneLine.{Adds, IsTooMuch, OverfillsLine,
 use crate::agents::AgentRef;
 use crate::{Agents, Tally, TallyFault};
 use ga_base::{LIMIT, NoMemory, RecordRef, Sums, Totals};
-use ga_line::{LineView, read_view};
+use ga_line::{LineView, line_pieces, read_view};
 use ga_numbers::VisitorRef;
 use ga_outcomes::Setup;
 use ga_panels::{PanelSetup, RecordFacts};
@@ -56,7 +56,8 @@ impl Tally {
         ensures full { IsErrOf result TallyFault.Full → OverfillsLine setup.now line.now self.old }
         ensures known { AreAgents setup.now.panels.rules agents.new }
     {
-        match read_view(alloc, &setup.line, line)? {
+        let pieces = line_pieces(alloc, &setup.line, line)?;
+        match read_view(alloc, &setup.line, line, &pieces)? {
             LineView::Skipped => Ok(()),
             LineView::Failed => self.add_totals(FAILED),
             LineView::Good(view) => self.count_record(alloc, &setup.panels, agents, view.as_ref()),

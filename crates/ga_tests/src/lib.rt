@@ -7,10 +7,12 @@
 pub mod base;
 pub mod batches;
 pub mod databases;
+pub mod json;
 pub mod lines;
 pub mod outside;
 pub mod requests;
 pub mod runs;
 pub mod summaries;
 pub mod tables;
+pub mod tool;
 pub mod words;

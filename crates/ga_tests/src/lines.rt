@@ -8,14 +8,13 @@ use ga_base::{
     Visitor,
 };
 use ga_dates::{DateFormat, TimeFormat};
-use ga_format::Format;
 use ga_hosts::Ranges;
-use ga_line::{LineSetup, read_line};
+use ga_line::{LineSetup, Shape, read_line};
 use ga_panels::{PanelSetup, is_excluded, keys_of, visitor_of};
 use std::alloc::Global;
 
 /// How lines are read.
-pub fn line_setup(format: Format, date: DateFormat, time: TimeFormat) -> LineSetup {
+pub fn line_setup(format: Shape, date: DateFormat, time: TimeFormat) -> LineSetup {
     LineSetup {
         format,
         date,

@@ -1,6 +1,6 @@
 //! Words, formats and generated lines.
 
-use ga_base::{Bytes, FormatFault, FormatItem, Needed, NoMemory, Text, Texts};
+use ga_base::{Bytes, FormatFault, FormatItem, LeafFault, Needed, NoMemory, Text, Texts};
 use ga_conf::{ConfFault, read_conf};
 use ga_dates::{
     DateFormat, TimeFormat, compile_date, compile_time, read_both, read_date, read_time,
@@ -90,7 +90,7 @@ pub const WORD_FAULTS: [WordFault; 7] = [
 ];
 
 /// The faults of formats.
-pub const FORMAT_FAULTS: [FormatFault; 8] = [
+pub const FORMAT_FAULTS: [FormatFault; 11] = [
     FormatFault::UnknownSpecifier { at: 0 },
     FormatFault::Repeated { at: 0 },
     FormatFault::NoDelimiter { at: 0 },
@@ -104,6 +104,13 @@ pub const FORMAT_FAULTS: [FormatFault; 8] = [
         field: Needed::Request,
     },
     FormatFault::BadDirective { at: 0 },
+    FormatFault::NotJson,
+    FormatFault::BadShape { leaf: 0 },
+    FormatFault::Leaf {
+        leaf: 0,
+        kind: LeafFault::Unknown,
+        at: 0,
+    },
     FormatFault::NoMemory,
 ];
 

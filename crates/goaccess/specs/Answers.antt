@@ -4,7 +4,7 @@ use Rattle.std.specs.Str.{bytes_eq}
 use Rattle.ga_counters.specs.Counts.{raised}
 use Rattle.ga_ports.specs.Outs.{OutsView, takes}
 use Rattle.ga_ports.specs.declared.outs.To.TheVariants.{Stdout}
-use Rattle.ga_one_run.specs.Printing.{ChangesOnly, TakesOrStops}
+use Rattle.ga_targets.specs.Printing.{ChangesOnly, TakesOrStops}
 use Rattle.goaccess.specs.declared.answers.Answer.{Answer}
 use Rattle.goaccess.specs.declared.answers.Answer.TheVariants.{Help, Version}
 use Rattle.goaccess.specs.declared.answers.TheConstants.{HELP, VERSION}

@@ -2,7 +2,7 @@
 use Rattle.std.specs.Prelude.{◌≡◌, ◌⊎◌, ℕ, List, map, drop, String, string_bytes, Option, Some, None}
 use Rattle.std.specs.declared.io.Error.{Error}
 use Rattle.ga_ports.specs.declared.outs.To.TheVariants.{Stderr}
-use Rattle.ga_one_run.specs.Printing.{ChangesOnly, TakesOrStops}
+use Rattle.ga_targets.specs.Printing.{ChangesOnly, TakesOrStops}
 use Rattle.ga_one_run.specs.Configured.{IsRun}
 use Rattle.ga_one_run.specs.Run.{NothingWasRead}
 use Rattle.ga_one_run.specs.Statuses.{code_of}

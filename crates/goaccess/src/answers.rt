@@ -2,8 +2,8 @@ ghost use Rattle.std.specs.Prelude.{◌≡◌};
 ghost use Rattle.goaccess.specs.Answers.{answer_to, Shows};
 
 use ga_base::Text;
-use ga_one_run::print;
 use ga_ports::{Outs, To};
+use ga_targets::print;
 
 /// What the program answers of itself.
 #[derive(Clone, Copy, Debug, PartialEq, Eq)]

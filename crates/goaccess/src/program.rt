@@ -5,15 +5,15 @@ ghost use Rattle.goaccess.specs.Program.{EndsOver, EndsWith, Lacks, words_in};
 ghost use Rattle.goaccess.specs.Words.{words_line, words_code};
 ghost use Rattle.ga_ports.specs.declared.outs.To.TheVariants.{Stderr};
 ghost use Rattle.ga_one_run.specs.Outside.{outside_of};
-ghost use Rattle.ga_one_run.specs.Printing.{ChangesOnly, TakesOrStops};
+ghost use Rattle.ga_targets.specs.Printing.{ChangesOnly, TakesOrStops};
 
 use crate::answers::{answer_to, show};
 use crate::words::{WordsFault, words};
 use ga_base::Texts;
 use ga_disk::Disk;
-use ga_one_run::print;
 use ga_ports::{Files, NoGate, Outs, To};
 use ga_run::goaccess_run;
+use ga_targets::print;
 use std::alloc::Global;
 use std::env::Args;
 use std::io;

@@ -1,19 +1,26 @@
 -- What the steps promise in which a line is fitted: the fields so far, and what is left of the items and of the line.
-use Rattle.std.specs.Prelude.{◌≡◌, ℕ, ◌-◌, ◌==◌, ◌<◌, ◌≤◌, ◌+◌, List, ◌∷◌, ◌++◌, Option, Some, None, slice_index_or, length, if◌then◌else◌}
+use Rattle.std.specs.Prelude.{◌≡◌, ℕ, Bool, false, ◌-◌, ◌==◌, ◌<◌, ◌≤◌, ◌+◌, List, ◌∷◌, ◌++◌, Option, Some, None, slice_index_or, length, if◌then◌else◌}
 use Rattle.std.specs.Borrow.{Bor}
 use Rattle.std.specs.Option.{option_copied, option_map}
 use Rattle.ga_base.specs.declared.formats.FormatItem.{FormatItem}
 use Rattle.ga_base.specs.declared.formats.FormatItem.TheVariants.{Literal}
 use Rattle.ga_line.specs.declared.fields.Fields.{Fields}
 use Rattle.ga_line.specs.declared.fields.TheConstants.{FIRST_LETTER, LETTERS}
+use Rattle.ga_jsonlog.specs.declared.leaf.JsonLeaf.{JsonLeaf}
+use Rattle.ga_jsonlog.specs.declared.pieces.Pieces.{Pieces}
+use Rattle.ga_jsonlog.specs.Pieces.{PiecesOf}
+use Rattle.ga_line.specs.declared.setup.Shape.{Shape}
+use Rattle.ga_line.specs.declared.setup.Shape.TheVariants.{Plain, Json}
 use Rattle.ga_line.specs.Fits.{Part, Fits, EndsAt, NeverEnds, field}
+use Rattle.ga_line.specs.Shapes.{FitsLeaves, read_parts}
 use Rattle.ga_line.specs.Letters.{is_taken_letter}
 use Rattle.ga_line.specs.Records.{taken_part}
 
--- the letters that fields may have
+-- the letters under which a field's text is asked for: all but those of the time taken, of which the first alone is
 pub record IsLetter (letter : ℕ) : Type 0 where
   pub first : FIRST_LETTER ≤ letter
   pub last : letter < FIRST_LETTER + LETTERS
+  pub untaken : is_taken_letter letter ≡ false
 
 -- what is known of the field with a letter after one more field: the first is kept
 abbrev pub noted : ℕ → Option (List ℕ) → Part → Option (List ℕ)
@@ -55,3 +62,14 @@ EndsLine next rest = (stop : ℕ) → next ≡ Some (Literal stop) → NeverEnds
 pub record IsReadTo (items : List FormatItem) (line : List ℕ) (left : List FormatItem) (rest : List ℕ) (before : List Part) : Type 0 where
   pub back : (later : List Part) → Fits left rest later → Fits items line (before ++ later)
   pub only : (parts : List Part) → Fits items line parts → (later : List Part) × Fits left rest later × (parts ≡ before ++ later)
+
+-- The texts fit all the leaves, with these fields first, exactly where those that are left fit the leaves that are left. `taken`
+-- says whether a leaf before these has the time taken.
+pub record AreReadTo (leaves : List JsonLeaf) (pieces : List (Option (List ℕ))) (left : List JsonLeaf) (rest : List (Option (List ℕ))) (taken : Bool) (before : List Part) : Type 0 where
+  pub back : (later : List Part) → FitsLeaves left rest later → FitsLeaves leaves pieces (before ++ read_parts taken later)
+  pub only : (parts : List Part) → FitsLeaves leaves pieces parts → (later : List Part) × FitsLeaves left rest later × (parts ≡ before ++ read_parts taken later)
+
+-- for a JSON format these are the line's pieces
+abbrev pub ArePieces : Shape → List ℕ → Pieces → Type 0
+ArePieces (Plain items) line pieces = Unit {0}
+ArePieces (Json leaves) line pieces = PiecesOf leaves line pieces

@@ -49,7 +49,8 @@ use Rattle.ga_words.specs.declared.settings.Settings.{Settings}
 use Rattle.ga_one_run.specs.Course.{HasCounted, HasRules}
 use Rattle.ga_one_run.specs.Ends.{AreFollowed, Ends}
 use Rattle.ga_one_run.specs.Inputs.{IsStored, Walks, WalksInputs, rules_file}
-use Rattle.ga_one_run.specs.Printing.{FailsWriting, OutputCanTake, but_errors, delivered, report_file, target_of}
+use Rattle.ga_targets.specs.Printing.{OutputCanTake}
+use Rattle.ga_one_run.specs.Printing.{FailsWriting, but_errors, delivered, report_file, target_of}
 use Rattle.ga_one_run.specs.Reports.{IsTextOf}
 use Rattle.ga_one_run.specs.Run.{NothingWasRead, SameFaults, faults_after}
 use Rattle.ga_one_run.specs.Setups.{IsLineSetup, IsRefused, panels_of, setup_of}

@@ -4,7 +4,7 @@ use Rattle.ga_base.specs.declared.formats.FormatItem.{FormatItem}
 use Rattle.ga_base.specs.declared.formats.Needed.{Needed}
 use Rattle.ga_format.specs.FieldKinds.{gives}
 use Rattle.ga_format.specs.FormatOf.{IsFormat}
-use Rattle.ga_format.specs.Steps.Checks.{IsFirstMissing}
+use Rattle.ga_format.specs.FieldKinds.{IsFirstMissing}
 use Rattle.ga_format.proofs.Answering.{first_is_missing, whole_is_format, formats_are_sound}
 use Rattle.ga_format.proofs.compiling.compile_bytes.Goals as goal
 

@@ -11,21 +11,24 @@ use Rattle.ga_format.proofs.compiling.read_items.Goals as goal
 
 pub returns-in_err-item-clause-fault : goal.returns-in_err-item-clause-fault
 returns-in_err-item-clause-fault c =
+    let earlier = c.args.earlier.now in
     let text = c.args.text.now in
     let rest = c.loop-rest.rest.now in
     let p = err_from_is_err_and c.from_residual.result c.from_residual.ensures.1 in
-    rw (p.1, p.2) (unit_fault text c.loop-rest.items.items c.loop-rest.field rest (length text - length rest) c.in_err-item.field-0.0 c.loop-rest.invariant.read (omega (arith, c.loop-rest.invariant.within)) c.in_err-item.ensures.fault)
+    rw (p.1, p.2) (unit_fault earlier text c.loop-rest.items.items c.loop-rest.field rest (length text - length rest) c.in_err-item.field-0.0 c.loop-rest.invariant.read (omega (arith, c.loop-rest.invariant.within)) c.in_err-item.ensures.fault)
 
 pub returns-in_err-check-clause-fault : goal.returns-in_err-check-clause-fault
 returns-in_err-check-clause-fault c =
+    let earlier = c.args.earlier.now in
     let text = c.args.text.now in
     let rest = c.loop-rest.rest.now in
     let p = err_from_is_err_and c.from_residual-in_err-check.result c.from_residual-in_err-check.ensures.1 in
-    rw (p.1, p.2) (inr (first_is_refusal text c.loop-rest.items.items c.loop-rest.field rest (length text - length rest) c.in_ok-item.item c.in_ok-item.after.now c.in_err-check.field-0.0 c.loop-rest.invariant.read (omega (arith, c.loop-rest.invariant.within)) c.in_ok-item.ensures.unit
-    (subst (λ (xs : List FormatItem). IsRefused xs c.loop-rest.field c.in_ok-item.item (length text - length rest) c.in_err-check.field-0.0) c.deref.ensures.value c.in_err-check.ensures.fault)))
+    rw (p.1, p.2) (inr (first_is_refusal earlier text c.loop-rest.items.items c.loop-rest.field rest (length text - length rest) c.in_ok-item.item c.in_ok-item.after.now c.in_err-check.field-0.0 c.loop-rest.invariant.read (omega (arith, c.loop-rest.invariant.within)) c.in_ok-item.ensures.unit
+    (subst (λ (xs : List FormatItem). IsRefused (earlier ++ xs) c.loop-rest.field c.in_ok-item.item (length text - length rest) c.in_err-check.field-0.0) c.deref.ensures.value c.in_err-check.ensures.fault)))
 
 pub loop-rest-preserved : goal.loop-rest-preserved
 loop-rest-preserved c =
+    let earlier = c.args.earlier.now in
     let text = c.args.text.now in
     let rest = c.loop-rest.rest.now in
     let after = c.in_ok-item.after.now in
@@ -33,15 +36,15 @@ loop-rest-preserved c =
     let item = c.in_ok-item.item in
     let at : ℕ = length text - length rest in
     let unit = c.in_ok-item.ensures.unit in
-    let fresh : repeats items item ≡ false = ap (λ (xs : List FormatItem). repeats xs item) (sym c.deref.ensures.value) ∙ c.in_ok-check.ensures.ok.1 in
-    let read : HasRead text (items ++ (item ∷ [])) (opened item at) after =
-    read_more text items c.loop-rest.field rest at item after c.loop-rest.invariant.read (omega (arith, c.loop-rest.invariant.within)) unit c.in_ok-check.ensures.ok.0 fresh in
+    let fresh : repeats (earlier ++ items) item ≡ false = ap (λ (xs : List FormatItem). repeats (earlier ++ xs) item) (sym c.deref.ensures.value) ∙ c.in_ok-check.ensures.ok.1 in
+    let read : HasRead earlier text (items ++ (item ∷ [])) (opened item at) after =
+    read_more earlier text items c.loop-rest.field rest at item after c.loop-rest.invariant.read (omega (arith, c.loop-rest.invariant.within)) unit c.in_ok-check.ensures.ok.0 fresh in
     let field : opened item at ≡ c.then_some-field.result = sym (c.then_some-field.ensures ∙ ap (λ (b : Bool). then_some b at) c.is_field.ensures) in
     record {
-      read = subst (λ (f : Option ℕ). HasRead text c.push.new.self.items f after) field (subst (λ (xs : List FormatItem). HasRead text xs (opened item at) after) (sym c.in_ok-push.ensures.items) read);
+      read = subst (λ (f : Option ℕ). HasRead earlier text c.push.new.self.items f after) field (subst (λ (xs : List FormatItem). HasRead earlier text xs (opened item at) after) (sym c.in_ok-push.ensures.items) read);
       within = omega (arith, c.loop-rest.invariant.within, begins_shorter unit.unit rest after unit.begins);
     }
 
 pub returns-clause-whole : goal.returns-clause-whole
-returns-clause-whole c = reads_whole c.args.text.now c.loop-rest.items.items c.loop-rest.field c.loop-rest.rest.now c.loop-rest.invariant.read
+returns-clause-whole c = reads_whole c.args.earlier.now c.args.text.now c.loop-rest.items.items c.loop-rest.field c.loop-rest.rest.now c.loop-rest.invariant.read
     (no_bytes c.loop-rest.rest.now (sym c.is_empty.ensures ∙ c.loop-rest-test.false))

@@ -4,7 +4,7 @@ use Rattle.ga_format.proofs.compiling.read_items.Given as goal
 
 abbrev pub invariant-loop-rest : goal.invariant-loop-rest
 invariant-loop-rest l = record {
-  read : HasRead l.text l.items.items l.field l.rest;
+  read : HasRead l.earlier l.text l.items.items l.field l.rest;
   within : length l.rest ≤ length l.text;
 }
 

@@ -2,7 +2,7 @@ use Rattle.std.proofs.Common.{ℕ, List, [], ◌∙◌, sym, subst}
 use Rattle.ga_words.specs.Joined.{AreConfWords, NamesConf}
 use Rattle.ga_one_run.specs.Configured.{IsRun}
 use Rattle.ga_one_run.specs.Outside.{outside_of as outside}
-use Rattle.ga_one_run.specs.Printing.{TakesOrStops}
+use Rattle.ga_targets.specs.Printing.{TakesOrStops}
 use Rattle.ga_one_run.specs.Run.{RunsWords}
 use Rattle.ga_one_run.specs.Statuses.{fault_line}
 use Rattle.ga_one_run.specs.declared.status.Status.{Status}

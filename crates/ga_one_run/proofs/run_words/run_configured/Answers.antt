@@ -1,5 +1,5 @@
 use Rattle.std.proofs.Common.{List, ℕ, inl, inr, subst}
-use Rattle.ga_one_run.specs.Printing.{TakesOrStops}
+use Rattle.ga_targets.specs.Printing.{TakesOrStops}
 use Rattle.ga_one_run.specs.Statuses.{fault_line}
 use Rattle.ga_one_run.proofs.Configuring.{ends-at}
 use Rattle.ga_one_run.proofs.run_words.run_configured.Goals as goal

@@ -1,7 +1,7 @@
 use Rattle.std.proofs.Common.{◌≡◌, ◌⊎◌, ℕ, List, [], Err, sym, subst, ◌∙◌}
 use Rattle.ga_words.specs.Joined.{JoinedOf}
 use Rattle.ga_words.specs.declared.fault.WordFault.TheVariants.{NoMemory as WordNoMemory}
-use Rattle.ga_one_run.specs.Printing.{TakesOrStops}
+use Rattle.ga_targets.specs.Printing.{TakesOrStops}
 use Rattle.ga_one_run.specs.Run.{RunsWords}
 use Rattle.ga_one_run.specs.Statuses.{fault_line}
 use Rattle.ga_one_run.specs.declared.status.Status.{Status}

@@ -31,14 +31,14 @@ returns-in-Failed-clause-full c =
     let says = subst (λ view. IsLineOf c.args.setup.now.line c.args.line.now (line_in view)) c.in-Failed.is c.in_ok-read_view.ensures.says in
     λ is. (Failed, says, record { outcome = outcomes.Failed; is = refl; full = failed-too-much c.args.self.now (c.add_totals.ensures.full is) })
 
-pub returns-in-Good-clause-counted : goal.returns-in-Good-clause-counted
-returns-in-Good-clause-counted c =
+pub returns-clause-counted : goal.returns-clause-counted
+returns-clause-counted c =
     let says = subst (λ view. IsLineOf c.args.setup.now.line c.args.line.now (line_in view)) c.in-Good.is c.in_ok-read_view.ensures.says in
     let said = subst (λ rec. IsLineOf c.args.setup.now.line c.args.line.now (Good rec)) (sym c.as_ref.ensures) says in
     on_ok_weaker c.count_record.result (λ takes. (Good (record_in c.as_ref.result), said, takes)) c.count_record.ensures.counted
 
-pub returns-in-Good-clause-full : goal.returns-in-Good-clause-full
-returns-in-Good-clause-full c =
+pub returns-clause-full : goal.returns-clause-full
+returns-clause-full c =
     let says = subst (λ view. IsLineOf c.args.setup.now.line c.args.line.now (line_in view)) c.in-Good.is c.in_ok-read_view.ensures.says in
     let said = subst (λ rec. IsLineOf c.args.setup.now.line c.args.line.now (Good rec)) (sym c.as_ref.ensures) says in
     λ is. (Good (record_in c.as_ref.result), said, c.count_record.ensures.full is)

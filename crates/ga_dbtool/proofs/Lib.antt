@@ -1,0 +1,9 @@
+pub mod Found
+pub mod Kept
+pub mod MergedSums
+pub mod Prepared
+pub mod Runs
+pub mod Sharing
+pub mod Showing
+pub mod Tasks
+pub mod WordForms

@@ -1,0 +1,4 @@
+-- What only inner contracts and proofs say.
+pub mod Tasks
+pub mod Sharing
+pub mod Parts

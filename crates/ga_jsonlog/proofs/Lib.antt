@@ -1,0 +1,3 @@
+mod Leaves
+pub mod PieceLemmas
+mod PlaceLemmas

@@ -1,0 +1,2 @@
+-- What a target took.
+pub mod Printing
